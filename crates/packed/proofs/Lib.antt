@@ -1,0 +1,3 @@
+-- The laws of the packed form.
+pub mod Numbers
+pub mod Delays

@@ -1,0 +1,3 @@
+-- Laws that several crates cite, and that belong to no one definition.
+pub mod Choice
+pub mod Ints

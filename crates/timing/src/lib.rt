@@ -1,0 +1,55 @@
+// The limits of document 01, and the types that every call's answer is made of.
+// The definitions that the contracts cite are in specs/.
+ghost use mathlib.Core.Path.{_≡_};
+ghost use Rattle.timing.specs.Refusals.{refusal};
+
+pub const MAX_NODES: u32 = 4096;
+
+pub const MAX_EDGES: usize = 16384;
+
+pub const MAX_PATHS: usize = 1024;
+
+pub const MAX_LISTED_EDGES: usize = 8192;
+
+pub const MAX_DELAY: i32 = 1000000;
+
+pub const MAX_ALLOWED_TIME: u32 = 1000000000;
+
+pub const MAX_COPIES: usize = 16384;
+
+pub const MAX_COPY_EDGES: usize = 65536;
+
+pub const MAX_DECK_BYTES: usize = 65536;
+
+// A refusal: document 01's number, and the place of the fault.
+pub struct Refusal {
+    pub number: u32,
+    pub place: usize,
+}
+
+// Every refusal is made here, so that a further place of a fault is added in one function.
+pub fn refuse(number: u32, place: usize) -> Refusal
+    ensures { λ r. ⌜ r ≡ refusal number place ⌝ }
+{
+    Refusal { number, place }
+}
+
+// The number that some bytes begin with: its value and how many bytes it takes; the bytes end
+// inside it; or it is not shortest or too large.
+pub enum Groups {
+    Number { value: u32, size: usize },
+    Ended,
+    Unfit,
+}
+
+// What reading a number at a place answers: its value and the place behind it.
+pub enum NumberRead {
+    Value { value: u32, next: usize },
+    Refused(Refusal),
+}
+
+// What a writer answers: the place behind the last byte that it wrote.
+pub enum Written {
+    End(usize),
+    Refused(Refusal),
+}
