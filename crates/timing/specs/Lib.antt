@@ -1,4 +1,21 @@
--- What document 01 says, as definitions. Every contract is an equation with one of these.
-pub mod Refusals
+-- What document 01 says, as definitions, in its order. Every contract is an equation with one of these.
+pub mod Lists
+-- the design and its paths, copies, series, times
+pub mod Graphs
+pub mod Marks
+pub mod Sorting
+pub mod TrueGraphs
+pub mod WellFormed
+pub mod Times
+-- packed form
 pub mod Numbers
 pub mod Delays
+pub mod Parsing
+pub mod Decks
+pub mod GraphBytes
+-- who can cause a refusal
+pub mod Refusals
+pub mod Tests
+-- what each call answers, and what each lent buffer holds afterwards
+pub mod Calls
+pub mod Series

@@ -34,6 +34,12 @@ pub fn refuse(number: u32, place: usize) -> Refusal
     Refusal { number, place }
 }
 
+// What a test answers.
+pub enum Verdict {
+    Passed,
+    Refused(Refusal),
+}
+
 // The number that some bytes begin with: its value and how many bytes it takes; the bytes end
 // inside it; or it is not shortest or too large.
 pub enum Groups {
@@ -51,5 +57,44 @@ pub enum NumberRead {
 // What a writer answers: the place behind the last byte that it wrote.
 pub enum Written {
     End(usize),
+    Refused(Refusal),
+}
+
+// What the deck reader answers: n, how many places of each table it filled, and T.
+pub enum DeckRead {
+    Deck {
+        nodes: u32,
+        edges: usize,
+        listed: usize,
+        paths: usize,
+        allowed: u32,
+    },
+    Refused(Refusal),
+}
+
+// What a removal and the reader of a packed true graph answer.
+pub enum GraphMade {
+    Counts { copies: usize, edges: usize },
+    Refused(Refusal),
+}
+
+// "Either its three times or the answer none."
+pub enum NodeTimes {
+    Times {
+        arrival: i64,
+        required: i64,
+        slack: i64,
+    },
+    None,
+}
+
+pub struct NodeRecord {
+    pub node: u32,
+    pub times: NodeTimes,
+}
+
+// What the call for a node's record answers.
+pub enum NodeAnswer {
+    Record(NodeRecord),
     Refused(Refusal),
 }

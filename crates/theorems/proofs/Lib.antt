@@ -1,0 +1,5 @@
+-- The theorems, from the bottom up.
+pub mod Lists
+pub mod Marks
+pub mod Sorting
+pub mod Runs

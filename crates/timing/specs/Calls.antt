@@ -1,0 +1,248 @@
+-- For each call its answer and what each lent buffer holds afterwards, for every input. "Slice calls test 30, then 10 to
+-- 14, 20 to 25, 32, 31, 33, 34, 35, one number over everything before the next, leaving out tests of what a call does
+-- not take." "A refusal changes no result buffer." "Result places past the result are unchanged."
+use Prim.Native.Nat.{ℕ, _+_, _*_}
+use mathlib.Core.Bool.{Bool, cond, _||_}
+use mathlib.Core.List.{List, [], _∷_, map}
+use lib.Dec.{eqb, leb}
+use lib.IntN.{ℤ, pos, negℤ}
+use lib.ListN.{length}
+use Rattle.timing.specs.declared.Refusal.{Refusal}
+use Rattle.timing.specs.declared.Verdict.{Verdict}
+use Rattle.timing.specs.declared.Verdict.the-variants.{Passed, Refused}
+use Rattle.timing.specs.declared.Written.{Written}
+use Rattle.timing.specs.declared.Written.the-variants.{End}
+use Rattle.timing.specs.declared.Written.the-variants.{Refused as NotWritten}
+use Rattle.timing.specs.declared.DeckRead.{DeckRead}
+use Rattle.timing.specs.declared.DeckRead.the-variants.{Deck as DeckFound}
+use Rattle.timing.specs.declared.DeckRead.the-variants.{Refused as NoDeck}
+use Rattle.timing.specs.declared.GraphMade.{GraphMade}
+use Rattle.timing.specs.declared.GraphMade.the-variants.{Counts}
+use Rattle.timing.specs.declared.GraphMade.the-variants.{Refused as NoGraph}
+use Rattle.timing.specs.declared.NodeAnswer.{NodeAnswer}
+use Rattle.timing.specs.declared.NodeAnswer.the-variants.{Record}
+use Rattle.timing.specs.declared.NodeAnswer.the-variants.{Refused as NoRecord}
+use Rattle.timing.specs.Lists.{placed, upto}
+use Rattle.timing.specs.Graphs.{Design, edgeDelay, Graph, graph, edgesOf, designGraph}
+use Rattle.timing.specs.Marks.{PathList, pathsOf}
+use Rattle.timing.specs.TrueGraphs.{trueGraph}
+use Rattle.timing.specs.Times.{arrivalAt, requiredAt, slackAt, nodeRecord}
+use Rattle.timing.specs.Numbers.{writeAnswer, writtenRoom}
+use Rattle.timing.specs.Parsing.{Parsed, found, stopped}
+use Rattle.timing.specs.Decks.{Deck, Tables, packedDeck, readDeck}
+use Rattle.timing.specs.GraphBytes.{packedGraph, readGraph}
+use Rattle.timing.specs.Refusals.{refusal, _then_}
+use Rattle.timing.specs.Tests.{sameSizes, designSizes, listSizes, nodeCount, designCounts, designTests, listCounts, listTests, allowedTest, graphTest, graphCounts, scratchTest, Room, roomSizes, roomTests}
+
+-- a true graph as it is lent: the node of each copy, and three slices of edges
+pub record GraphSlices : Type 0 where
+  pub nodes : List ℕ
+  pub starts : List ℕ
+  pub ends : List ℕ
+  pub names : List ℕ
+
+abbrev pub graphSlices : List ℕ → List ℕ → List ℕ → List ℕ → GraphSlices
+graphSlices nodes starts ends names = record { nodes = nodes; starts = starts; ends = ends; names = names }
+
+abbrev pub graphOf : GraphSlices → Graph
+graphOf S = graph (S .nodes) (edgesOf (S .starts) (S .ends) (S .names))
+
+abbrev pub slicesOf : Graph → GraphSlices
+slicesOf G = graphSlices (G .nodes) (map (λ e. e .start) (G .edges)) (map (λ e. e .end) (G .edges)) (map (λ e. e .name) (G .edges))
+
+abbrev pub graphSizes : GraphSlices → Verdict
+graphSizes S = sameSizes (length (S .starts)) (length (S .ends)) (length (S .names))
+
+abbrev pub roomOf : GraphSlices → Room
+roomOf S = record { nodes = length (S .nodes); starts = length (S .starts); ends = length (S .ends); names = length (S .names) }
+
+-- The tests of a design; of a design and a list; of a deck's design, list and T.
+unfoldable pub testDesign : Design → Verdict
+testDesign D = designSizes D then designTests D
+
+unfoldable pub testList : Design → PathList → Verdict
+testList D L = designSizes D then listSizes L then designTests D then listTests D L
+
+unfoldable pub testDeck : Design → PathList → ℕ → Verdict
+testDeck D L T = designSizes D then listSizes L then designTests D then listTests D L then allowedTest T
+
+-- What a call makes, and where it refuses.
+pub data Outcome (A : Type 0) : Type 0 where
+  made : A → Outcome A
+  refused : Refusal → Outcome A
+
+abbrev pub outcome : {A : Type 0} → Verdict → A → Outcome A
+outcome Passed x = made x
+outcome (Refused r) x = refused r
+
+-- what a lent buffer holds afterwards, where part f of what is made goes there
+abbrev pub filled : {A B : Type 0} → (A → List B) → Outcome A → List B → List B
+filled f (made x) room = placed (f x) room
+filled f (refused r) room = room
+
+-- Removal: "each with its own list of paths, room and scratch".
+pub record Removal : Type 0 where
+  pub list : PathList
+  pub room : Room
+  pub scratch : ℕ
+
+abbrev pub removal : PathList → Room → ℕ → Removal
+removal L R words = record { list = L; room = R; scratch = words }
+
+-- the result of a removal from a graph, tested for scratch and room
+abbrev pub removalTests : Design → Graph → Removal → Verdict
+removalTests D G r = scratchTest D G (r .list) (r .scratch) then roomTests (r .room) (trueGraph G (pathsOf (r .list)))
+
+unfoldable pub removeFromDesign : Design → Removal → Outcome Graph
+removeFromDesign D r =
+    let G = designGraph D in
+    outcome
+    (designSizes D then listSizes (r .list) then roomSizes (r .room)
+    then designTests D then listTests D (r .list) then removalTests D G r)
+    (trueGraph G (pathsOf (r .list)))
+
+unfoldable pub removeFromGraph : Design → GraphSlices → Removal → Outcome Graph
+removeFromGraph D S r =
+    let G = graphOf S in
+    outcome
+    (designSizes D then listSizes (r .list) then graphSizes S then roomSizes (r .room)
+    then designTests D then listTests D (r .list) then graphTest D G then removalTests D G r)
+    (trueGraph G (pathsOf (r .list)))
+
+abbrev pub graphAnswer : Outcome Graph → GraphMade
+graphAnswer (made G) = Counts (length (G .nodes)) (length (G .edges))
+graphAnswer (refused r) = NoGraph r
+
+-- the room afterwards
+abbrev pub nodesAfter : Outcome Graph → List ℕ → List ℕ
+nodesAfter o room = filled (λ G. slicesOf G .nodes) o room
+
+abbrev pub startsAfter : Outcome Graph → List ℕ → List ℕ
+startsAfter o room = filled (λ G. slicesOf G .starts) o room
+
+abbrev pub endsAfter : Outcome Graph → List ℕ → List ℕ
+endsAfter o room = filled (λ G. slicesOf G .ends) o room
+
+abbrev pub namesAfter : Outcome Graph → List ℕ → List ℕ
+namesAfter o room = filled (λ G. slicesOf G .names) o room
+
+-- "Scratch is all zero after success and after 33, 34 or 35, and unchanged after the others."
+abbrev pub scratchAfter : {A : Type 0} → Outcome A → List ℕ → List ℕ
+scratchAfter (made x) s = map (λ w. 0) s
+scratchAfter (refused r) s = cond (eqb (r .number) 33 || eqb (r .number) 34 || eqb (r .number) 35) (map (λ w. 0) s) s
+
+-- Times of a design, a true graph and T, into three lent slices with "one place for each copy".
+unfoldable pub testTimes : Design → GraphSlices → ℕ → ℕ → ℕ → ℕ → Verdict
+testTimes D S T arrivals requireds slacks =
+    let n = length (S .nodes) in
+    designSizes D then graphSizes S then sameSizes n arrivals requireds then sameSizes n n slacks
+    then designTests D then allowedTest T then graphTest D (graphOf S)
+
+-- the slices afterwards: the time of each copy
+abbrev pub timesAfter : Verdict → (ℕ → ℤ) → ℕ → List ℤ → List ℤ
+timesAfter Passed time copies ts = map time (upto copies 0)
+timesAfter (Refused r) time copies ts = ts
+
+unfoldable pub arrivalsAfter : Design → GraphSlices → ℕ → Verdict → List ℤ → List ℤ
+arrivalsAfter D S T v ts = timesAfter v (arrivalAt (edgeDelay D) (pos T) (graphOf S)) (length (S .nodes)) ts
+
+unfoldable pub requiredsAfter : Design → GraphSlices → ℕ → Verdict → List ℤ → List ℤ
+requiredsAfter D S T v ts = timesAfter v (requiredAt (edgeDelay D) (pos T) (graphOf S)) (length (S .nodes)) ts
+
+unfoldable pub slacksAfter : Design → GraphSlices → ℕ → Verdict → List ℤ → List ℤ
+slacksAfter D S T v ts = timesAfter v (slackAt (edgeDelay D) (pos T) (graphOf S)) (length (S .nodes)) ts
+
+-- The record of a node, from n and what is known of each copy.
+abbrev pub recordAnswer : ℕ → List ℕ → List ℤ → List ℤ → List ℤ → ℕ → Verdict → NodeAnswer
+recordAnswer n nodes ats rts sts v Passed = Record (nodeRecord n nodes ats rts sts v)
+recordAnswer n nodes ats rts sts v (Refused r) = NoRecord r
+
+unfoldable pub recordOf : ℕ → List ℕ → List ℤ → List ℤ → List ℤ → ℕ → NodeAnswer
+recordOf n nodes ats rts sts v =
+    recordAnswer n nodes ats rts sts v
+    (sameSizes (length nodes) (length ats) (length rts) then sameSizes (length nodes) (length nodes) (length sts) then nodeCount n)
+
+-- Reading: what was parsed, and then what is done with it.
+abbrev pub parsed : {A : Type 0} → Parsed A → Outcome A
+parsed (found x at) = made x
+parsed (stopped r) = refused r
+
+-- a test before reading
+abbrev pub guarded : {A : Type 0} → Verdict → Outcome A → Outcome A
+guarded Passed o = o
+guarded (Refused r) o = refused r
+
+-- The deck reader, from the bytes and the lengths of the lent tables: starts, ends, delays; listed edges; lengths.
+unfoldable pub deckRead : List ℕ → ℕ → ℕ → ℕ → ℕ → ℕ → Outcome Deck
+deckRead s starts ends delays listed lengths =
+    guarded (sameSizes starts ends delays) (parsed (readDeck s (record { edges = starts; listed = listed; paths = lengths })))
+
+abbrev pub deckAnswer : Outcome Deck → DeckRead
+deckAnswer (made d) =
+    DeckFound (d .design .nodes) (length (d .design .starts)) (length (d .list .edges)) (length (d .list .lengths)) (d .allowed)
+deckAnswer (refused r) = NoDeck r
+
+-- Writing: the tests, and then 35.
+abbrev pub writing : Verdict → List ℕ → List ℕ → Written
+writing Passed room bs = writeAnswer room 0 bs
+writing (Refused r) room bs = NotWritten r
+
+abbrev pub roomAfterWriting : Verdict → List ℕ → List ℕ → List ℕ
+roomAfterWriting Passed room bs = writtenRoom room 0 bs
+roomAfterWriting (Refused r) room bs = room
+
+-- "Writers test only 30, the counts (10, 11, 20, 21; 32 for a graph) and 35."
+unfoldable pub deckWriteTests : Deck → Verdict
+deckWriteTests d = designSizes (d .design) then listSizes (d .list) then designCounts (d .design) then listCounts (d .list)
+
+unfoldable pub graphWriteTests : GraphSlices → Verdict
+graphWriteTests S = graphSizes S then graphCounts (graphOf S)
+
+-- The reader of a packed true graph, from the bytes and the room.
+unfoldable pub graphRead : List ℕ → Room → Outcome Graph
+graphRead s R = guarded (roomSizes R) (parsed (readGraph s (R .nodes) (R .starts)))
+
+-- The deck program and the C call: 4 "before all"; then the deck, in tables of 1,024 edges, 1,024 listed edges and 256
+-- paths; then its tests, "25 included"; then removal, in "room for 512 copies and 2,048 edges with 16,384 words of scratch".
+abbrev pub programTables : Tables
+programTables = record { edges = 1024; listed = 1024; paths = 256 }
+
+abbrev pub programRoom : Room
+programRoom = record { nodes = 512; starts = 2048; ends = 2048; names = 2048 }
+
+unfoldable pub programRemoval : Deck → Outcome Graph
+programRemoval d =
+    let G = designGraph (d .design) in
+    outcome
+    (testDeck (d .design) (d .list) (d .allowed) then removalTests (d .design) G (removal (d .list) programRoom 16384))
+    (trueGraph G (pathsOf (d .list)))
+
+abbrev pub programFrom : Outcome Deck → Outcome Graph
+programFrom (made d) = programRemoval d
+programFrom (refused r) = refused r
+
+abbrev pub fewBytes : List ℕ → Outcome Graph → Outcome Graph
+fewBytes s o = cond (leb (length s) 65536) o (refused (refusal 4 65536))
+
+unfoldable pub program : List ℕ → Outcome Graph
+program s = fewBytes s (programFrom (parsed (readDeck s programTables)))
+
+-- the packed true graph goes into the room of the C call
+abbrev pub cWritten : Outcome Graph → List ℕ → Written
+cWritten (made G) room = writeAnswer room 0 (packedGraph G)
+cWritten (refused r) room = NotWritten r
+
+-- "one signed 64-bit number: the length, or on a refusal minus the sum of the number and 256 times the place"
+abbrev pub cNumber : Written → ℤ
+cNumber (End n) = pos n
+cNumber (NotWritten r) = negℤ (pos (r .number + 256 * r .place))
+
+unfoldable pub cCall : List ℕ → List ℕ → ℤ
+cCall s room = cNumber (cWritten (program s) room)
+
+abbrev pub roomAfterC : Outcome Graph → List ℕ → List ℕ
+roomAfterC (made G) room = writtenRoom room 0 (packedGraph G)
+roomAfterC (refused r) room = room
+
+unfoldable pub cRoom : List ℕ → List ℕ → List ℕ
+cRoom s room = roomAfterC (program s) room

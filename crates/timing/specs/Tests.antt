@@ -1,0 +1,100 @@
+-- Who can cause a refusal: each test with its number, its exact condition and its place.
+use Prim.Native.Nat.{ℕ, _+_, _*_, min}
+use mathlib.Core.Bool.{Bool, not, _&&_}
+use mathlib.Core.List.{List, [], _∷_, _++_, map, flatMap}
+use lib.Dec.{eqb, ltb, leb}
+use lib.IntN.{natAbs}
+use lib.ListN.{length, drop}
+use Rattle.timing.specs.declared.Verdict.{Verdict}
+use Rattle.timing.specs.Lists.{isNil, anyOf, countOf, eachNext, upto, sum}
+use Rattle.timing.specs.Graphs.{Design, edgeStart, edgeEnd, edgeDelay, Graph}
+use Rattle.timing.specs.Marks.{PathList, pathsOf}
+use Rattle.timing.specs.WellFormed.{fewEnough, wellFormed}
+use Rattle.timing.specs.Refusals.{unless, firstBad, _then_}
+
+-- 30: "lent slices that belong together differ in length"
+abbrev pub sameSizes : ℕ → ℕ → ℕ → Verdict
+sameSizes a b c = unless 30 (eqb a b && eqb a c)
+
+abbrev pub designSizes : Design → Verdict
+designSizes D = sameSizes (length (D .starts)) (length (D .ends)) (length (D .delays))
+
+-- 30: "or the lengths of the paths do not add up to the flat list"
+abbrev pub listSizes : PathList → Verdict
+listSizes L = unless 30 (eqb (sum (L .lengths)) (length (L .edges)))
+
+-- 10, 11: "more than 4,096 nodes; more than 16,384 edges"
+abbrev pub nodeCount : ℕ → Verdict
+nodeCount n = unless 10 (leb n 4096)
+
+abbrev pub designCounts : Design → Verdict
+designCounts D = nodeCount (D .nodes) then unless 11 (leb (length (D .starts)) 16384)
+
+-- 12: "an edge names a node not below n"
+abbrev pub strays : Design → ℕ → Bool
+strays D k = not (ltb (edgeStart D k) (D .nodes) && ltb (edgeEnd D k) (D .nodes))
+
+-- 13: "it does not rise"
+abbrev pub falls : Design → ℕ → Bool
+falls D k = not (ltb (edgeStart D k) (edgeEnd D k))
+
+-- 14: "delay out of range", -1,000,000 to 1,000,000
+abbrev pub tooSlow : Design → ℕ → Bool
+tooSlow D k = not (leb (natAbs (edgeDelay D k)) 1000000)
+
+-- 10 to 14, "one number over everything before the next"
+unfoldable pub designTests : Design → Verdict
+designTests D =
+    let edges = upto (length (D .starts)) 0 in
+    designCounts D then firstBad 12 (strays D) 0 edges then firstBad 13 (falls D) 0 edges then firstBad 14 (tooSlow D) 0 edges
+
+-- 20, 21: "more than 1,024 paths; more than 8,192 listed edges"
+abbrev pub listCounts : PathList → Verdict
+listCounts L = unless 20 (leb (length (L .lengths)) 1024) then unless 21 (leb (length (L .edges)) 8192)
+
+-- "each edge starting where the one before ends"
+abbrev pub meets : Design → ℕ → ℕ → Bool
+meets D j k = eqb (edgeEnd D j) (edgeStart D k)
+
+-- 20 to 24; 22: "an empty path", 23: "an edge number not below m", 24: "edges that do not join"
+unfoldable pub listTests : Design → PathList → Verdict
+listTests D L =
+    listCounts L
+    then firstBad 22 isNil 0 (pathsOf L)
+    then firstBad 23 (anyOf (λ k. not (ltb k (length (D .starts))))) 0 (pathsOf L)
+    then firstBad 24 (λ p. not (eachNext (meets D) p)) 0 (pathsOf L)
+
+-- 25: "T out of range"
+abbrev pub allowedTest : ℕ → Verdict
+allowedTest T = unless 25 (leb T 1000000000)
+
+-- 32: "the earlier graph is not well formed"; writers and readers look at its counts alone
+abbrev pub graphTest : Design → Graph → Verdict
+graphTest D G = unless 32 (wellFormed D G)
+
+abbrev pub graphCounts : Graph → Verdict
+graphCounts G = unless 32 (fewEnough G)
+
+-- "a candidate is one per copy (or node), and one more per listed edge, not first in its path, that starts at its node"
+unfoldable pub candidates : Design → Graph → PathList → ℕ
+candidates D G L =
+    let inner = flatMap (λ p. drop 1 p) (pathsOf L) in
+    sum (map (λ v. 1 + countOf (λ k. eqb (edgeStart D k) v) inner) (G .nodes))
+
+-- 31: "scratch shorter than 16 words of 32 bits for each candidate, listed edge and edge of the graph worked on"
+unfoldable pub scratchTest : Design → Graph → PathList → ℕ → Verdict
+scratchTest D G L words = unless 31 (leb (16 * (candidates D G L + length (L .edges) + length (G .edges))) words)
+
+-- the lent lengths of a room: for the node of each copy, and for the edges' start copies, end copies and design edges
+pub record Room : Type 0 where
+  pub nodes : ℕ
+  pub starts : ℕ
+  pub ends : ℕ
+  pub names : ℕ
+
+abbrev pub roomSizes : Room → Verdict
+roomSizes R = sameSizes (R .starts) (R .ends) (R .names)
+
+-- 33: "result copies exceed the room"; 34: "they fit and the edges exceed theirs"; "room is the lent length, at most 16,384 and 65,536"
+unfoldable pub roomTests : Room → Graph → Verdict
+roomTests R G = unless 33 (leb (length (G .nodes)) (min (R .nodes) 16384)) then unless 34 (leb (length (G .edges)) (min (R .starts) 65536))

@@ -1,0 +1,56 @@
+-- Times at copies and at nodes.
+use Prim.Native.Nat.{ℕ}
+use mathlib.Core.Bool.{Bool, cond, _&&_, _||_, not}
+use mathlib.Core.List.{List, [], _∷_, map}
+use lib.Dec.{eqb, ltb}
+use lib.IntN.{ℤ, pos, _-ℤ_}
+use lib.ListN.{length, getD}
+use lib.Signed.{ltZ}
+use Rattle.timing.specs.declared.NodeTimes.{NodeTimes}
+use Rattle.timing.specs.declared.NodeTimes.the-variants.{Times, None}
+use Rattle.timing.specs.declared.NodeRecord.{NodeRecord}
+use Rattle.timing.specs.Lists.{isNil, keep, upto}
+use Rattle.timing.specs.Graphs.{Edge, Graph, runsTo, runsFrom, delayAlong}
+
+abbrev pub larger : ℤ → ℤ → ℤ
+larger x y = cond (ltZ x y) y x
+
+abbrev pub smaller : ℤ → ℤ → ℤ
+smaller x y = cond (ltZ y x) y x
+
+-- The largest and the smallest of some times. They start from the first one; every list that document 01 asks of has one.
+abbrev pub largest : List ℤ → ℤ
+largest [] = pos 0
+largest (x ∷ []) = x
+largest (x ∷ y ∷ xs) = larger x (largest (y ∷ xs))
+
+abbrev pub smallest : List ℤ → ℤ
+smallest [] = pos 0
+smallest (x ∷ []) = x
+smallest (x ∷ y ∷ xs) = smaller x (smallest (y ∷ xs))
+
+-- times at a copy, for any delay d of a design edge
+module _ (d : ℕ → ℤ) (T : ℤ) (G : Graph) where
+  -- "arrival is the largest delay of a path from a source copy (0 at a source copy)"
+  unfoldable pub arrivalAt : ℕ → ℤ
+  arrivalAt c = largest (map (delayAlong d) (runsTo G (length (G .nodes)) c))
+
+  -- "required is the smallest of T less the delay of a path to a sink copy (T at a sink copy)"
+  unfoldable pub requiredAt : ℕ → ℤ
+  requiredAt c = smallest (map (λ r. T -ℤ delayAlong d r) (runsFrom G (length (G .nodes)) c))
+
+  -- "slack is required less arrival"
+  unfoldable pub slackAt : ℕ → ℤ
+  slackAt c = requiredAt c -ℤ arrivalAt c
+
+-- "At a node: the largest arrival, the smallest required and the smallest slack of its copies", from the node and the
+-- three times of each copy; none "when it has no copy or is not below n"
+unfoldable pub nodeTimes : ℕ → List ℕ → List ℤ → List ℤ → List ℤ → ℕ → NodeTimes
+nodeTimes n nodes arrivals requireds slacks v =
+    let cs : List ℕ = keep (λ c. eqb (getD nodes c 0) v) (upto (length nodes) 0) in
+    let at : List ℤ → List ℤ = λ ts. map (λ c. getD ts c (pos 0)) cs in
+    cond (ltb v n && not (isNil cs)) (Times (largest (at arrivals)) (smallest (at requireds)) (smallest (at slacks))) None
+
+abbrev pub nodeRecord : ℕ → List ℕ → List ℤ → List ℤ → List ℤ → ℕ → NodeRecord
+nodeRecord n nodes arrivals requireds slacks v =
+    record { node = v; times = nodeTimes n nodes arrivals requireds slacks v }
