@@ -246,3 +246,29 @@ permitted-cons L e w = ap not (occurs-cons L e w) ∙ not-or (begins L (e ∷ w)
 pub permitted-rest : (L : List (List ℕ)) (u w : List ℕ) → T (permitted L (u ++ w)) → T (permitted L w)
 permitted-rest L [] w t = t
 permitted-rest L (e ∷ u) w t = permitted-rest L u w (and-right (not (begins L (e ∷ (u ++ w)))) (permitted L (u ++ w)) (rw permitted-cons at t))
+
+-- K5: two permitted paths with the same mark can follow the same edges, and then have the same mark again
+pub splice : (L : List (List ℕ)) (w v : List ℕ) → mark L w ≡ mark L v → T (permitted L v) → (p : List ℕ) → T (permitted L (p ++ w))
+    → T (permitted L (p ++ v)) × (mark L (p ++ w) ≡ mark L (p ++ v))
+splice L w v e t [] h = (t, e)
+splice L w v e t (x ∷ p) h =
+    let s : T (not (begins L (x ∷ (p ++ w))) && permitted L (p ++ w)) = rw permitted-cons at h in
+    let r = splice L w v e t p (and-right (not (begins L (x ∷ (p ++ w)))) (permitted L (p ++ w)) s) in
+    let b : begins L (x ∷ (p ++ w)) ≡ begins L (x ∷ (p ++ v)) =
+        begins-same L x (p ++ w) ∙ ap (λ (m : List ℕ). begins L (x ∷ m)) (r .1) ∙ sym (begins-same L x (p ++ v)) in
+    (rw permitted-cons (and-intro (not (begins L (x ∷ (p ++ v)))) (permitted L (p ++ v)) (rw b at (and-left (not (begins L (x ∷ (p ++ w)))) (permitted L (p ++ w)) s)) (r .0)),
+    mark-reads L x (p ++ w) ∙ ap (λ (m : List ℕ). mark L (x ∷ m)) (r .1) ∙ sym (mark-reads L x (p ++ v)))
+
+-- one edge in front: permitted where no listed path begins there
+pub permitted-front : (L : List (List ℕ)) (e : ℕ) (w : List ℕ) → begins L (e ∷ mark L w) ≡ false → T (permitted L w) → T (permitted L (e ∷ w))
+permitted-front L e w b t =
+    rw permitted-cons (and-intro (not (begins L (e ∷ w))) (permitted L w) (rw (begins-same L e w, b) tt) t)
+
+pub front-permitted : (L : List (List ℕ)) (e : ℕ) (w : List ℕ) → T (permitted L (e ∷ w)) → (begins L (e ∷ mark L w) ≡ false) × T (permitted L w)
+front-permitted L e w h =
+    let s : T (not (begins L (e ∷ w)) && permitted L w) = rw permitted-cons at h in
+    (sym (begins-same L e w) ∙ none (begins L (e ∷ w)) (and-left (not (begins L (e ∷ w))) (permitted L w) s), and-right (not (begins L (e ∷ w))) (permitted L w) s)
+  where
+    none : (b : Bool) → T (not b) → b ≡ false
+    none true t = absurd t
+    none false t = refl
