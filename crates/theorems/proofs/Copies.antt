@@ -86,9 +86,12 @@ on-joins G L c (e ∷ q) s j m =
     ⊎-elim (λ x. here (s .way .1) x) (λ h. on-joins G L (e .end) q (pass-on s) j h) (List·Memᴰ·cases-cons m)
   where
     here : e .start ≡ c → j ≡ record { start = copyAt L c (e ∷ q); end = copyAt L (e .end) q; name = e .name } → Joined G L j
-    here a x =
-        (e, q, subst (λ (y : ℕ). Passes G L y (e ∷ q)) (sym a) s,
-        x ∙ ap (λ (y : ℕ). record { start = copyAt L y (e ∷ q); end = copyAt L (e .end) q; name = e .name }) (sym a))
+    here a x = (
+      e,
+      q,
+      subst (λ (y : ℕ). Passes G L y (e ∷ q)) (sym a) s,
+      x ∙ ap (λ (y : ℕ). record { start = copyAt L y (e ∷ q); end = copyAt L (e .end) q; name = e .name }) (sym a),
+    )
 
 -- and what it shows at the end of a head
 pub copies-on : (G : Graph) (L : List (List ℕ)) (a c : ℕ) (p q : List Edge) → Leads G a p c → List·Memᴰ (copyAt L c q) (copiesOn L a (p ++ q))
@@ -186,23 +189,25 @@ link-joined G L j k =
     let t = k .to .1 in
     let q = k .to .0 in
     let m : mark L (j .name ∷ names q) ≡ j .start .mark =
-        mark-reads L (j .name) (names q) ∙ ap (λ (x : List ℕ). mark L (j .name ∷ x)) (sym (k .to .2)) ∙ sym (k .marks) in
+    mark-reads L (j .name) (names q) ∙ ap (λ (x : List ℕ). mark L (j .name ∷ x)) (sym (k .to .2)) ∙ sym (k .marks) in
     let b : begins L (j .name ∷ mark L (names q)) ≡ false = ap (λ (x : List ℕ). begins L (j .name ∷ x)) (sym (k .to .2)) ∙ k .live in
     let v : T (permitted L (j .name ∷ names q)) = permitted-front L (j .name) (names q) b (rest-permitted t) in
     let w = splice L (names (k .from .0)) (j .name ∷ names q) (sym (k .from .2) ∙ sym m) v (names (s .head))
-            (subst (λ (x : List ℕ). T (permitted L x)) (names-append (s .head) (k .from .0)) (s .permits)) in
-    (e, q,
-    record {
-      first = s .first;
-      head = s .head;
-      inside = s .inside;
-      starts = s .starts;
-      leads = s .leads;
-      way = (k .along, refl, t .way);
-      permits = subst (λ (x : List ℕ). T (permitted L x)) (sym (names-append (s .head) (e ∷ q))) (w .0);
-    },
-    λ i. record {
-      start = record { at = j .start .at; mark = sym m i };
-      end = record { at = j .end .at; mark = k .to .2 i };
-      name = j .name;
-    })
+    (subst (λ (x : List ℕ). T (permitted L x)) (names-append (s .head) (k .from .0)) (s .permits)) in (
+      e,
+      q,
+      record {
+        first = s .first;
+        head = s .head;
+        inside = s .inside;
+        starts = s .starts;
+        leads = s .leads;
+        way = (k .along, refl, t .way);
+        permits = subst (λ (x : List ℕ). T (permitted L x)) (sym (names-append (s .head) (e ∷ q))) (w .0);
+      },
+      λ i. record {
+        start = record { at = j .start .at; mark = sym m i };
+        end = record { at = j .end .at; mark = k .to .2 i };
+        name = j .name;
+      },
+    )

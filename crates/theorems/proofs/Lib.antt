@@ -5,3 +5,4 @@ pub mod Sorting
 pub mod Runs
 pub mod Copies
 pub mod Stands
+pub mod Parts

@@ -255,9 +255,10 @@ splice L w v e t (x ∷ p) h =
     let s : T (not (begins L (x ∷ (p ++ w))) && permitted L (p ++ w)) = rw permitted-cons at h in
     let r = splice L w v e t p (and-right (not (begins L (x ∷ (p ++ w)))) (permitted L (p ++ w)) s) in
     let b : begins L (x ∷ (p ++ w)) ≡ begins L (x ∷ (p ++ v)) =
-        begins-same L x (p ++ w) ∙ ap (λ (m : List ℕ). begins L (x ∷ m)) (r .1) ∙ sym (begins-same L x (p ++ v)) in
-    (rw permitted-cons (and-intro (not (begins L (x ∷ (p ++ v)))) (permitted L (p ++ v)) (rw b at (and-left (not (begins L (x ∷ (p ++ w)))) (permitted L (p ++ w)) s)) (r .0)),
-    mark-reads L x (p ++ w) ∙ ap (λ (m : List ℕ). mark L (x ∷ m)) (r .1) ∙ sym (mark-reads L x (p ++ v)))
+    begins-same L x (p ++ w) ∙ ap (λ (m : List ℕ). begins L (x ∷ m)) (r .1) ∙ sym (begins-same L x (p ++ v)) in (
+      rw permitted-cons (and-intro (not (begins L (x ∷ (p ++ v)))) (permitted L (p ++ v)) (rw b at (and-left (not (begins L (x ∷ (p ++ w)))) (permitted L (p ++ w)) s)) (r .0)),
+      mark-reads L x (p ++ w) ∙ ap (λ (m : List ℕ). mark L (x ∷ m)) (r .1) ∙ sym (mark-reads L x (p ++ v)),
+    )
 
 -- one edge in front: permitted where no listed path begins there
 pub permitted-front : (L : List (List ℕ)) (e : ℕ) (w : List ℕ) → begins L (e ∷ mark L w) ≡ false → T (permitted L w) → T (permitted L (e ∷ w))
@@ -272,3 +273,16 @@ front-permitted L e w h =
     none : (b : Bool) → T (not b) → b ≡ false
     none true t = absurd t
     none false t = refl
+
+-- a path is permitted by two lists put end to end where it is by both
+pub permitted-append : (L K : List (List ℕ)) (w : List ℕ) → permitted (L ++ K) w ≡ (permitted L w && permitted K w)
+unfolding permitted
+permitted-append L K w = ap not (both (λ p. occurs p w) L K) ∙ not-or (anyOf (λ p. occurs p w) L) (anyOf (λ p. occurs p w) K)
+  where
+    or-assoc : (a b c : Bool) → (a || (b || c)) ≡ ((a || b) || c)
+    or-assoc true b c = refl
+    or-assoc false b c = refl
+
+    both : (f : List ℕ → Bool) (L K : List (List ℕ)) → anyOf f (L ++ K) ≡ (anyOf f L || anyOf f K)
+    both f [] K = refl
+    both f (p ∷ L) K = ap (λ (b : Bool). f p || b) (both f L K) ∙ or-assoc (f p) (anyOf f L) (anyOf f K)

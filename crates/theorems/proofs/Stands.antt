@@ -152,9 +152,11 @@ module _ (G : Graph) (L : List (List ℕ)) (up : Rising G) where
             let r = mem-edges e .0 m in
             subst (Joined G L) (sym (label-join (r .0) (r .1)) ∙ ap (joinOf at-label) (r .2)) (r .1);
         edges = λ e h k x.
-            mem-edges e .1
-            (joinOf at-label e, x,
-            λ i. edge (number-label (e .start) (rw size at h) i) (number-label (e .end) (rw size at k) i) (e .name));
+            mem-edges e .1 (
+              joinOf at-label e,
+              x,
+              λ i. edge (number-label (e .start) (rw size at h) i) (number-label (e .end) (rw size at k) i) (e .name),
+            );
       }
 
 -- Theorem R, for any H that stands for (G, L).
@@ -207,15 +209,15 @@ module _ (G H : Graph) (L : List (List ℕ)) (up : Rising G) (S : Stands G L H) 
           let r = leads-last G (p .first) (S .label h .at) e es (subst (λ (es : List Edge). Leads G (p .first) es (S .label h .at)) w (p .leads)) in
           let f = r .1 in
           let b : Passes G L (f .start) (f ∷ q) =
-              record {
-                first = p .first;
-                head = r .0;
-                inside = p .inside;
-                starts = p .starts;
-                leads = r .3;
-                way = (r .4, refl, subst (λ (x : ℕ). Way G x q) (sym (r .5)) (p .way));
-                permits = subst (λ (es : List Edge). T (permitted L (names es))) (ap (λ (x : List Edge). x ++ q) (w ∙ r .2) ∙ append-assoc (r .0) (f ∷ []) q) (p .permits);
-              } in
+          record {
+            first = p .first;
+            head = r .0;
+            inside = p .inside;
+            starts = p .starts;
+            leads = r .3;
+            way = (r .4, refl, subst (λ (x : ℕ). Way G x q) (sym (r .5)) (p .way));
+            permits = subst (λ (es : List Edge). T (permitted L (names es))) (ap (λ (x : List Edge). x ++ q) (w ∙ r .2) ∙ append-assoc (r .0) (f ∷ []) q) (p .permits);
+          } in
           let j : Join = record { start = copyAt L (f .start) (f ∷ q); end = copyAt L (f .end) q; name = f .name } in
           let g : j .end ≡ S .label h = λ i. record { at = r .5 i; mark = sym (v .0 .2) i } in
           absurd (starts-none H h (edge (S .number (j .start)) (S .number (j .end)) (j .name)) t (join-edge j (f, q, b, refl)) (ap (S .number) g ∙ v .1))
@@ -228,10 +230,11 @@ module _ (G H : Graph) (L : List (List ℕ)) (up : Rising G) (S : Stands G L H) 
       let i = S .rising .inside e (w .0) in
       let b = way-down (e .end) es i (w .2) in
       let k = joined-link G L (joinOf (S .label) e) (S .joined e (w .0)) in
-      let a : S .label (e .start) ≡ S .label h = ap (S .label) (w .1) in
-      ((k .along, ap (λ (x : Copy). x .at) a, b .0),
-      permitted-front L (e .name) (names es) (subst (λ (x : List ℕ). begins L (e .name ∷ x) ≡ false) (b .2) (k .live)) (b .1),
-      ap (λ (x : Copy). x .mark) (sym a) ∙ k .marks ∙ ap (λ (x : List ℕ). mark L (e .name ∷ x)) (b .2) ∙ sym (mark-reads L (e .name) (names es)))
+      let a : S .label (e .start) ≡ S .label h = ap (S .label) (w .1) in (
+        (k .along, ap (λ (x : Copy). x .at) a, b .0),
+        permitted-front L (e .name) (names es) (subst (λ (x : List ℕ). begins L (e .name ∷ x) ≡ false) (b .2) (k .live)) (b .1),
+        ap (λ (x : Copy). x .mark) (sym a) ∙ k .marks ∙ ap (λ (x : List ℕ). mark L (e .name ∷ x)) (b .2) ∙ sym (mark-reads L (e .name) (names es)),
+      )
 
   pub leads-down : (h i : ℕ) (es : List Edge) → Leads H h es i → Leads G (S .label h .at) (map lowered es) (S .label i .at)
   leads-down h i [] p = ap (λ (x : ℕ). S .label x .at) p
@@ -239,29 +242,50 @@ module _ (G H : Graph) (L : List (List ℕ)) (up : Rising G) (S : Stands G L H) 
       let k = joined-link G L (joinOf (S .label) e) (S .joined e (p .0)) in
       (k .along, ap (λ (x : ℕ). S .label x .at) (p .1), leads-down (e .end) i es (p .2))
 
-  -- a permitted path of G that passes c, lifted to H
-  pub way-up : (c : ℕ) (q : List Edge) → Passes G L c q → (es : List Edge) × Way H (S .number (copyAt L c q)) es × (map lowered es ≡ q)
-  way-up c [] p =
-      ([], no-out H (S .number (copyAt L c [])) (λ e m s.
-          let k = joined-link G L (joinOf (S .label) e) (S .joined e m) in
-          let f : S .label (e .start) ≡ copyAt L c [] = ap (S .label) s ∙ S .shown (copyAt L c []) ([], p, refl) .1 in
-          ends-none G c _ (p .way) (k .along) (ap (λ (x : Copy). x .at) f)), refl)
-  way-up c (e ∷ q) p =
-      let r = way-up (e .end) q (pass-on p) in
+  -- one step of a permitted path of G that passes c, lifted to H
+  pub lifted : ℕ → Edge → List Edge → Edge
+  lifted c e q = edge (S .number (copyAt L c (e ∷ q))) (S .number (copyAt L (e .end) q)) (e .name)
+
+  pub step-up : (c : ℕ) (e : Edge) (q : List Edge) → Passes G L c (e ∷ q) → List·Memᴰ (lifted c e q) (H .edges) × (lowered (lifted c e q) ≡ e)
+  unfolding lifted
+  step-up c e q p =
       let j : Join = record { start = copyAt L c (e ∷ q); end = copyAt L (e .end) q; name = e .name } in
       let x : Joined G L j =
-          (e, q, subst (λ (y : ℕ). Passes G L y (e ∷ q)) (sym (p .way .1)) p, λ i. record { start = record { at = sym (p .way .1) i; mark = mark L (names (e ∷ q)) }; end = copyAt L (e .end) q; name = e .name }) in
+      (e, q, subst (λ (y : ℕ). Passes G L y (e ∷ q)) (sym (p .way .1)) p, λ i. record { start = record { at = sym (p .way .1) i; mark = mark L (names (e ∷ q)) }; end = copyAt L (e .end) q; name = e .name }) in
       let k = joined-link G L j x in
       let a = S .shown (copyAt L c (e ∷ q)) (k .from) .1 in
       let b = S .shown (copyAt L (e .end) q) (k .to) .1 in
-      let f : Edge = edge (S .number (copyAt L c (e ∷ q))) (S .number (copyAt L (e .end) q)) (e .name) in
-      let g : lowered f ≡ e = λ i. edge ((ap (λ (x : Copy). x .at) a ∙ sym (p .way .1)) i) (ap (λ (x : Copy). x .at) b i) (e .name) in
-      (f ∷ r .0, (join-edge j x, refl, r .1), λ i. g i ∷ r .2 i)
+      (join-edge j x, λ i. edge ((ap (λ (x : Copy). x .at) a ∙ sym (p .way .1)) i) (ap (λ (x : Copy). x .at) b i) (e .name))
+
+  -- so a permitted path of G from c on is lifted to H, and so is a run to c
+  pub way-up : (c : ℕ) (q : List Edge) → Passes G L c q → (es : List Edge) × Way H (S .number (copyAt L c q)) es × (map lowered es ≡ q)
+  unfolding lifted
+  way-up c [] p = (
+    [],
+    no-out H (S .number (copyAt L c [])) (λ e m s.
+        let k = joined-link G L (joinOf (S .label) e) (S .joined e m) in
+        let f : S .label (e .start) ≡ copyAt L c [] = ap (S .label) s ∙ S .shown (copyAt L c []) ([], p, refl) .1 in
+        ends-none G c _ (p .way) (k .along) (ap (λ (x : Copy). x .at) f)),
+    refl,
+  )
+  way-up c (e ∷ q) p =
+      let r = way-up (e .end) q (pass-on p) in
+      let f = step-up c e q p in
+      (lifted c e q ∷ r .0, (f .0, refl, r .1), λ i. f .1 i ∷ r .2 i)
+
+  pub leads-lift : (a c : ℕ) (p q : List Edge) → Passes G L a (p ++ q) → Leads G a p c
+      → (es : List Edge) × Leads H (S .number (copyAt L a (p ++ q))) es (S .number (copyAt L c q)) × (map lowered es ≡ p)
+  unfolding lifted
+  leads-lift a c [] q s l = ([], ap (λ (x : ℕ). S .number (copyAt L x q)) l, refl)
+  leads-lift a c (e ∷ p) q s l =
+      let r = leads-lift (e .end) c p q (pass-on s) (l .2) in
+      let f = step-up a e (p ++ q) s in
+      (lifted a e (p ++ q) ∷ r .0, (f .0, refl, r .1), λ i. f .1 i ∷ r .2 i)
 
   -- the copy of a path where paths start is one where they start
   pub start-up : (c : ℕ) (q : List Edge) → Passes G L c q → T (startsAt G c) → T (startsAt H (S .number (copyAt L c q)))
   start-up c q p t =
       no-in H (S .number (copyAt L c q)) (λ e m s.
-          let k = joined-link G L (joinOf (S .label) e) (S .joined e m) in
-          let f : S .label (e .end) ≡ copyAt L c q = ap (S .label) s ∙ S .shown (copyAt L c q) (q, p, refl) .1 in
-          starts-none G c _ t (k .along) (ap (λ (x : Copy). x .at) f))
+      let k = joined-link G L (joinOf (S .label) e) (S .joined e m) in
+      let f : S .label (e .end) ≡ copyAt L c q = ap (S .label) s ∙ S .shown (copyAt L c q) (q, p, refl) .1 in
+      starts-none G c _ t (k .along) (ap (λ (x : Copy). x .at) f))
