@@ -1,3 +1,4 @@
 -- Laws that several crates cite, and that belong to no one definition.
 pub mod Choice
 pub mod Ints
+pub mod Marked

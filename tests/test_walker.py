@@ -1,0 +1,429 @@
+#!/usr/bin/env python3
+"""Document 01's own claims, tried with walker.py.  python3 test_walker.py [-v]"""
+import itertools
+import random
+import subprocess
+import sys
+import unittest
+from unittest import mock
+import decks
+import walker as w
+from decks import A_EDGES, DECK_A, MARKED, WIDE_ROOM, deck_of, path_list_of
+
+SEED = 20000
+MANY_WORDS = 10 ** 7
+NO_LIST = w.PathList([], [])
+
+DECK_A_PRINTED = """\
+copies 6 edges 5
+copy 0 node 0 arrival 0 required 5 slack 5
+copy 1 node 1 arrival 0 required 4 slack 4
+copy 2 node 2 arrival 5 required 9 slack 4
+copy 3 node 2 arrival 3 required 8 slack 5
+copy 4 node 3 arrival 5 required 10 slack 5
+copy 5 node 4 arrival 6 required 10 slack 4
+edge 0 2 0
+edge 1 2 1
+edge 0 3 0
+edge 3 4 2
+edge 2 5 3
+node 0 0 5 5
+node 1 0 4 4
+node 2 5 8 4
+node 3 5 10 5
+node 4 6 10 4
+"""
+
+
+def graph_of(deck):
+    return w.true_graph(deck.design, deck.path_list)
+
+
+def removed(design, path_list, earlier=None, words=MANY_WORDS, room=WIDE_ROOM):
+    return w.removal(design, path_list, earlier, words, room)
+
+
+def refusal(*given):
+    return w.refusal_of(removed, *given)
+
+
+def printed(deck):
+    return w.deck_program(decks.pack(w.deck_numbers(deck)))
+
+
+def records(deck, graph):
+    """The node records, by the calls."""
+    at_copies = w.times(deck.design, graph, deck.allowed_time, [len(graph.copy_nodes)] * 3)
+    columns = [[at_copy[part] for at_copy in at_copies] for part in range(3)]
+    return [w.node_record(deck.design.nodes, graph.copy_nodes, *columns, node)
+            for node in range(deck.design.nodes)]
+
+
+def taken_back(design, graph):
+    """The paths of a graph taken back to the design: first node and design edges."""
+    return [(graph.copy_nodes[path.first], w.design_edges_along(path))
+            for path in w.complete_paths(design, graph)]
+
+
+def permitted(design, graph, path_list):
+    """The same for the paths of a graph worked on that contain no listed path."""
+    listed = w.listed_paths(path_list)
+    return [(node, run) for node, run in taken_back(design, graph)
+            if not any(w.occurs_in(path, run) for path in listed)]
+
+
+def records_of_paths(design, paths, allowed_time):
+    """Node records straight from the permitted paths of the design."""
+    reached, to_go, whole = ({node: [] for node in range(design.nodes)} for _ in range(3))
+    for first, run in paths:
+        delays = [design.delays[edge] for edge in run]
+        for position, node in enumerate([first] + [design.ends[edge] for edge in run]):
+            reached[node].append(sum(delays[:position]))
+            to_go[node].append(sum(delays[position:]))
+            whole[node].append(sum(delays))
+    return [w.Times(max(reached[node]), allowed_time - max(to_go[node]), allowed_time - max(whole[node]))
+            if reached[node] else None for node in range(design.nodes)]
+
+
+def times_by_edges(design, graph, allowed_time):
+    """Copy times once more, edge by edge instead of path by path (edges rise by end copy)."""
+    edges = list(zip(graph.starts, graph.ends, graph.design_edges))
+    arrival, required = {}, {}
+    for copy in range(len(graph.copy_nodes)):
+        arrival[copy] = max((arrival[s] + design.delays[d] for s, e, d in edges if e == copy), default=0)
+    for copy in reversed(range(len(graph.copy_nodes))):
+        required[copy] = min((required[e] - design.delays[d] for s, e, d in edges if s == copy),
+                             default=allowed_time)
+    return [w.Times(arrival[c], required[c], required[c] - arrival[c]) for c in range(len(graph.copy_nodes))]
+
+
+def same_by_trying(first, second):
+    """Renumbering within nodes by trying every permutation."""
+    if list(first.copy_nodes) != list(second.copy_nodes) or len(first.starts) != len(second.starts):
+        return False
+    groups = [[copy for copy, of in enumerate(first.copy_nodes) if of == node]
+              for node in sorted(set(first.copy_nodes))]
+    wanted = set(zip(*second[1:]))
+    for orders in itertools.product(*(itertools.permutations(group) for group in groups)):
+        renumber = [new for order in orders for new in order]
+        if {(renumber[s], renumber[e], d) for s, e, d in zip(*first[1:])} == wanted:
+            return True
+    return False
+
+
+def renumbered(rng, graph):
+    """The graph with its copies shuffled within nodes, edges put in order again."""
+    order = sorted(range(len(graph.copy_nodes)), key=lambda copy: (graph.copy_nodes[copy], rng.random()))
+    new = {old: number for number, old in enumerate(order)}
+    edges = sorted(((new[s], new[e], d) for s, e, d in zip(*graph[1:])), key=lambda edge: (edge[1], edge[2]))
+    return w.Graph(graph.copy_nodes, *([edge[part] for edge in edges] for part in range(3)))
+
+
+class Marked(unittest.TestCase):
+    def check(self, name, copies, edges):
+        graph = graph_of(MARKED[name])
+        self.assertEqual((len(graph.copy_nodes), len(graph.starts)), (copies, edges))
+        self.assertTrue(w.is_well_formed(MARKED[name].design, graph))
+        return graph
+
+    def test_M1_deck_A(self):
+        self.check("M1", 6, 5)
+        self.assertEqual(decks.pack(w.deck_numbers(MARKED["M1"])), DECK_A)
+        self.assertEqual(w.read_deck(DECK_A, w.PROGRAM_TABLES), MARKED["M1"])
+        self.assertEqual(w.deck_program(DECK_A), DECK_A_PRINTED)
+        run = subprocess.run([sys.executable, w.__file__], input=DECK_A, capture_output=True)
+        self.assertEqual(run.stdout.decode(), DECK_A_PRINTED)
+
+    def test_M2_M3(self):
+        self.check("M2", 0, 0)
+        self.assertEqual(printed(MARKED["M2"]), "copies 0 edges 0\n")
+        self.assertEqual(w.c_call(bytes([0, 0, 0, 0]), 2), (2, b"\0\0"))
+        graph = self.check("M3", 1, 0)
+        self.assertEqual(w.copy_times(MARKED["M3"].design, graph, 7), [(0, 7, 7)])
+
+    def test_M4_M5_M6_M7(self):
+        four = self.check("M4", 4, 3)
+        self.assertIn("node 3 none\n", printed(MARKED["M4"]))
+        self.assertEqual(self.check("M5", 4, 3), four)
+        self.check("M6", 6, 4)
+        self.check("M7", 0, 0)
+        self.assertEqual(printed(MARKED["M7"]), "copies 0 edges 0\nnode 0 none\nnode 1 none\nnode 2 none\n")
+
+    def test_M8(self):
+        graph = self.check("M8", 5, 4)
+        self.assertEqual(sorted(graph.design_edges), [0, 1, 2, 5])
+        self.assertIsNone(records(MARKED["M8"], graph)[4])
+
+    def test_M9(self):
+        deck = MARKED["M9"]
+        self.assertEqual(records(deck, graph_of(deck)), [(0, 14, 14), (-4, 10, 14)])
+
+    def test_M10(self):
+        self.assertEqual((w.write_number(127), w.write_number(128)), (b"\x7f", b"\x80\x01"))
+        self.assertEqual(w.refusal_of(w.read_number, b"\x80\x00", 0), (2, 0))
+
+    def test_M6_in_parts(self):
+        design = MARKED["M6"].design
+        calls = [w.Call(path_list_of([path]), WIDE_ROOM, MANY_WORDS) for path in ([1, 2], [0, 3])]
+        refusals, held = w.run_series(design, calls)
+        self.assertEqual(refusals, [None, None])
+        self.assertTrue(w.same_within_nodes(design, held, graph_of(MARKED["M6"])))
+        self.assertFalse(w.same_within_nodes(design, held, graph_of(MARKED["M1"])))
+
+    def test_smallest_series_numbered_otherwise_than_the_whole_list(self):
+        """0: 1->2, 1: 0->1, 2: 1->2, 3: 0->1; list 1,0 and then 1,2: the two copies of node 1 swap."""
+        design = w.Design(3, [1, 0, 1, 0], [2, 1, 2, 1], [0, 0, 0, 0])
+        first, second = [1, 0], [1, 2]
+        held = removed(design, path_list_of([second]), removed(design, path_list_of([first])))
+        whole = w.true_graph(design, path_list_of([first, second]))
+        self.assertEqual(held, ([0, 1, 1, 2], [0, 0, 2, 1], [1, 2, 3, 3], [3, 3, 0, 2]))
+        self.assertEqual(whole, ([0, 1, 1, 2], [0, 0, 1, 2], [1, 2, 3, 3], [3, 3, 0, 2]))
+        self.assertTrue(w.same_within_nodes(design, held, whole))
+
+    def test_marks_sort_by_length_first(self):
+        """Tails 3 and 1,2 of node 1: the copy of 3 comes first, though 1 is below 3."""
+        design = w.Design(4, [0, 1, 2, 1, 0], [1, 2, 3, 3, 1], [0] * 5)
+        graph = w.true_graph(design, path_list_of([[0, 1, 2], [0, 3]]))
+        self.assertEqual(graph, ([0, 1, 1, 2, 3], [0, 0, 2, 3, 1], [1, 2, 3, 4, 4], [4, 4, 1, 2, 3]))
+
+
+class Ranges(unittest.TestCase):
+    def test_the_edges_named_to_run(self):
+        design = MARKED["M1"].design
+        self.assertIsNone(refusal(w.Design(4096, [], [], []), NO_LIST))
+        self.assertEqual(refusal(w.Design(4097, [], [], []), NO_LIST), (10, 0))
+        self.assertIsNone(refusal(w.Design(2, [0], [1], [-1_000_000]), NO_LIST))
+        self.assertEqual(refusal(w.Design(2, [0], [1], [1_000_001]), NO_LIST), (14, 0))
+        self.assertEqual(refusal(design, path_list_of([[2, 1]])), (24, 0))
+        self.assertEqual(w.allowed_time_refusal(1_000_000_001), (25, 0))
+        self.assertIsNone(w.allowed_time_refusal(1_000_000_000))
+        self.assertEqual(printed(deck_of(5, A_EDGES, [[1, 2]], 1_000_000_001)), "refused 25 at 0\n")
+        one_two = path_list_of([[1, 2]])
+        self.assertEqual(refusal(design, one_two, None, MANY_WORDS, w.Room(5, 5, 5, 5)), (33, 0))
+        self.assertEqual(refusal(design, one_two, None, MANY_WORDS, w.Room(6, 4, 4, 4)), (34, 0))
+        self.assertIsNone(refusal(design, one_two, None, MANY_WORDS, w.Room(6, 5, 5, 5)))
+        with mock.patch.object(w, "MOST_COPIES", 5):              # room counts as at most the limit
+            self.assertEqual(refusal(design, one_two), (33, 0))
+        with mock.patch.object(w, "MOST_GRAPH_EDGES", 4):
+            self.assertEqual(refusal(design, one_two), (34, 0))
+        self.assertEqual(w.scratch_after([7, 8], None), w.scratch_after([7, 8], (34, 0)))
+        self.assertEqual((w.scratch_after([7, 8], (31, 0)), w.lent_after([7, 8], [1])), ([7, 8], [1, 8]))
+
+    def test_order_and_places(self):
+        many = [(0, 1, 0)] * 10
+        many[0], many[9] = (0, 1, 2_000_000), (0, 7, 0)
+        self.assertEqual(w.design_refusal(deck_of(5, many, [], 0).design), (12, 9))
+        design = MARKED["M1"].design
+        self.assertEqual(refusal(design, w.PathList([1], [])), (30, 0))
+        self.assertEqual(refusal(design, w.PathList([2 ** 32 - 1, 1], [])), (30, 0))       # no wrap
+        self.assertEqual(refusal(design, w.PathList([1] * 1025, [0] * 1025)), (20, 0))
+        self.assertEqual(refusal(design, w.PathList([8193], [0] * 8193)), (21, 0))
+        self.assertEqual(refusal(design, path_list_of([[2, 1], [9], []])), (22, 2))
+        self.assertEqual(refusal(design, path_list_of([[2, 1], [9]])), (23, 1))
+        self.assertEqual(refusal(design, path_list_of([[0, 2], [1], [0, 1], [9]])), (23, 3))
+        bad_graph = w.Graph([9], [], [], [])
+        self.assertEqual(refusal(design, NO_LIST, bad_graph, 0), (32, 0))                  # 32 before 31
+        self.assertEqual(refusal(design, path_list_of([[2, 1]]), bad_graph, 0), (24, 0))
+        self.assertEqual(refusal(design, NO_LIST, w.Graph([9], [1], [], []), 0), (30, 0))
+        # on A with 1,2: 5 nodes + 1 tail, 2 listed edges, 4 edges
+        self.assertEqual(refusal(design, path_list_of([[1, 2]]), None, 12 * 16 - 1), (31, 0))
+        self.assertIsNone(refusal(design, path_list_of([[1, 2]]), None, 12 * 16))
+        earlier = graph_of(MARKED["M1"])      # two copies of node 2: 6 + 2 * 1, 2, 5
+        self.assertEqual(refusal(design, path_list_of([[0, 3]]), earlier, 15 * 16 - 1), (31, 0))
+        self.assertIsNone(refusal(design, path_list_of([[0, 3]]), earlier, 15 * 16))
+        self.assertEqual(w.refusal_of(w.times, design, earlier, 2 ** 31, [6, 6, 5]), (30, 0))
+        self.assertEqual(w.refusal_of(w.times, design, bad_graph, 2 ** 31, [1, 1, 1]), (25, 0))
+        self.assertEqual(w.refusal_of(w.times, design, bad_graph, 10, [1, 1, 1]), (32, 0))
+        self.assertIsNone(w.node_record(3, [5], [1], [1], [1], 5))
+        self.assertEqual(w.refusal_of(w.node_record, 4097, [5], [1], [1], [1], 5), (10, 0))
+
+    def test_deck_reader_and_program(self):
+        number = w.write_number
+        for data, wanted in [
+                (b"", (1, 0)), (DECK_A + b"\x80", (3, 19)), (number(4097), (10, 0)), (b"\x80" * 5, (2, 0)),
+                (b"\x80" * 4, (1, 4)), (b"\x80\x80", (1, 2)), (b"\x05" + number(16385), (11, 0)),
+                (b"\x05" + number(1025), (36, 0)), (b"\x05" + number(1024), (1, 3)),
+                (b"\0\0" + number(257), (36, 0)), (b"\0\0" + number(1025), (20, 0)),
+                (b"\0\0\x01" + number(1025), (36, 0)), (b"\0\0\x01" + number(8193), (21, 0)),
+                (b"\0\0\x02\x01\x00" + number(1024), (36, 0)), (b"\0\0\x02\x01\x00" + number(8192), (21, 0)),
+                (b"\0\0\x02\x01\x80\x00" + number(2 ** 32 - 1), (2, 4)),
+                (b"\0\0\0" + number(2 ** 32 - 1), (25, 0)), (b"\0\0\0" + number(2 ** 32 - 1) + b"\0", (3, 8)),
+                (bytes(65536), (3, 4)), (bytes(65537), (4, 65536))]:
+            self.assertEqual(w.deck_program(data), "refused %d at %d\n" % wanted, data[:8])
+            self.assertEqual(w.c_call(data, 0), (-(wanted[0] + 256 * wanted[1]), b""))
+        self.assertEqual(w.refusal_of(w.read_deck, b"", w.Tables(1, 1, 2, 0, 0)), (30, 0))
+        units = [printed(deck_of(2, decks.parallel(m), [], 5)).split()[:2] for m in (1022, 1023, 1024)]
+        self.assertEqual(units, [["copies", "2"], ["refused", "31"], ["refused", "31"]])
+        self.assertEqual([printed(deck_of(n, [], [], 5)).split()[:2] for n in (512, 513, 1025)],
+                         [["copies", "512"], ["refused", "33"], ["refused", "31"]])
+        self.assertEqual([printed(decks.wide(extra)).split("\n")[0] for extra in (32, 33)],
+                         ["copies 34 edges 2048", "refused 34 at 0"])
+        length = w.c_call(DECK_A, 100)[0]
+        self.assertEqual(w.c_call(DECK_A, length - 1), (-35, b""))
+        self.assertEqual(w.c_call(DECK_A, length)[0], length)
+
+    def test_writers_and_graph_reader(self):
+        odd = w.Deck(w.Design(5, [9], [3], [2 ** 31 - 1]), w.PathList([0, 1], [77]), 2 ** 32 - 1)
+        self.assertEqual(w.read_deck(w.write_deck(odd, 99), w.PROGRAM_TABLES), odd)
+        length = len(w.write_deck(odd, 99))
+        self.assertEqual(w.refusal_of(w.write_deck, odd, length - 1), (35, 0))
+        self.assertEqual(w.refusal_of(w.write_deck, odd._replace(path_list=w.PathList([1], [])), 0), (30, 0))
+        self.assertEqual(w.refusal_of(w.write_graph, w.Graph([0] * 16385, [], [], []), 0), (32, 0))
+        self.assertEqual(w.refusal_of(w.write_graph, w.Graph([0], [1], [], []), 0), (30, 0))
+        room = w.Room(2, 1, 1, 1)
+        for data, wanted in [(w.write_number(16385), (32, 0)), (b"\x03", (33, 0)), (b"\x02\x00", (1, 2)),
+                             (b"\x00\x02", (34, 0)), (b"\x00" + w.write_number(65537), (32, 0)),
+                             (b"\x00\x00\x80", (3, 2)), (b"\x02\x09\x80\x00", (2, 2)), (b"", (1, 0))]:
+            self.assertEqual(w.refusal_of(w.read_graph, data, room), wanted)
+        self.assertEqual(w.refusal_of(w.read_graph, b"", w.Room(2, 1, 1, 2)), (30, 0))
+
+
+class Packing(unittest.TestCase):
+    def test_numbers(self):
+        edges = {0, 2 ** 32 - 1} | {2 ** (7 * k) + d for k in range(1, 5) for d in (-1, 0, 1)}
+        for number in edges:
+            data = w.write_number(number)
+            self.assertEqual(w.read_number(b"\xff" + data + b"\xff", 1), (number, 1 + len(data)))
+            for cut in range(len(data)):
+                self.assertEqual(w.refusal_of(w.read_number, data[:cut], 0), (1, cut))
+        for delay in (0, 1, -1, 1_000_000, -1_000_000, 2 ** 31 - 1, -2 ** 31):
+            self.assertEqual(w.unpack_delay(w.pack_delay(delay)), delay)
+            self.assertTrue(0 <= w.pack_delay(delay) < 2 ** 32)
+        self.assertEqual([w.pack_delay(d) for d in (3, 0, -1, -4)], [6, 0, 1, 7])
+
+    def test_accepted_bytes_are_written_ones(self):
+        """A number is taken from bytes just when its written form is what they start with."""
+        rng = random.Random(SEED)
+        bytes_of_interest = [0, 1, 0x0E, 0x0F, 0x10, 0x7F, 0x80, 0x81, 0x8F, 0xFF]
+        tries = [bytes(pair) for pair in itertools.product(range(256), repeat=2)]
+        tries += [bytes(rng.choice(bytes_of_interest) for _ in range(rng.randint(3, 6))) for _ in range(20000)]
+        for data in tries:
+            try:
+                number, place = w.read_number(data, 0)
+                self.assertEqual(data[:place], w.write_number(number))
+            except w.Refused as refused:
+                if refused.refusal[0] == 1:      # ends inside: all bytes ask for more, at most four
+                    self.assertTrue(len(data) <= 4 and min(data) >= 0x80)
+                    self.assertEqual(refused.refusal[1], len(data))
+                else:
+                    self.assertEqual(refused.refusal, (2, 0))
+                    value = sum((byte & 0x7F) << (7 * at) for at, byte in enumerate(data[:5]))
+                    last = next((at for at, byte in enumerate(data[:5]) if byte < 0x80), None)
+                    self.assertTrue(last is None or value >= 2 ** 32 or data[last] == 0)
+
+    def test_decks_and_graphs_there_and_back(self):
+        for data in decks.deck_files(SEED, 1500):
+            number, result = w.c_call(data, 10 ** 6)
+            self.assertTrue(number >= 2 if result else number <= -1)
+            self.assertEqual(number < 0, w.deck_program(data).startswith("refused"))
+            try:
+                deck = w.read_deck(data, w.PROGRAM_TABLES)
+            except w.Refused:
+                continue
+            self.assertEqual(w.write_deck(deck, len(data)), data)
+            if result:
+                graph = w.read_graph(result, w.PROGRAM_ROOM)
+                self.assertEqual(w.write_graph(graph, len(result)), result)
+                self.assertEqual(graph, graph_of(deck))
+
+
+class Claims(unittest.TestCase):
+    """Claims of document 01 on random small designs."""
+    def decks(self, count, seed=SEED):
+        rng = random.Random(seed)
+        for _ in range(count):
+            deck = decks.random_deck(rng)
+            yield rng, deck, w.design_as_graph(deck.design)
+
+    def check_removal(self, design, path_list, worked_on, result):
+        self.assertTrue(w.is_well_formed(design, result))
+        # the paths of the result, taken back, are the permitted paths, each once
+        back, wanted = taken_back(design, result), permitted(design, worked_on, path_list)
+        self.assertEqual(sorted(back), sorted(wanted))
+        self.assertEqual(len(back), len(set(back)))
+        self.assertLessEqual(len(result.copy_nodes), w.candidates(design, path_list, worked_on))
+
+    def test_removal_from_the_design(self):
+        for _, deck, worked_on in self.decks(500):
+            result = removed(deck.design, deck.path_list)
+            self.check_removal(deck.design, deck.path_list, worked_on, result)
+            bound = deck.design.nodes + len(deck.path_list.flat) - len(deck.path_list.lengths)
+            self.assertEqual(bound, w.candidates(deck.design, deck.path_list, worked_on))
+            self.assertLessEqual(len(result.copy_nodes), bound)
+            # "an isolated node always keeps its one copy"; a source has at most one
+            for node in set(range(deck.design.nodes)) - set(deck.design.ends):
+                if node not in deck.design.starts:
+                    self.assertEqual(result.copy_nodes.count(node), 1)
+                self.assertLessEqual(result.copy_nodes.count(node), 1)
+
+    def test_times_and_node_records(self):
+        for _, deck, worked_on in self.decks(500, SEED + 1):
+            design, allowed_time = deck.design, deck.allowed_time
+            graph = graph_of(deck)
+            self.assertEqual(w.copy_times(design, graph, allowed_time), times_by_edges(design, graph, allowed_time))
+            paths = permitted(design, worked_on, deck.path_list)
+            self.assertEqual(records(deck, graph), records_of_paths(design, paths, allowed_time))
+
+    def test_an_empty_list_gives_the_design_and_twice_is_once(self):
+        for _, deck, worked_on in self.decks(200, SEED + 2):
+            uncut = w.true_graph(deck.design, NO_LIST)
+            self.assertEqual(uncut.copy_nodes, worked_on.copy_nodes)
+            self.assertEqual(sorted(zip(*uncut[1:])), sorted(zip(*worked_on[1:])))
+            once = graph_of(deck)
+            self.assertEqual(removed(deck.design, NO_LIST, once), once)
+            twice = removed(deck.design, deck.path_list, once)
+            self.assertTrue(w.same_within_nodes(deck.design, twice, once))
+
+    def test_foreign_graphs(self):
+        damaged = 0
+        for rng, deck, _ in self.decks(400, SEED + 3):
+            design = deck.design
+            foreign = decks.random_foreign_graph(rng, design)
+            self.assertTrue(w.is_well_formed(design, foreign))
+            self.assertEqual(w.copy_times(design, foreign, 50), times_by_edges(design, foreign, 50))
+            for earlier in [foreign] + [decks.damage_graph(rng, foreign) for _ in range(3)]:
+                if w.is_well_formed(design, earlier):
+                    result = removed(design, deck.path_list, earlier)
+                    self.check_removal(design, deck.path_list, earlier, result)
+                else:
+                    self.assertEqual(refusal(design, deck.path_list, earlier, 0), (32, 0))
+                    damaged += 1
+        self.assertGreater(damaged, 100)
+
+    def test_renumbering_checker(self):
+        for rng, deck, _ in self.decks(200, SEED + 4):
+            graph = graph_of(deck)
+            if max((graph.copy_nodes.count(node) for node in graph.copy_nodes), default=0) > 4 \
+                    or len(graph.copy_nodes) > 14:
+                continue
+            shuffled = renumbered(rng, graph)
+            self.assertTrue(w.same_within_nodes(deck.design, shuffled, graph))
+            self.assertTrue(same_by_trying(shuffled, graph))
+            for _ in range(3):
+                other = decks.damage_graph(rng, shuffled)
+                if w.is_well_formed(deck.design, other):
+                    self.assertEqual(w.same_within_nodes(deck.design, other, graph), same_by_trying(other, graph))
+
+    def test_demand_3(self):
+        rng = random.Random(SEED + 5)
+        seen, differently_numbered, held_series = set(), 0, 0
+        for _ in range(600):
+            design = decks.random_design(rng)
+            calls = decks.random_series(rng, design)
+            refusals, held = w.run_series(design, calls)
+            wanted, whole = w.series_from_calls_alone(design, calls)
+            self.assertEqual(refusals, wanted)
+            self.assertEqual(held is None, whole is None)
+            seen.update(found[0] for found in refusals if found)
+            if held is not None:
+                true = w.true_graph(design, whole)
+                self.assertTrue(w.same_within_nodes(design, held, true))
+                held_series += 1
+                differently_numbered += held != true
+        self.assertGreater(held_series, 300)
+        self.assertGreater(differently_numbered, 0)       # so only a renumbering can be claimed
+        self.assertTrue({22, 23, 24, 30, 31, 33, 34} <= seen, seen)
+
+
+if __name__ == "__main__":
+    unittest.main()

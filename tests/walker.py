@@ -1,0 +1,558 @@
+#!/usr/bin/env python3
+"""Reference program: true timing graphs by walking all paths.
+
+Written from document 01 (papers/01-scope.md), with open points as in design/readings.md.
+Naive on purpose: every complete path is written out, the false ones are struck out, and
+copies, edges and times are read off the paths that remain.  Text in double quotes in the
+comments is a sentence of document 01.
+
+    python3 walker.py < deck              the deck program
+    python3 walker.py --c ROOM < deck     the C call: its number, then the bytes in hex
+"""
+import sys
+from collections import namedtuple
+
+MOST_NODES, MOST_EDGES = 4096, 16384
+MOST_DELAY, MOST_ALLOWED_TIME = 1_000_000, 1_000_000_000
+MOST_PATHS, MOST_LISTED_EDGES = 1024, 8192
+MOST_COPIES, MOST_GRAPH_EDGES = 16384, 65536
+MOST_DECK_BYTES = 65536
+MOST_WALKED = 200_000      # no limit of the document: more paths than this are not walked
+
+Design = namedtuple("Design", "nodes starts ends delays")             # delay of each edge
+PathList = namedtuple("PathList", "lengths flat")                     # "flat, with a length for each path"
+Graph = namedtuple("Graph", "copy_nodes starts ends design_edges")    # start copy, end copy, design edge
+Deck = namedtuple("Deck", "design path_list allowed_time")
+Path = namedtuple("Path", "first edges")                              # edges: (start copy, end copy, design edge)
+Times = namedtuple("Times", "arrival required slack")
+Tables = namedtuple("Tables", "starts ends delays listed paths")      # lent lengths
+Room = namedtuple("Room", "copies starts ends design_edges")          # lent lengths
+Call = namedtuple("Call", "path_list room scratch_words")             # one removal of a series
+
+PROGRAM_TABLES = Tables(1024, 1024, 1024, 1024, 256)
+PROGRAM_ROOM = Room(512, 2048, 2048, 2048)
+PROGRAM_SCRATCH = 16384
+
+class WalkTooLong(Exception):
+    """Too many paths for this program; says nothing about the document."""
+
+class Refused(Exception):
+    """"Each returns its number and a place." """
+    def __init__(self, number, place=0):
+        super().__init__(number, place)
+        self.refusal = (number, place)
+
+def refuse(refusal):
+    """Pass on what a test returned: None, or (number, place)."""
+    if refusal is not None:
+        raise Refused(*refusal)
+
+def refusal_of(call, *given, **named):
+    """The (number, place) a call is refused with, or None."""
+    try:
+        call(*given, **named)
+    except Refused as refused:
+        return refused.refusal
+    return None
+
+def listed_paths(path_list):
+    """The listed paths, each a tuple of design edge numbers, cut out of the flat list."""
+    paths, offset = [], 0
+    for length in path_list.lengths:
+        paths.append(tuple(path_list.flat[offset:offset + length]))
+        offset += length
+    return paths
+
+# ---- Paths -------------------------------------------------------------------------------
+
+def design_as_graph(design):
+    """The design seen as a graph: every node its own copy, every edge naming itself."""
+    return Graph(list(range(design.nodes)), list(design.starts), list(design.ends),
+                 list(range(len(design.starts))))
+
+def complete_paths(design, graph):
+    """"A complete path is the run of edges from a source to a sink, or none at an isolated
+    node"; on an earlier graph "its paths" stand "for the complete paths". "A source has no
+    edge in, a sink no edge out; an isolated node is both." """
+    not_source, not_sink = set(design.ends), set(design.starts)
+    leaving = {copy: [] for copy in range(len(graph.copy_nodes))}
+    for edge in zip(graph.starts, graph.ends, graph.design_edges):
+        leaving[edge[0]].append(edge)
+    complete = []
+    unfinished = [Path(copy, ()) for copy, node in enumerate(graph.copy_nodes)
+                  if node not in not_source]
+    while unfinished:
+        path = unfinished.pop()
+        last_copy = copies_along(path)[-1]
+        if graph.copy_nodes[last_copy] not in not_sink:
+            complete.append(path)
+        for edge in leaving[last_copy]:
+            unfinished.append(Path(path.first, path.edges + (edge,)))
+        if len(complete) + len(unfinished) > MOST_WALKED:
+            raise WalkTooLong()
+    return complete
+
+def copies_along(path):
+    return [path.first] + [end for _, end, _ in path.edges]
+
+def design_edges_along(path):
+    return tuple(design_edge for _, _, design_edge in path.edges)
+
+def occurs_in(listed, run):
+    """Whether a listed path occurs in a run of design edges "as a consecutive run"."""
+    return any(run[at:at + len(listed)] == listed for at in range(len(run) - len(listed) + 1))
+
+def permitted_paths(design, graph, listed):
+    """"A complete path is permitted if no listed path occurs in it as a consecutive run." """
+    return [path for path in complete_paths(design, graph)
+            if not any(occurs_in(false_path, design_edges_along(path)) for false_path in listed)]
+
+# ---- Copies ------------------------------------------------------------------------------
+
+def tails_of(listed):
+    """"A tail is what is left of a listed path after dropping one or more edges from its
+    front, not all of them. Tails equal in edges are one tail." """
+    return {path[dropped:] for path in listed for dropped in range(1, len(path))}
+
+def mark_at(run, position, tails):
+    """"the longest tail that the path follows from N on, or the empty mark" """
+    followed = [tail for tail in tails if run[position:position + len(tail)] == tail]
+    return max(followed, key=len, default=())
+
+def true_graph(design, path_list, earlier=None):
+    """Removal without any test: from the design, or from an earlier graph, whose "copies
+    stand in for nodes, its paths for the complete paths"."""
+    worked_on = design_as_graph(design) if earlier is None else earlier
+    listed = listed_paths(path_list)
+    tails = tails_of(listed)
+    copies, joins = set(), set()
+    for path in permitted_paths(design, worked_on, listed):
+        run = design_edges_along(path)
+        # "a copy for each pair (node, mark) that some permitted path shows, and no others"
+        shown = [(node_or_copy, mark_at(run, position, tails))
+                 for position, node_or_copy in enumerate(copies_along(path))]
+        copies.update(shown)
+        # "Along each design edge of a permitted path, the copy at its start is joined to
+        # the copy at its end by an edge that names the design edge."
+        joins.update(zip(shown, shown[1:], run))
+    # "numbered by node; within a node by the mark's length, then by its edge numbers" and
+    # "Result copies are then ordered by earlier copy, then by mark as above."
+    ordered = sorted(copies, key=lambda copy: (copy[0], len(copy[1]), copy[1]))
+    number = {copy: place for place, copy in enumerate(ordered)}
+    # "Edges are ordered by end copy, then by design edge."
+    edges = sorted(((number[start], number[end], design_edge) for start, end, design_edge in joins),
+                   key=lambda edge: (edge[1], edge[2], edge[0]))
+    return Graph([worked_on.copy_nodes[node_or_copy] for node_or_copy, _ in ordered],
+                 [edge[0] for edge in edges], [edge[1] for edge in edges], [edge[2] for edge in edges])
+
+# ---- Tests: each returns None or (number, place) --------------------------------------------
+
+def slices_refusal(groups=(), path_list=None):
+    """30: "lent slices that belong together ... differ in length, or the lengths of the paths
+    do not add up to the flat list". A group is the lengths of slices that belong together."""
+    if any(len(set(group)) > 1 for group in groups):
+        return 30, 0
+    if path_list is not None and sum(path_list.lengths) != len(path_list.flat):
+        return 30, 0
+    return None
+
+def design_slices(design):
+    return len(design.starts), len(design.ends), len(design.delays)
+
+def graph_slices(graph):
+    return len(graph.starts), len(graph.ends), len(graph.design_edges)
+
+def design_refusal(design):
+    """10 to 14, "one number over everything before the next"."""
+    edges = list(zip(design.starts, design.ends, design.delays))
+    if design.nodes > MOST_NODES:
+        return 10, 0
+    if len(edges) > MOST_EDGES:
+        return 11, 0
+    for number, (start, end, _) in enumerate(edges):
+        if start >= design.nodes or end >= design.nodes:    # "names a node not below n"
+            return 12, number
+    for number, (start, end, _) in enumerate(edges):
+        if start >= end:                                    # "it does not rise"
+            return 13, number
+    for number, (_, _, delay) in enumerate(edges):
+        if not -MOST_DELAY <= delay <= MOST_DELAY:          # "delay out of range"
+            return 14, number
+    return None
+
+def list_refusal(design, path_list):
+    """20 to 24; the place of 22 to 24 is the path number."""
+    listed = listed_paths(path_list)
+    if len(listed) > MOST_PATHS:
+        return 20, 0
+    if len(path_list.flat) > MOST_LISTED_EDGES:
+        return 21, 0
+    for number, path in enumerate(listed):
+        if len(path) == 0:                                          # "an empty path"
+            return 22, number
+    for number, path in enumerate(listed):
+        if any(edge >= len(design.starts) for edge in path):        # "an edge number not below m"
+            return 23, number
+    for number, path in enumerate(listed):
+        # "each edge starting where the one before ends"
+        if any(design.ends[edge] != design.starts[after] for edge, after in zip(path, path[1:])):
+            return 24, number
+    return None
+
+def allowed_time_refusal(allowed_time):
+    return (25, 0) if allowed_time > MOST_ALLOWED_TIME else None
+
+def is_well_formed(design, graph):
+    """"A well-formed true graph", sentence by sentence; for any graph, made here or not."""
+    nodes, copies = graph.copy_nodes, range(len(graph.copy_nodes))
+    edges = list(zip(graph.starts, graph.ends, graph.design_edges))
+    # "has at most 16,384 copies and 65,536 edges"
+    if len(nodes) > MOST_COPIES or len(edges) > MOST_GRAPH_EDGES:
+        return False
+    # "copies name existing nodes and never fall in node number"
+    if any(node >= design.nodes for node in nodes) or list(nodes) != sorted(nodes):
+        return False
+    for start, end, design_edge in edges:
+        # "edges join existing copies, name a design edge"
+        if start not in copies or end not in copies or design_edge >= len(design.starts):
+            return False
+        # "with the nodes of those copies as its ends"
+        if (nodes[start], nodes[end]) != (design.starts[design_edge], design.ends[design_edge]):
+            return False
+    # "and rise strictly in the order above" (end copy, then design edge)
+    order = [(end, design_edge) for _, end, design_edge in edges]
+    if any(earlier >= later for earlier, later in zip(order, order[1:])):
+        return False
+    # "a sink has at most one copy"
+    has_edge_in, has_edge_out = set(design.ends), set(design.starts)
+    sink_copies = [node for node in nodes if node not in has_edge_out]
+    if len(sink_copies) != len(set(sink_copies)):
+        return False
+    # "a copy of a node that is no source has an edge in, and of a node that is no sink an edge out"
+    entered, left = set(graph.ends), set(graph.starts)
+    return all((nodes[copy] not in has_edge_in or copy in entered) and
+               (nodes[copy] not in has_edge_out or copy in left) for copy in copies)
+
+def graph_refusal(design, graph):
+    return None if is_well_formed(design, graph) else (32, 0)
+
+def candidates(design, path_list, worked_on):
+    """"a candidate is one per copy (or node), and one more per listed edge, not first in its
+    path, that starts at its node" """
+    not_first = [edge for path in listed_paths(path_list) for edge in path[1:]]
+    return sum(1 + sum(1 for edge in not_first if design.starts[edge] == node)
+               for node in worked_on.copy_nodes)
+
+def scratch_refusal(design, path_list, worked_on, scratch_words):
+    """31: "shorter than 16 words of 32 bits for each candidate, listed edge and edge of the
+    graph worked on" """
+    units = candidates(design, path_list, worked_on) + len(path_list.flat) + len(worked_on.starts)
+    return (31, 0) if scratch_words < 16 * units else None
+
+def room_refusal(graph, room):
+    """33, 34: "Room is the lent length, at most 16,384 and 65,536." """
+    if len(graph.copy_nodes) > min(room.copies, MOST_COPIES):
+        return 33, 0
+    if len(graph.starts) > min(room.starts, MOST_GRAPH_EDGES):
+        return 34, 0
+    return None
+
+# ---- Removal, and a series of removals ----------------------------------------------------
+
+def removal(design, path_list, earlier, scratch_words, room, allowed_time=None):
+    """One call: from the design (earlier None) or from an earlier true graph. T is None for
+    the slice calls, which do not take it; the deck program and the C call give it ("25
+    included"). "Slice calls test 30, then 10 to 14, 20 to 25, 32, 31, 33, 34" """
+    groups = [design_slices(design), room[1:]]
+    if earlier is not None:
+        groups.append(graph_slices(earlier))
+    refuse(slices_refusal(groups, path_list))
+    refuse(design_refusal(design))
+    refuse(list_refusal(design, path_list))
+    if allowed_time is not None:
+        refuse(allowed_time_refusal(allowed_time))
+    if earlier is not None:
+        refuse(graph_refusal(design, earlier))
+    worked_on = design_as_graph(design) if earlier is None else earlier
+    refuse(scratch_refusal(design, path_list, worked_on, scratch_words))
+    result = true_graph(design, path_list, earlier)
+    refuse(room_refusal(result, room))
+    return result
+
+def scratch_after(before, refusal):
+    """"Scratch is all zero after success and after 33, 34 or 35, and unchanged after the others." """
+    if refusal is None or refusal[0] in (33, 34, 35):
+        return [0] * len(before)
+    return list(before)
+
+def lent_after(before, result):
+    """"Result places past the result are unchanged." (After a refusal: all of them.)"""
+    return list(result) + list(before[len(result):])
+
+def run_series(design, calls):
+    """The series as it runs: what each call is refused with (None: not refused), and the
+    graph held. "It starts with no graph held. Each works on the design while none is held,
+    and after that on the graph held." "a refused one leaves it" """
+    held, refusals = None, []
+    for call in calls:
+        try:
+            held = removal(design, call.path_list, held, call.scratch_words, call.room)
+            refusals.append(None)
+        except Refused as refused:
+            refusals.append(refused.refusal)
+    return refusals, held
+
+def series_from_calls_alone(design, calls):
+    """The refusals "from the calls alone": "once a graph is held, the graph worked on is there
+    the true graph of the design and the whole list so far." Returns them, and the whole list
+    (None while no graph is held)."""
+    whole, refusals = None, []
+    for call in calls:
+        worked_on = None if whole is None else true_graph(design, whole)
+        refusal = refusal_of(removal, design, call.path_list, worked_on, call.scratch_words, call.room)
+        refusals.append(refusal)
+        if refusal is None:
+            # "the lists of the unrefused removals, in order, put end to end"
+            before = whole or PathList([], [])
+            whole = PathList(list(before.lengths) + list(call.path_list.lengths),
+                             list(before.flat) + list(call.path_list.flat))
+    return refusals, whole
+
+def rests_from(design, graph):
+    """For each copy the set of all that paths of the graph follow from it on. In a well-formed
+    graph two copies of one node never share a rest (a sink has one copy, and end copy and
+    design edge settle the edge), so the set names the copy, whatever its number."""
+    rests = [set() for _ in graph.copy_nodes]
+    for path in complete_paths(design, graph):
+        for position, copy in enumerate(copies_along(path)):
+            rests[copy].add(design_edges_along(path)[position:])
+    return [(node, frozenset(rest)) for node, rest in zip(graph.copy_nodes, rests)]
+
+def same_within_nodes(design, first, second):
+    """Demand 3: same "count of copies, the node of each copy number and the count of edges",
+    and "copies can be renumbered within each node so that the edges, as start copy, end copy
+    and design edge, are the same set". Both graphs well formed: the renumbering is forced."""
+    if list(first.copy_nodes) != list(second.copy_nodes) or len(first.starts) != len(second.starts):
+        return False
+    number_in_second = {name: number for number, name in enumerate(rests_from(design, second))}
+    renumber = [number_in_second.get(name) for name in rests_from(design, first)]
+    if None in renumber or sorted(renumber) != list(range(len(renumber))):
+        return False
+    return ({(renumber[start], renumber[end], design_edge)
+             for start, end, design_edge in zip(first.starts, first.ends, first.design_edges)}
+            == set(zip(second.starts, second.ends, second.design_edges)))
+
+# ---- Times -------------------------------------------------------------------------------
+
+def copy_times(design, graph, allowed_time):
+    """"arrival is the largest delay of a path from a source copy (0 at a source copy);
+    required is the smallest of T less the delay of a path to a sink copy (T at a sink copy);
+    slack is required less arrival". In a well-formed graph every copy is on a complete path."""
+    reached = [[] for _ in graph.copy_nodes]
+    to_go = [[] for _ in graph.copy_nodes]
+    for path in complete_paths(design, graph):
+        delays = [design.delays[design_edge] for design_edge in design_edges_along(path)]
+        for position, copy in enumerate(copies_along(path)):
+            reached[copy].append(sum(delays[:position]))
+            to_go[copy].append(allowed_time - sum(delays[position:]))
+    return [Times(max(into), min(left), min(left) - max(into)) for into, left in zip(reached, to_go)]
+
+def times(design, graph, allowed_time, times_lengths):
+    """The call for the times at copies; times_lengths are those of its three result slices."""
+    refuse(slices_refusal([design_slices(design), graph_slices(graph),
+                           (len(graph.copy_nodes),) + tuple(times_lengths)]))
+    refuse(design_refusal(design))
+    refuse(allowed_time_refusal(allowed_time))
+    refuse(graph_refusal(design, graph))
+    return copy_times(design, graph, allowed_time)
+
+def node_record(nodes, copy_nodes, arrivals, requireds, slacks, node):
+    """"the largest arrival, the smallest required and the smallest slack of its copies", or
+    none (None) "when it has no copy or is not below n"."""
+    refuse(slices_refusal([(len(copy_nodes), len(arrivals), len(requireds), len(slacks))]))
+    if nodes > MOST_NODES:
+        raise Refused(10)
+    copies = [copy for copy, of_node in enumerate(copy_nodes) if of_node == node]
+    if not copies or node >= nodes:
+        return None
+    return Times(max(arrivals[copy] for copy in copies), min(requireds[copy] for copy in copies),
+                 min(slacks[copy] for copy in copies))
+
+# ---- Packed form ---------------------------------------------------------------------------
+
+def read_number(data, place):
+    """(number, place after it), or refused 1 or 2."""
+    value = 0
+    for group in range(5):
+        if place + group >= len(data):
+            raise Refused(1, len(data))         # "bytes end inside a number ...; offset, the length"
+        byte = data[place + group]
+        if group == 4 and byte > 0x0F:          # "a fifth byte above hexadecimal 0F is too large
+            raise Refused(2, place)             #  even as the last byte"
+        value += (byte & 0x7F) << (7 * group)   # "groups of seven bits, lowest group first"
+        if byte < 0x80:                         # "the top bit of a byte set when more follow"
+            if byte == 0 and group > 0:         # "shortest form only"
+                raise Refused(2, place)
+            return value, place + group + 1
+    raise AssertionError("a fifth byte at most 0F is a last byte")
+
+def write_number(value):
+    assert 0 <= value < 2 ** 32
+    packed = []
+    while value >= 0x80:
+        packed.append(0x80 | value & 0x7F)
+        value >>= 7
+    return bytes(packed + [value])
+
+def pack_delay(delay):
+    """"A delay d is packed as 2d, or -2d - 1 when negative." """
+    return 2 * delay if delay >= 0 else -2 * delay - 1
+
+def unpack_delay(packed):
+    return packed // 2 if packed % 2 == 0 else -((packed + 1) // 2)
+
+class Reader:
+    """The lent bytes and a place in them."""
+    def __init__(self, data):
+        self.data, self.place = data, 0
+
+    def number(self):
+        value, self.place = read_number(self.data, self.place)
+        return value
+
+    def count(self, *limits):
+        """A count, tested as it is met: limits are (most, refusal number), in order."""
+        value = self.number()
+        for most, number in limits:
+            if value > most:
+                raise Refused(number)
+        return value
+
+    def end(self):
+        if self.place < len(self.data):
+            raise Refused(3, self.place)        # "bytes remain; offset of the first"
+
+def packed(numbers, room):
+    data = b"".join(write_number(number) for number in numbers)
+    if len(data) > room:
+        raise Refused(35)                       # "the packed result is longer than its room"
+    return data
+
+def read_deck(data, tables):
+    """"After 30 the deck reader meets 1, 2, the counts (10, 11, 20, 21, and after 11, 20 and
+    21 the 36 of that count) in file order, then 3" """
+    refuse(slices_refusal([tables[:3]]))
+    reader = Reader(data)
+    nodes = reader.count((MOST_NODES, 10))
+    edges = []
+    for _ in range(reader.count((MOST_EDGES, 11), (tables.starts, 36))):
+        edges.append((reader.number(), reader.number(), unpack_delay(reader.number())))
+    lengths, flat, total = [], [], 0
+    for _ in range(reader.count((MOST_PATHS, 20), (tables.paths, 36))):
+        # "The path lengths are summed as they are met, for 21 and its 36."
+        lengths.append(reader.number())
+        total += lengths[-1]
+        refuse((21, 0) if total > MOST_LISTED_EDGES else (36, 0) if total > tables.listed else None)
+        flat.extend(reader.number() for _ in range(lengths[-1]))
+    allowed_time = reader.number()
+    reader.end()
+    starts, ends, delays = ([edge[part] for edge in edges] for part in range(3))
+    return Deck(Design(nodes, starts, ends, delays), PathList(lengths, flat), allowed_time)
+
+def deck_numbers(deck):
+    """"Deck: n, m, then start, end, delay for each edge; the count of paths, then for each its
+    length and edges; T." """
+    design, path_list, allowed_time = deck
+    numbers = [design.nodes, len(design.starts)]
+    for start, end, delay in zip(design.starts, design.ends, design.delays):
+        numbers += [start, end, pack_delay(delay)]
+    numbers.append(len(path_list.lengths))
+    for path in listed_paths(path_list):
+        numbers += [len(path), *path]
+    return numbers + [allowed_time]
+
+def write_deck(deck, room):
+    """"Writers test only 30, the counts (10, 11, 20, 21; 32 for a graph) and 35." """
+    design, path_list, _ = deck
+    refuse(slices_refusal([design_slices(design)], path_list))
+    for count, most, number in ((design.nodes, MOST_NODES, 10), (len(design.starts), MOST_EDGES, 11),
+                                (len(path_list.lengths), MOST_PATHS, 20),
+                                (len(path_list.flat), MOST_LISTED_EDGES, 21)):
+        if count > most:
+            raise Refused(number)
+    return packed(deck_numbers(deck), room)
+
+def write_graph(graph, room):
+    """"Packed true graph: count of copies, the node of each; count of edges, then start copy,
+    end copy, design edge of each." """
+    refuse(slices_refusal([graph_slices(graph)]))
+    if len(graph.copy_nodes) > MOST_COPIES or len(graph.starts) > MOST_GRAPH_EDGES:
+        raise Refused(32)
+    numbers = [len(graph.copy_nodes), *graph.copy_nodes, len(graph.starts)]
+    for edge in zip(graph.starts, graph.ends, graph.design_edges):
+        numbers += edge
+    return packed(numbers, room)
+
+def read_graph(data, room):
+    """"at each count as it is met, 32 above 16,384 copies or 65,536 edges, then 33 or 34 for
+    its lent room; 3 comes after them" """
+    refuse(slices_refusal([room[1:]]))
+    reader = Reader(data)
+    copy_count = reader.count((MOST_COPIES, 32), (room.copies, 33))
+    copy_nodes = [reader.number() for _ in range(copy_count)]
+    edge_count = reader.count((MOST_GRAPH_EDGES, 32), (room.starts, 34))
+    edges = [(reader.number(), reader.number(), reader.number()) for _ in range(edge_count)]
+    reader.end()
+    return Graph(copy_nodes, *([edge[part] for edge in edges] for part in range(3)))
+
+# ---- The deck program and the C call -------------------------------------------------------
+
+def deck_and_graph(data):
+    """What both do: 4 "before all", reading, then the tests "once, after reading, 25 included"."""
+    if len(data) > MOST_DECK_BYTES:
+        raise Refused(4, MOST_DECK_BYTES)
+    deck = read_deck(data, PROGRAM_TABLES)
+    graph = removal(deck.design, deck.path_list, None, PROGRAM_SCRATCH, PROGRAM_ROOM, deck.allowed_time)
+    return deck, graph
+
+def deck_program(data):
+    """All that the deck program prints."""
+    try:
+        deck, graph = deck_and_graph(data)
+    except Refused as refused:
+        return "refused %d at %d\n" % refused.refusal
+    at_copies = copy_times(deck.design, graph, deck.allowed_time)
+    lines = ["copies %d edges %d" % (len(graph.copy_nodes), len(graph.starts))]
+    for copy, (node, at_copy) in enumerate(zip(graph.copy_nodes, at_copies)):
+        lines.append("copy %d node %d arrival %d required %d slack %d" % (copy, node, *at_copy))
+    for edge in zip(graph.starts, graph.ends, graph.design_edges):
+        lines.append("edge %d %d %d" % edge)
+    columns = [[at_copy[part] for at_copy in at_copies] for part in range(3)]
+    for node in range(deck.design.nodes):
+        record = node_record(deck.design.nodes, graph.copy_nodes, *columns, node)
+        lines.append("node %d none" % node if record is None else "node %d %d %d %d" % (node, *record))
+    return "\n".join(lines) + "\n"
+
+def c_call(data, room):
+    """"one signed 64-bit number: the length, or on a refusal minus the sum of the number and
+    256 times the place"; and the bytes written (none on a refusal)."""
+    try:
+        result = write_graph(deck_and_graph(data)[1], room)
+    except Refused as refused:
+        number, place = refused.refusal
+        return -(number + 256 * place), b""
+    return len(result), result
+
+def main(arguments):
+    data = sys.stdin.buffer.read()
+    if len(arguments) == 2 and arguments[0] == "--c":
+        number, result = c_call(data, int(arguments[1]))
+        print(number)
+        print(result.hex())
+    elif not arguments:
+        sys.stdout.write(deck_program(data))
+    else:
+        sys.exit("usage: walker.py [--c ROOM] < deck")
+
+if __name__ == "__main__":
+    main(sys.argv[1:])
