@@ -5,3 +5,4 @@ pub mod Sorting
 pub mod Runs
 pub mod Counting
 pub mod Refusals
+pub mod Legal
