@@ -1,5 +1,5 @@
 -- What the theory asks of a graph of a design. The design as a graph has it, where document 01's tests 10 to 14 pass, and
--- so has every well-formed true graph (32).
+-- so has every well-formed true graph (32); and what those tests, and 20 to 24, say as statements.
 use Prim.Native.Nat.{ℕ, zero, suc, _+_, _≤_, _<_}
 use mathlib.Core.Path.{_≡_, refl, sym, ap, _∙_, subst}
 use mathlib.Core.Logic.{_⊎_, inl, inr, ⊎-elim, _↔_}
@@ -12,12 +12,13 @@ use lib.IntN.{natAbs}
 use lib.ListN.{length, getD}
 use Rattle.timing.specs.declared.Verdict.{Verdict}
 use Rattle.timing.specs.declared.Verdict.the-variants.{Passed}
-use Rattle.timing.specs.Lists.{allOf, countOf, eachNext, upto}
+use Rattle.timing.specs.Lists.{isNil, anyOf, allOf, countOf, eachNext, upto, sum}
 use Rattle.timing.specs.Graphs.{Design, edgeStart, edgeEnd, edgeDelay, Edge, edge, Graph, edgesOf, designGraph, nodeOf, startsAt, endsAt}
+use Rattle.timing.specs.Marks.{PathList, pathsOf}
 use Rattle.timing.specs.WellFormed.{fewEnough, nodesFit, edgeFits, edgeRises, isSource, isSink, oneSinkCopy, linked, wellFormed}
 use Rattle.timing.specs.Refusals.{unless, firstBad, _then_}
-use Rattle.timing.specs.Tests.{designSizes, nodeCount, designCounts, strays, falls, tooSlow, designTests}
-use Rattle.theorems.proofs.Lists.{and-intro, and-left, and-right, or-cases, or-left, or-right, holds, mem-upto, of-upto}
+use Rattle.timing.specs.Tests.{designSizes, listSizes, nodeCount, designCounts, strays, falls, tooSlow, designTests, listCounts, meets, listTests}
+use Rattle.theorems.proofs.Lists.{and-intro, and-left, and-right, or-cases, or-left, or-right, holds, fails, anyOf-intro, mem-upto, of-upto}
 use Rattle.theorems.proofs.Sorting.{Sorted}
 use Rattle.theorems.proofs.Runs.{Rising}
 use Rattle.theorems.proofs.Counting.{one, count-cons, count-positive, Rises, rises-next, next-sorted}
@@ -410,3 +411,41 @@ formed-legal D G fit w =
 
 pub wellFormed-legal : (D : Design) (G : Graph) → designSizes D ≡ Passed → designTests D ≡ Passed → T (wellFormed D G) → Legal D G
 wellFormed-legal D G s t w = formed-legal D G (design-fits D s t) (formed D G w)
+
+-- what tests 30 and 20 to 24 say of a list of paths
+pub record ListFits (D : Design) (L : PathList) : Type 0 where
+  pub total : sum (L .lengths) ≡ length (L .edges)
+  pub fewPaths : length (L .lengths) ≤ 1024
+  pub fewEdges : length (L .edges) ≤ 8192
+  pub filled : (p : List ℕ) → List·Memᴰ p (pathsOf L) → isNil p ≡ false
+  pub named : (p : List ℕ) → List·Memᴰ p (pathsOf L) → (k : ℕ) → List·Memᴰ k p → k < length (D .starts)
+  pub joined : (p : List ℕ) → List·Memᴰ p (pathsOf L) → T (eachNext (meets D) p)
+
+-- a member that does not pass is found
+pub anyOf-false : {A : Type 0} (p : A → Bool) (l : List A) → anyOf (λ x. not (p x)) l ≡ false → (x : A) → List·Memᴰ x l → T (p x)
+anyOf-false p l e x m = go (p x) refl
+  where
+    go : (b : Bool) → p x ≡ b → T b
+    go true q = tt
+    go false q = fails (anyOf (λ y. not (p y)) l) e (anyOf-intro (λ y. not (p y)) m (rw q tt))
+
+pub list-fits : (D : Design) (L : PathList) → listSizes L ≡ Passed → listTests D L ≡ Passed → ListFits D L
+unfolding listTests
+list-fits D L s t =
+    let m = length (D .starts) in
+    let K = pathsOf L in
+    let t₂₃ : Verdict = firstBad 23 (anyOf (λ k. not (ltb k m))) 0 K in
+    let t₂₄ : Verdict = firstBad 24 (λ p. not (eachNext (meets D) p)) 0 K in
+    let r = then-passed (listCounts L) (firstBad 22 isNil 0 K then t₂₃ then t₂₄) t in
+    let counts = then-passed (unless 20 (leb (length (L .lengths)) 1024)) (unless 21 (leb (length (L .edges)) 8192)) (r .0) in
+    let q = then-passed (firstBad 22 isNil 0 K) (t₂₃ then t₂₄) (r .1) in
+    let u = then-passed t₂₃ t₂₄ (q .1) in
+    record {
+      total = eqb→eq (sum (L .lengths)) (length (L .edges)) (holds _ (unless-passed 30 (eqb (sum (L .lengths)) (length (L .edges))) s));
+      fewPaths = leb→le (length (L .lengths)) 1024 (holds _ (unless-passed 20 (leb (length (L .lengths)) 1024) (counts .0)));
+      fewEdges = leb→le (length (L .edges)) 8192 (holds _ (unless-passed 21 (leb (length (L .edges)) 8192) (counts .1)));
+      filled = firstBad-passed 22 isNil 0 K (q .0);
+      named = λ p i k j.
+          ltb→lt k m (anyOf-false (λ k. ltb k m) p (firstBad-passed 23 (anyOf (λ k. not (ltb k m))) 0 K (u .0) p i) k j);
+      joined = λ p i. not-false (eachNext (meets D) p) (firstBad-passed 24 (λ p. not (eachNext (meets D) p)) 0 K (u .1) p i);
+    }

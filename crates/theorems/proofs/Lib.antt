@@ -6,3 +6,4 @@ pub mod Runs
 pub mod Counting
 pub mod Refusals
 pub mod Legal
+pub mod Size
