@@ -5,5 +5,6 @@ pub mod Sorting
 pub mod Runs
 pub mod Counting
 pub mod Refusals
+pub mod Tested
 pub mod Legal
 pub mod Size

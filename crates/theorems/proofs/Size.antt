@@ -1,27 +1,27 @@
 -- Z: how many copies a true graph has. Every copy is one of the candidates that test 31 counts, and over the design these
 -- are the nodes and the listed edges that are not first in their path.
-use Prim.Native.Nat.{ℕ, zero, suc, _+_, _≤_, _<_, min}
+use Prim.Native.Nat.{ℕ, zero, suc, _+_, _≤_, _<_}
 use mathlib.Core.Path.{_≡_, refl, sym, ap, ap₂, _∙_, subst}
-use mathlib.Core.Logic.{_⊎_, inl, inr, ⊎-elim, _↔_}
+use mathlib.Core.Logic.{inl, inr, ⊎-elim}
 use mathlib.Core.Bool.{Bool, true, false}
-use mathlib.Core.List.{List, [], _∷_, _++_, map, flatMap, List·Memᴰ, List·Memᴰ·head, List·Memᴰ·tail, List·Memᴰ·not-nil, List·Memᴰ·cases-cons, Memᴰ·append-left, Memᴰ·append-right, Memᴰ·map, head-eq-of-cons-eq, tail-eq-of-cons-eq, cons≢nil}
+use mathlib.Core.List.{List, [], _∷_, _++_, map, flatMap, List·Memᴰ, List·Memᴰ·head, List·Memᴰ·tail, List·Memᴰ·not-nil, List·Memᴰ·cases-cons, Memᴰ·append-left, Memᴰ·append-right, List·Memᴰ·append-cases, Memᴰ·map, head-eq-of-cons-eq, tail-eq-of-cons-eq, cons≢nil}
 use native.Mathlib.Omega.{arith}
-use lib.Dec.{T, eqb, eqb→eq, eqb-refl}
+use lib.Dec.{T, eqb, eqb-refl}
 use lib.ListN.{length, getD, take, drop, length-append, length-map, length-take, length-drop}
 use borrow.Author.Tests.{eqb-true, eqb-false}
 use Rattle.timing.specs.declared.Verdict.the-variants.{Passed}
 use Rattle.timing.specs.Lists.{isNil, keep, countOf, upto, sum}
 use Rattle.timing.specs.Graphs.{Design, edgeStart, Edge, Graph, designGraph, nodeOf, Run, completeRuns, names}
 use Rattle.timing.specs.Marks.{PathList, cut, pathsOf, permitted, suffixes, tailsOf, tails, mark}
-use Rattle.timing.specs.Sorting.{sort}
 use Rattle.timing.specs.TrueGraphs.{Copy, copyBefore, copyAt, copiesOn, permittedRuns, copies, trueGraph}
 use Rattle.timing.specs.Tests.{designSizes, listSizes, designTests, listTests, candidates}
-use Rattle.theorems.proofs.Lists.{of-flatMap, mem-keep, of-keep, of-upto}
+use Rattle.theorems.proofs.Lists.{of-flatMap, mem-keep, of-keep}
 use Rattle.theorems.proofs.Marks.{Prefix, Tail, mark-tail, mark-prefix}
 use Rattle.theorems.proofs.Sorting.{Linear, sort-mem, sort-sorted, by-key}
 use Rattle.theorems.proofs.Runs.{Rising, Way, complete-runs}
 use Rattle.theorems.proofs.Counting.{one, count-cons, count-append, Nodup, length-le, sorted-nodup}
-use Rattle.theorems.proofs.Legal.{Legal, DesignFits, design-fits, length-upto, fits-legal, ListFits, list-fits}
+use Rattle.theorems.proofs.Tested.{DesignFits, design-fits, ListFits, list-fits}
+use Rattle.theorems.proofs.Legal.{Legal, length-upto, fits-legal}
 
 -- copies are told apart by their key
 copies-linear : Linear copyBefore
@@ -203,6 +203,13 @@ spread f n (x ∷ l) h =
 pub record Paths (D : Design) (K : List (List ℕ)) : Type 0 where
   pub filled : (p : List ℕ) → List·Memᴰ p K → isNil p ≡ false
   pub named : (p : List ℕ) → List·Memᴰ p K → (k : ℕ) → List·Memᴰ k p → k < length (D .starts)
+
+pub paths-append : (D : Design) (K L : List (List ℕ)) → Paths D K → Paths D L → Paths D (K ++ L)
+paths-append D K L k l =
+    record {
+      filled = λ p m. ⊎-elim (k .filled p) (l .filled p) (List·Memᴰ·append-cases K m);
+      named = λ p m. ⊎-elim (k .named p) (l .named p) (List·Memᴰ·append-cases K m);
+    }
 
 mem-rest : {x : ℕ} (p : List ℕ) → List·Memᴰ x (drop 1 p) → List·Memᴰ x p
 mem-rest [] m = m
