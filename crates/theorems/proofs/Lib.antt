@@ -2,7 +2,12 @@
 pub mod Lists
 pub mod Marks
 pub mod Sorting
+pub mod Counting
 pub mod Runs
 pub mod Copies
 pub mod Stands
 pub mod Parts
+pub mod Refusals
+pub mod Tested
+pub mod Legal
+pub mod Size

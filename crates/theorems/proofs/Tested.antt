@@ -1,0 +1,215 @@
+-- What document 01's tests say where they pass, as statements: 30 and 10 to 14 of a design, 30 and 20 to 24 of a list of
+-- paths, 32 of a graph.
+use Prim.Native.Nat.{ℕ, _≤_, _<_}
+use mathlib.Core.Path.{_≡_, refl, sym, subst}
+use mathlib.Core.Bool.{Bool, true, false, not, _&&_}
+use mathlib.Core.List.{List, List·Memᴰ}
+use native.Mathlib.Omega.{arith}
+use lib.Dec.{T, eqb, ltb, leb, eqb→eq, eqb-refl, leb→le, ltb→lt, lt→ltb}
+use lib.IntN.{natAbs}
+use lib.ListN.{length}
+use Rattle.timing.specs.declared.Verdict.{Verdict}
+use Rattle.timing.specs.declared.Verdict.the-variants.{Passed}
+use Rattle.timing.specs.Lists.{isNil, anyOf, allOf, eachNext, upto, sum}
+use Rattle.timing.specs.Graphs.{Design, edgeStart, edgeEnd, edgeDelay, Edge, Graph, nodeOf}
+use Rattle.timing.specs.Marks.{PathList, pathsOf}
+use Rattle.timing.specs.WellFormed.{fewEnough, nodesFit, edgeFits, edgeRises, oneSinkCopy, linked, wellFormed}
+use Rattle.timing.specs.Refusals.{unless, firstBad, _then_}
+use Rattle.timing.specs.Tests.{designSizes, listSizes, nodeCount, designCounts, strays, falls, tooSlow, designTests, listCounts, meets, listTests}
+use Rattle.theorems.proofs.Lists.{and-intro, and-left, and-right, holds, fails, anyOf-intro, mem-upto, of-upto}
+use Rattle.theorems.proofs.Refusals.{then-passed, unless-passed, firstBad-passed, allOf-elim, allOf-intro}
+
+-- what tests 30 and 10 to 14 say of a design
+pub record DesignFits (D : Design) : Type 0 where
+  pub ends : length (D .ends) ≡ length (D .starts)
+  pub delays : length (D .delays) ≡ length (D .starts)
+  pub fewNodes : D .nodes ≤ 4096
+  pub fewEdges : length (D .starts) ≤ 16384
+  pub starts-in : (k : ℕ) → k < length (D .starts) → edgeStart D k < D .nodes
+  pub ends-in : (k : ℕ) → k < length (D .starts) → edgeEnd D k < D .nodes
+  pub rises : (k : ℕ) → k < length (D .starts) → edgeStart D k < edgeEnd D k
+  pub slow : (k : ℕ) → k < length (D .starts) → natAbs (edgeDelay D k) ≤ 1000000
+
+not-false : (b : Bool) → not b ≡ false → T b
+not-false true e = tt
+not-false false e = absurd (subst T e tt)
+
+pub design-fits : (D : Design) → designSizes D ≡ Passed → designTests D ≡ Passed → DesignFits D
+unfolding designTests
+design-fits D s t =
+    record {
+      ends = sym (eqb→eq m (length (D .ends)) (and-left (eqb m (length (D .ends))) (eqb m (length (D .delays))) sizes));
+      delays = sym (eqb→eq m (length (D .delays)) (and-right (eqb m (length (D .ends))) (eqb m (length (D .delays))) sizes));
+      fewNodes = leb→le (D .nodes) 4096 (holds (leb (D .nodes) 4096) (unless-passed 10 (leb (D .nodes) 4096) (counts .0)));
+      fewEdges = leb→le m 16384 (holds (leb m 16384) (unless-passed 11 (leb m 16384) (counts .1)));
+      starts-in = λ k h. ltb→lt _ _ (and-left (ltb (edgeStart D k) (D .nodes)) (ltb (edgeEnd D k) (D .nodes)) (inside k h));
+      ends-in = λ k h. ltb→lt _ _ (and-right (ltb (edgeStart D k) (D .nodes)) (ltb (edgeEnd D k) (D .nodes)) (inside k h));
+      rises = λ k h. ltb→lt _ _ (not-false (ltb (edgeStart D k) (edgeEnd D k)) (firstBad-passed 13 (falls D) 0 ks (after13 .0) k (mem k h)));
+      slow = λ k h. leb→le _ _ (not-false (leb (natAbs (edgeDelay D k)) 1000000) (firstBad-passed 14 (tooSlow D) 0 ks (after13 .1) k (mem k h)));
+    }
+  where
+    m : ℕ
+    m = length (D .starts)
+
+    ks : List ℕ
+    ks = upto m 0
+
+    mem : (k : ℕ) → k < m → List·Memᴰ k ks
+    mem k h = mem-upto m 0 k (omega arith) (omega arith)
+
+    sizes : T (eqb m (length (D .ends)) && eqb m (length (D .delays)))
+    sizes = holds (eqb m (length (D .ends)) && eqb m (length (D .delays))) (unless-passed 30 (eqb m (length (D .ends)) && eqb m (length (D .delays))) s)
+
+    after11 : (designCounts D ≡ Passed) × (_≡_ {A = Verdict} (firstBad 12 (strays D) 0 ks then firstBad 13 (falls D) 0 ks then firstBad 14 (tooSlow D) 0 ks) Passed)
+    after11 = then-passed (designCounts D) (firstBad 12 (strays D) 0 ks then firstBad 13 (falls D) 0 ks then firstBad 14 (tooSlow D) 0 ks) t
+
+    counts : (nodeCount (D .nodes) ≡ Passed) × (unless 11 (leb m 16384) ≡ Passed)
+    counts = then-passed (nodeCount (D .nodes)) (unless 11 (leb m 16384)) (after11 .0)
+
+    after12 : (firstBad 12 (strays D) 0 ks ≡ Passed) × (_≡_ {A = Verdict} (firstBad 13 (falls D) 0 ks then firstBad 14 (tooSlow D) 0 ks) Passed)
+    after12 = then-passed (firstBad 12 (strays D) 0 ks) (firstBad 13 (falls D) 0 ks then firstBad 14 (tooSlow D) 0 ks) (after11 .1)
+
+    after13 : (firstBad 13 (falls D) 0 ks ≡ Passed) × (firstBad 14 (tooSlow D) 0 ks ≡ Passed)
+    after13 = then-passed (firstBad 13 (falls D) 0 ks) (firstBad 14 (tooSlow D) 0 ks) (after12 .1)
+
+    inside : (k : ℕ) → k < m → T (ltb (edgeStart D k) (D .nodes) && ltb (edgeEnd D k) (D .nodes))
+    inside k h = not-false (ltb (edgeStart D k) (D .nodes) && ltb (edgeEnd D k) (D .nodes)) (firstBad-passed 12 (strays D) 0 ks (after12 .0) k (mem k h))
+
+-- what tests 30 and 20 to 24 say of a list of paths
+pub record ListFits (D : Design) (L : PathList) : Type 0 where
+  pub total : sum (L .lengths) ≡ length (L .edges)
+  pub fewPaths : length (L .lengths) ≤ 1024
+  pub fewEdges : length (L .edges) ≤ 8192
+  pub filled : (p : List ℕ) → List·Memᴰ p (pathsOf L) → isNil p ≡ false
+  pub named : (p : List ℕ) → List·Memᴰ p (pathsOf L) → (k : ℕ) → List·Memᴰ k p → k < length (D .starts)
+  pub joined : (p : List ℕ) → List·Memᴰ p (pathsOf L) → T (eachNext (meets D) p)
+
+-- a member that does not pass is found
+pub anyOf-false : {A : Type 0} (p : A → Bool) (l : List A) → anyOf (λ x. not (p x)) l ≡ false → (x : A) → List·Memᴰ x l → T (p x)
+anyOf-false p l e x m = go (p x) refl
+  where
+    go : (b : Bool) → p x ≡ b → T b
+    go true q = tt
+    go false q = fails (anyOf (λ y. not (p y)) l) e (anyOf-intro (λ y. not (p y)) m (rw q tt))
+
+pub list-fits : (D : Design) (L : PathList) → listSizes L ≡ Passed → listTests D L ≡ Passed → ListFits D L
+unfolding listTests
+list-fits D L s t =
+    let m = length (D .starts) in
+    let K = pathsOf L in
+    let t₂₃ : Verdict = firstBad 23 (anyOf (λ k. not (ltb k m))) 0 K in
+    let t₂₄ : Verdict = firstBad 24 (λ p. not (eachNext (meets D) p)) 0 K in
+    let r = then-passed (listCounts L) (firstBad 22 isNil 0 K then t₂₃ then t₂₄) t in
+    let counts = then-passed (unless 20 (leb (length (L .lengths)) 1024)) (unless 21 (leb (length (L .edges)) 8192)) (r .0) in
+    let q = then-passed (firstBad 22 isNil 0 K) (t₂₃ then t₂₄) (r .1) in
+    let u = then-passed t₂₃ t₂₄ (q .1) in
+    record {
+      total = eqb→eq (sum (L .lengths)) (length (L .edges)) (holds _ (unless-passed 30 (eqb (sum (L .lengths)) (length (L .edges))) s));
+      fewPaths = leb→le (length (L .lengths)) 1024 (holds _ (unless-passed 20 (leb (length (L .lengths)) 1024) (counts .0)));
+      fewEdges = leb→le (length (L .edges)) 8192 (holds _ (unless-passed 21 (leb (length (L .edges)) 8192) (counts .1)));
+      filled = firstBad-passed 22 isNil 0 K (q .0);
+      named = λ p i k j.
+          ltb→lt k m (anyOf-false (λ k. ltb k m) p (firstBad-passed 23 (anyOf (λ k. not (ltb k m))) 0 K (u .0) p i) k j);
+      joined = λ p i. not-false (eachNext (meets D) p) (firstBad-passed 24 (λ p. not (eachNext (meets D) p)) 0 K (u .1) p i);
+    }
+
+-- what 32 says of an edge
+pub record EdgeFits (D : Design) (G : Graph) (e : Edge) : Type 0 where
+  pub start-in : e .start < length (G .nodes)
+  pub end-in : e .end < length (G .nodes)
+  pub named : e .name < length (D .starts)
+  pub starts : nodeOf G (e .start) ≡ edgeStart D (e .name)
+  pub ends : nodeOf G (e .end) ≡ edgeEnd D (e .name)
+
+and-four : (a b c d : Bool) → T (a && b && c && d) → T a × T b × T c × T d
+and-four a b c d t =
+    let t₁ = and-left (a && b && c) d t in
+    let t₂ = and-left (a && b) c t₁ in
+    (and-left a b t₂, and-right a b t₂, and-right (a && b) c t₁, and-right (a && b && c) d t)
+
+edge-fits : (D : Design) (G : Graph) (e : Edge) → T (edgeFits D G e) → EdgeFits D G e
+edge-fits D G e t =
+    let n = length (G .nodes) in
+    let a = ltb (e .start) n in
+    let b = ltb (e .end) n in
+    let c = ltb (e .name) (length (D .starts)) in
+    let d = eqb (nodeOf G (e .start)) (edgeStart D (e .name)) in
+    let f = eqb (nodeOf G (e .end)) (edgeEnd D (e .name)) in
+    let r = and-four a b c d (and-left (a && b && c && d) f t) in
+    record {
+      start-in = ltb→lt (e .start) n (r .0);
+      end-in = ltb→lt (e .end) n (r .1);
+      named = ltb→lt (e .name) (length (D .starts)) (r .2);
+      starts = eqb→eq (nodeOf G (e .start)) (edgeStart D (e .name)) (r .3);
+      ends = eqb→eq (nodeOf G (e .end)) (edgeEnd D (e .name)) (and-right (a && b && c && d) f t);
+    }
+
+-- what 32 says of a graph
+pub record Formed (D : Design) (G : Graph) : Type 0 where
+  pub few : T (fewEnough G)
+  pub below : T (allOf (λ v. ltb v (D .nodes)) (G .nodes))
+  pub order : T (eachNext leb (G .nodes))
+  pub fits : (e : Edge) → List·Memᴰ e (G .edges) → EdgeFits D G e
+  pub rises : T (eachNext edgeRises (G .edges))
+  pub one-sink : (v : ℕ) → v < D .nodes → T (oneSinkCopy D G v)
+  pub links : (c : ℕ) → c < length (G .nodes) → T (linked D G c)
+
+pub formed : (D : Design) (G : Graph) → T (wellFormed D G) → Formed D G
+unfolding wellFormed
+formed D G t =
+    let a = fewEnough G in
+    let b = nodesFit D G in
+    let c = allOf (edgeFits D G) (G .edges) in
+    let d = eachNext edgeRises (G .edges) in
+    let f = allOf (oneSinkCopy D G) (upto (D .nodes) 0) in
+    let g = allOf (linked D G) (upto (length (G .nodes)) 0) in
+    let t₁ = and-left (a && b && c && d && f) g t in
+    let r = and-four a b c d (and-left (a && b && c && d) f t₁) in
+    record {
+      few = r .0;
+      below = and-left (allOf (λ v. ltb v (D .nodes)) (G .nodes)) (eachNext leb (G .nodes)) (r .1);
+      order = and-right (allOf (λ v. ltb v (D .nodes)) (G .nodes)) (eachNext leb (G .nodes)) (r .1);
+      fits = λ e m. edge-fits D G e (allOf-elim (edgeFits D G) (G .edges) (r .2) m);
+      rises = r .3;
+      one-sink = λ v h.
+          allOf-elim (oneSinkCopy D G) (upto (D .nodes) 0) (and-right (a && b && c && d) f t₁) (mem-upto (D .nodes) 0 v (omega arith) (omega arith));
+      links = λ v h.
+          allOf-elim (linked D G) (upto (length (G .nodes)) 0) (and-right (a && b && c && d && f) g t)
+          (mem-upto (length (G .nodes)) 0 v (omega arith) (omega arith));
+    }
+
+-- and these make it pass
+fits-edge : (D : Design) (G : Graph) (e : Edge) → EdgeFits D G e → T (edgeFits D G e)
+fits-edge D G e r =
+    let n = length (G .nodes) in
+    let a = ltb (e .start) n in
+    let b = ltb (e .end) n in
+    let c = ltb (e .name) (length (D .starts)) in
+    let d = eqb (nodeOf G (e .start)) (edgeStart D (e .name)) in
+    let f = eqb (nodeOf G (e .end)) (edgeEnd D (e .name)) in
+    and-intro (a && b && c && d) f
+    (and-intro (a && b && c) d
+    (and-intro (a && b) c
+    (and-intro a b (lt→ltb (e .start) n (r .start-in)) (lt→ltb (e .end) n (r .end-in)))
+    (lt→ltb (e .name) (length (D .starts)) (r .named)))
+    (rw (r .starts) (eqb-refl (edgeStart D (e .name)))))
+    (rw (r .ends) (eqb-refl (edgeEnd D (e .name))))
+
+pub formed-passes : (D : Design) (G : Graph) → Formed D G → T (wellFormed D G)
+unfolding wellFormed
+formed-passes D G w =
+    let a = fewEnough G in
+    let b = nodesFit D G in
+    let c = allOf (edgeFits D G) (G .edges) in
+    let d = eachNext edgeRises (G .edges) in
+    let f = allOf (oneSinkCopy D G) (upto (D .nodes) 0) in
+    let g = allOf (linked D G) (upto (length (G .nodes)) 0) in
+    and-intro (a && b && c && d && f) g
+    (and-intro (a && b && c && d) f
+    (and-intro (a && b && c) d
+    (and-intro (a && b) c
+    (and-intro a b (w .few) (and-intro (allOf (λ v. ltb v (D .nodes)) (G .nodes)) (eachNext leb (G .nodes)) (w .below) (w .order)))
+    (allOf-intro (edgeFits D G) (G .edges) (λ e m. fits-edge D G e (w .fits e m))))
+    (w .rises))
+    (allOf-intro (oneSinkCopy D G) (upto (D .nodes) 0) (λ v m. w .one-sink v (omega (arith, of-upto (D .nodes) 0 v m .1)))))
+    (allOf-intro (linked D G) (upto (length (G .nodes)) 0) (λ v m. w .links v (omega (arith, of-upto (length (G .nodes)) 0 v m .1))))
