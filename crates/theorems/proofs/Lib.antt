@@ -3,3 +3,4 @@ pub mod Lists
 pub mod Marks
 pub mod Sorting
 pub mod Runs
+pub mod Extremes
