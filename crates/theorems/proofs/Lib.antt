@@ -4,3 +4,4 @@ pub mod Marks
 pub mod Sorting
 pub mod Runs
 pub mod Extremes
+pub mod Times
