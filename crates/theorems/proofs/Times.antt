@@ -7,15 +7,18 @@ use mathlib.Core.Logic.{_⊎_, inl, inr, ⊎-elim, _↔_}
 use mathlib.Core.Bool.{Bool, true, false, cond}
 use mathlib.Core.List.{List, [], _∷_, _++_, map, flatMap, List·Memᴰ, List·Memᴰ·head, List·Memᴰ·tail, List·Memᴰ·not-nil, Memᴰ·map, Memᴰ·of-map}
 use native.Mathlib.Omega.{arith}
+use native.Mathlib.Nat.{mul-suc, mul-le-mul-left}
 use lib.Dec.{T}
-use lib.IntN.{ℤ, pos, natAbs, _+ℤ_, _-ℤ_}
+use lib.IntN.{ℤ, pos, natAbs, negℤ, _+ℤ_, _-ℤ_}
 use lib.ListN.{length}
+use mir.Syntax.{w64}
+use mir.Val.{SFits}
 use Rattle.timing.specs.Lists.{isNil}
 use Rattle.timing.specs.Graphs.{Edge, Graph, edgesIn, edgesOut, startsAt, endsAt, runsTo, runsFrom, delayAlong}
 use Rattle.timing.specs.Times.{largest, smallest, arrivalAt, requiredAt, slackAt}
-use Rattle.timing.proofs.Ints.{up, dn, add-is, sub-parts, eq-parts}
+use Rattle.timing.proofs.Ints.{up, dn, add-is, sub-parts, eq-parts, abs-is, abs-add, abs-neg, sfits-parts}
 use Rattle.theorems.proofs.Lists.{mem-flatMap, of-flatMap}
-use Rattle.theorems.proofs.Runs.{Rising, Leads, Way, mem-in, mem-out, leads-then, leads-last, runs-to, runs-from}
+use Rattle.theorems.proofs.Runs.{Rising, Leads, Way, mem-in, mem-out, leads-then, leads-last, runs-to, runs-from, way-then}
 use Rattle.theorems.proofs.Extremes.{AtMost, AtLeast, Some, Best, best-moved, best-on, best-kept, best-unique, best-nested, best-value, larges, smalls, add-keeps, sub-keeps, from-turns}
 
 -- a list is empty or has a member, and not both
@@ -224,3 +227,125 @@ module _ (d : ℕ → ℤ) (t : ℤ) (G : Graph) (R : Rising G) where
     slack-through =
         best-unique smalls (slack-best c here)
         (best-on (through-runs G R c here) (best-value smalls (λ es. t -ℤ delayAlong d es) (through G c) (through-some G R c here)))
+
+-- T2: how large times get. Levels rise along every edge, and no edge ends above the level top; no delay is larger than B.
+-- Copy numbers are such levels, and so are node numbers where edges rise in node number.
+pub record Levels (d : ℕ → ℤ) (G : Graph) (B : ℕ) (level : ℕ → ℕ) (top : ℕ) : Type 0 where
+  pub rises : (e : Edge) → List·Memᴰ e (G .edges) → level (e .start) < level (e .end)
+  pub under : (e : Edge) → List·Memᴰ e (G .edges) → level (e .end) ≤ top
+  pub small : (e : Edge) → List·Memᴰ e (G .edges) → natAbs (d (e .name)) ≤ B
+
+pub copy-levels : (d : ℕ → ℤ) (G : Graph) (B : ℕ) → Rising G → ((e : Edge) → List·Memᴰ e (G .edges) → natAbs (d (e .name)) ≤ B)
+    → Levels d G B (λ c. c) (length (G .nodes) - 1)
+copy-levels d G B R small = record { rises = R .up; under = λ e m. omega (arith, R .inside e m); small = small }
+
+-- one more level is one more delay
+rise : (B x y : ℕ) → x < y → B + B * x ≤ B * y
+rise B x y h = omega (arith, mul-suc B x, mul-le-mul-left B h)
+
+abs-sub : (a b : ℤ) → natAbs (a -ℤ b) ≤ natAbs a + natAbs b
+abs-sub a b = omega (arith, abs-add a (negℤ b), abs-neg b)
+
+from-back : (t z : ℤ) → t -ℤ (t -ℤ z) ≡ z
+from-back t z = eq-parts _ _ (omega (arith, sub-parts t z, sub-parts t (t -ℤ z)))
+
+-- a number that is not far from t
+abs-near : (t z : ℤ) → natAbs z ≤ natAbs t + natAbs (t -ℤ z)
+abs-near t z = subst (λ (x : ℤ). natAbs x ≤ natAbs t + natAbs (t -ℤ z)) (from-back t z) (abs-sub t (t -ℤ z))
+
+fits : (z : ℤ) → natAbs z < 2 ^ 63 → SFits w64 z
+fits z h = sfits-parts w64 z (omega (arith, abs-is z))
+
+module _ (d : ℕ → ℤ) (t : ℤ) (G : Graph) (R : Rising G) (B : ℕ) (level : ℕ → ℕ) (top : ℕ) (L : Levels d G B level top) where
+  leads-size : (a c : ℕ) (es : List Edge) → Leads G a es c → natAbs (delayAlong d es) + B * level a ≤ B * level c
+  leads-size a c [] p = rw p (omega arith)
+  leads-size a c (e ∷ es) p =
+      omega (
+        arith,
+        abs-add (d (e .name)) (delayAlong d es),
+        L .small e (p .0),
+        leads-size (e .end) c es (p .2),
+        rise B (level (e .start)) (level (e .end)) (L .rises e (p .0)),
+        ap (λ (x : ℕ). B * level x) (p .1),
+      )
+
+  way-size : (c : ℕ) (es : List Edge) → Way G c es → natAbs (delayAlong d es) ≤ B * (top - level c)
+  way-size c [] w = omega arith
+  way-size c (e ∷ es) w =
+      omega (
+        arith,
+        abs-add (d (e .name)) (delayAlong d es),
+        L .small e (w .0),
+        way-size (e .end) es (w .2),
+        rise B (top - level (e .end)) (top - level (e .start)) (omega (arith, L .rises e (w .0), L .under e (w .0))),
+        ap (λ (x : ℕ). B * (top - level x)) (w .1),
+      )
+
+  -- T less a time that is T less a delay
+  less-size : {m : ℤ} (es : List Edge) (M : ℕ) → t -ℤ delayAlong d es ≡ m → natAbs (delayAlong d es) ≤ M → natAbs (t -ℤ m) ≤ M
+  less-size es M e h = subst (λ (z : ℤ). natAbs z ≤ M) (sym (from-back t (delayAlong d es)) ∙ ap (λ (z : ℤ). t -ℤ z) e) h
+
+  module _ (c : ℕ) (here : c < length (G .nodes)) where
+    pub arrival-size : natAbs (arrivalAt d t G c) ≤ B * level c
+    arrival-size =
+        let b = arrival-best d t G R c here in
+        subst (λ (z : ℤ). natAbs z ≤ B * level c) (b .is) (omega (arith, leads-size (b .there .0) c (b .at) (b .there .2)))
+
+    pub required-size : natAbs (t -ℤ requiredAt d t G c) ≤ B * (top - level c)
+    required-size = let b = required-best d t G R c here in less-size (b .at) (B * (top - level c)) (b .is) (way-size c (b .at) (b .there))
+
+    -- slack is T less the delay of a whole path
+    pub slack-size : natAbs (t -ℤ slackAt d t G c) ≤ B * top
+    slack-size =
+        let b = slack-best d t G R c here in
+        let p = b .there in
+        let w : Way G (p .2 .0) (b .at) = subst (Way G (p .2 .0)) (sym (p .4)) (way-then G (p .2 .0) c (p .0) (p .1) (p .2 .2) (p .3)) in
+        less-size (b .at) (B * top) (b .is)
+        (omega (arith, way-size (p .2 .0) (b .at) w, mul-le-mul-left {m = top - level (p .2 .0)} {n = top} B (omega arith)))
+
+    -- so the times fit signed 64 bits
+    pub times-fit : level c ≤ top → natAbs t + B * top < 2 ^ 63
+        → SFits w64 (arrivalAt d t G c) × SFits w64 (requiredAt d t G c) × SFits w64 (slackAt d t G c)
+    times-fit h room =
+        let under : B * level c ≤ B * top = mul-le-mul-left B h in
+        let below : B * (top - level c) ≤ B * top = mul-le-mul-left B (omega arith) in (
+          fits (arrivalAt d t G c) (omega (arith, arrival-size)),
+          fits (requiredAt d t G c) (omega (arith, required-size, abs-near t (requiredAt d t G c))),
+          fits (slackAt d t G c) (omega (arith, slack-size, abs-near t (slackAt d t G c))),
+        )
+
+  -- and so do the sums over an edge that the recurrences choose from
+  module _ (e : Edge) (m : List·Memᴰ e (G .edges)) where
+    pub arrival-sum-size : natAbs (arrivalAt d t G (e .start) +ℤ d (e .name)) ≤ B * level (e .end)
+    arrival-sum-size =
+        omega (
+          arith,
+          abs-add (arrivalAt d t G (e .start)) (d (e .name)),
+          arrival-size (e .start) (omega (arith, R .up e m, R .inside e m)),
+          L .small e m,
+          rise B (level (e .start)) (level (e .end)) (L .rises e m),
+        )
+
+    pub required-sum-size : natAbs (t -ℤ (requiredAt d t G (e .end) -ℤ d (e .name))) ≤ B * (top - level (e .start))
+    required-sum-size = subst (λ (z : ℤ). natAbs z ≤ B * (top - level (e .start))) (sum (requiredAt d t G (e .end)) (d (e .name))) (omega (
+      arith,
+      abs-add (t -ℤ requiredAt d t G (e .end)) (d (e .name)),
+      required-size (e .end) (R .inside e m),
+      L .small e m,
+      rise B (top - level (e .end)) (top - level (e .start)) (omega (arith, L .rises e m, L .under e m)),
+    ))
+      where
+        sum : (r x : ℤ) → (t -ℤ r) +ℤ x ≡ t -ℤ (r -ℤ x)
+        sum r x = eq-parts _ _ (omega (arith, sub-parts t r, add-is (t -ℤ r) x, sub-parts r x, sub-parts t (r -ℤ x)))
+
+    pub sums-fit : natAbs t + B * top < 2 ^ 63 → SFits w64 (arrivalAt d t G (e .start) +ℤ d (e .name)) × SFits w64 (requiredAt d t G (e .end) -ℤ d (e .name))
+    sums-fit room =
+        let under : B * level (e .end) ≤ B * top = mul-le-mul-left B (L .under e m) in
+        let below : B * (top - level (e .start)) ≤ B * top = mul-le-mul-left B (omega arith) in (
+          fits (arrivalAt d t G (e .start) +ℤ d (e .name)) (omega (arith, arrival-sum-size)),
+          fits (requiredAt d t G (e .end) -ℤ d (e .name)) (omega (arith, required-sum-size, abs-near t (requiredAt d t G (e .end) -ℤ d (e .name)))),
+        )
+
+-- document 01's limits leave this room, over copy numbers
+pub limits-leave-room : (n : ℕ) (t : ℤ) → n ≤ 16384 → natAbs t ≤ 1000000000 → natAbs t + 1000000 * (n - 1) < 2 ^ 63
+limits-leave-room n t h k = omega arith
