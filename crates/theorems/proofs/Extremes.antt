@@ -1,14 +1,16 @@
 -- What the largest and the smallest of some times are: the value of a member, and none goes beyond it. All else about
 -- them follows, since only one number is that. The two directions are one: each law is shown for any order (`Picks`),
 -- and `larges` and `smalls` are the two.
-use Prim.Native.Nat.{ℕ, zero, suc, _+_, _≤_, _<_}
+use Prim.Native.Nat.{_+_, _≤_}
 use mathlib.Core.Path.{_≡_, refl, sym, ap, _∙_, subst}
 use mathlib.Core.Logic.{_⊎_, inl, inr, ⊎-elim, _↔_}
-use mathlib.Core.Bool.{Bool, true, false, cond}
+use mathlib.Core.Bool.{Bool, true, false, cond, not}
 use mathlib.Core.List.{List, [], _∷_, _++_, map, List·Memᴰ, List·Memᴰ·head, List·Memᴰ·tail, List·Memᴰ·not-nil, List·Memᴰ·cases-cons, List·Memᴰ·eq-of-singleton, List·Memᴰ·append-cases, Memᴰ·append-left, Memᴰ·append-right, Memᴰ·map, Memᴰ·of-map}
 use native.Mathlib.Omega.{arith}
-use lib.IntN.{ℤ, pos, negsuc, _+ℤ_, _-ℤ_}
+use lib.Dec.{T}
+use lib.IntN.{ℤ, _+ℤ_, _-ℤ_}
 use lib.Signed.{ltZ}
+use Rattle.timing.specs.Lists.{isNil}
 use Rattle.timing.specs.Times.{larger, smaller, largest, smallest}
 use Rattle.timing.proofs.Ints.{up, dn, add-is, sub-parts, eq-parts, ltZ-true, ltZ-false}
 
@@ -19,9 +21,21 @@ AtMost x y = up x + dn y ≤ up y + dn x
 abbrev pub AtLeast : ℤ → ℤ → Type 0
 AtLeast x y = AtMost y x
 
--- a list that is not empty, by a member of it
+-- a list that is not empty, by a member of it; a list is that or empty, and not both
 abbrev pub Some : {A : Type 0} → List A → Type 0
 Some {A} xs = (x : A) × List·Memᴰ x xs
+
+pub nil-or-some : {A : Type 0} (l : List A) → T (isNil l) ⊎ Some l
+nil-or-some [] = inl tt
+nil-or-some (x ∷ l) = inr (x, List·Memᴰ·head refl)
+
+pub nil-none : {A : Type 0} (l : List A) → T (isNil l) → Some l → ⊥
+nil-none [] t s = List·Memᴰ·not-nil (s .1)
+nil-none (x ∷ l) t s = t
+
+pub not-nil : {A : Type 0} (l : List A) → T (not (isNil l)) ↔ Some l
+not-nil [] = (λ p. absurd p, λ s. List·Memᴰ·not-nil (s .1))
+not-nil (x ∷ l) = (λ p. (x, List·Memᴰ·head refl), λ s. tt)
 
 -- m is the value of f at one of P, and the value at no one of P goes beyond m
 pub record Best {A : Type 0} (le : ℤ → ℤ → Type 0) (P : A → Type 0) (f : A → ℤ) (m : ℤ) : Type 0 where
@@ -49,7 +63,7 @@ best-moved {le = le} {m = m} b there back =
       at = y .0;
       there = y .1;
       is = sym (y .2) ∙ b .is;
-      most = λ v q. let x = back v q in subst (λ (z : ℤ). le z m) (x .2) (b .most (x .0) (x .1))
+      most = λ v q. let x = back v q in subst (λ (z : ℤ). le z m) (x .2) (b .most (x .0) (x .1));
     }
 
 -- so it is, over the same set said in another way
@@ -90,7 +104,7 @@ module _ {le : ℤ → ℤ → Type 0} {pick : ℤ → ℤ → ℤ} {best : List
         at = (b .at, c .at);
         there = (b .there, c .there);
         is = c .is ∙ b .is;
-        most = λ q p. K .trans (f (q .0) (q .1)) (m (q .0)) k (each (q .0) (p .0) .most (q .1) (p .1)) (b .most (q .0) (p .0))
+        most = λ q p. K .trans (f (q .0) (q .1)) (m (q .0)) k (each (q .0) (p .0) .most (q .1) (p .1)) (b .most (q .0) (p .0));
       }
 
   best-one : (x : ℤ) → Best le (λ y. y ≡ x) (λ y. y) x
@@ -150,7 +164,7 @@ larges = record {
   left = λ x y. larger-is x y (ltZ x y) refl .0 .0;
   right = λ x y. larger-is x y (ltZ x y) refl .0 .1;
   one = λ x. refl;
-  more = λ x y xs. refl
+  more = λ x y xs. refl;
 }
 
 pub smalls : Picks AtLeast smaller smallest
@@ -162,7 +176,7 @@ smalls = record {
   left = λ x y. smaller-is x y (ltZ y x) refl .0 .0;
   right = λ x y. smaller-is x y (ltZ y x) refl .0 .1;
   one = λ x. refl;
-  more = λ x y xs. refl
+  more = λ x y xs. refl;
 }
 
 -- a number added, and a number taken from another

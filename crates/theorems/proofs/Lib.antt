@@ -5,3 +5,4 @@ pub mod Sorting
 pub mod Runs
 pub mod Extremes
 pub mod Times
+pub mod Nodes

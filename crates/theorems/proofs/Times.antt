@@ -4,8 +4,7 @@
 use Prim.Native.Nat.{ℕ, zero, suc, _+_, _-_, _*_, _≤_, _<_, _^_}
 use mathlib.Core.Path.{_≡_, refl, sym, ap, _∙_, subst}
 use mathlib.Core.Logic.{_⊎_, inl, inr, ⊎-elim, _↔_}
-use mathlib.Core.Bool.{Bool, true, false, cond}
-use mathlib.Core.List.{List, [], _∷_, _++_, map, flatMap, List·Memᴰ, List·Memᴰ·head, List·Memᴰ·tail, List·Memᴰ·not-nil, Memᴰ·map, Memᴰ·of-map}
+use mathlib.Core.List.{List, [], _∷_, _++_, map, flatMap, List·Memᴰ, Memᴰ·map, Memᴰ·of-map}
 use native.Mathlib.Omega.{arith}
 use native.Mathlib.Nat.{mul-suc, mul-le-mul-left}
 use lib.Dec.{T}
@@ -13,22 +12,12 @@ use lib.IntN.{ℤ, pos, natAbs, negℤ, _+ℤ_, _-ℤ_}
 use lib.ListN.{length}
 use mir.Syntax.{w64}
 use mir.Val.{SFits}
-use Rattle.timing.specs.Lists.{isNil}
 use Rattle.timing.specs.Graphs.{Edge, Graph, edgesIn, edgesOut, startsAt, endsAt, runsTo, runsFrom, delayAlong}
 use Rattle.timing.specs.Times.{largest, smallest, arrivalAt, requiredAt, slackAt}
-use Rattle.timing.proofs.Ints.{up, dn, add-is, sub-parts, eq-parts, abs-is, abs-add, abs-neg, sfits-parts}
+use Rattle.timing.proofs.Ints.{add-is, sub-parts, eq-parts, abs-is, abs-add, abs-neg, sfits-parts}
 use Rattle.theorems.proofs.Lists.{mem-flatMap, of-flatMap}
 use Rattle.theorems.proofs.Runs.{Rising, Leads, Way, mem-in, mem-out, leads-then, leads-last, runs-to, runs-from, way-then}
-use Rattle.theorems.proofs.Extremes.{AtMost, AtLeast, Some, Best, best-moved, best-on, best-kept, best-unique, best-nested, best-value, larges, smalls, add-keeps, sub-keeps, from-turns}
-
--- a list is empty or has a member, and not both
-nil-or-some : {A : Type 0} (l : List A) → T (isNil l) ⊎ Some l
-nil-or-some [] = inl tt
-nil-or-some (x ∷ l) = inr (x, List·Memᴰ·head refl)
-
-nil-none : {A : Type 0} (l : List A) → T (isNil l) → Some l → ⊥
-nil-none [] t s = List·Memᴰ·not-nil (s .1)
-nil-none (x ∷ l) t s = t
+use Rattle.theorems.proofs.Extremes.{AtMost, AtLeast, Some, nil-or-some, nil-none, Best, best-moved, best-on, best-kept, best-unique, best-nested, best-value, larges, smalls, add-keeps, sub-keeps, from-turns}
 
 -- the delay of two runs, one after the other
 pub delay-then : (d : ℕ → ℤ) (p q : List Edge) → delayAlong d (p ++ q) ≡ delayAlong d p +ℤ delayAlong d q
@@ -173,7 +162,7 @@ module _ (d : ℕ → ℤ) (t : ℤ) (G : Graph) (R : Rising G) where
       most = λ es p. ⊎-elim
           (λ (r : T (startsAt G c) × (es ≡ [])). rw (r .1) (omega arith))
           (λ r. absurd (nil-none (edgesIn G c) s (r .0, r .2)))
-          (to-cases G c es p)
+          (to-cases G c es p);
     })
 
     pub required-end : T (endsAt G c) → requiredAt d t G c ≡ t
@@ -184,7 +173,7 @@ module _ (d : ℕ → ℤ) (t : ℤ) (G : Graph) (R : Rising G) where
       most = λ es w. ⊎-elim
           (λ (r : T (endsAt G c) × (es ≡ [])). rw (r .1, less-none) (omega arith))
           (λ r. absurd (nil-none (edgesOut G c) s (r .0, r .2)))
-          (way-cases G c es w)
+          (way-cases G c es w);
     })
       where
         less-none : t -ℤ pos 0 ≡ t
