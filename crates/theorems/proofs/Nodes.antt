@@ -1,5 +1,5 @@
 -- Times at a node, from the times of its copies: the record of a node is that of all runs to, from and through its copies.
--- This is T4 for the paths of the graph itself; with the paths of a true graph it is T4 for the permitted paths.
+-- This is the part of T4 that holds in any graph that rises; which paths of the design these runs are is not said here.
 use Prim.Native.Nat.{ℕ, zero, suc, _+_, _≤_, _<_}
 use mathlib.Core.Path.{_≡_, refl, ap, ap₂, _∙_}
 use mathlib.Core.Logic.{_⊎_, ⊎-elim, _↔_}
