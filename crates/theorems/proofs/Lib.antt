@@ -11,3 +11,6 @@ pub mod Refusals
 pub mod Tested
 pub mod Legal
 pub mod Size
+pub mod Extremes
+pub mod Times
+pub mod Nodes
