@@ -80,9 +80,9 @@ module _ {A : Type 0} where
       let b : List A = r .1 in
       let within : (y : A) → List·Memᴰ y xs → List·Memᴰ y (a ++ b)
       = λ y m.
-          mem-around a x b
-          (subst (λ (l : List A). List·Memᴰ y l) (r .2) (f y (List·Memᴰ·tail m)))
-          (λ e. d .0 (subst (λ (v : A). List·Memᴰ v xs) e m)) in
+      mem-around a x b
+      (subst (λ (l : List A). List·Memᴰ y l) (r .2) (f y (List·Memᴰ·tail m)))
+      (λ e. d .0 (subst (λ (v : A). List·Memᴰ v xs) e m)) in
       let below = count-le p xs (a ++ b) (d .1) within in
       omega (arith, below, count-cons p x xs, ap (countOf p) (r .2), count-append p a (x ∷ b), count-cons p x b, count-append p a b)
 

@@ -85,9 +85,13 @@ count-tails : (D : Design) (v : ℕ) (L : List (List ℕ)) → countOf (from D v
 unfolding tails flatMap
 count-tails D v [] = refl
 count-tails D v (p ∷ L) =
-    omega
-    (arith, count-append (from D v) (tailsOf p) (tails L), count-append (λ k. eqb (edgeStart D k) v) (drop 1 p) (inner L),
-    count-tailsOf D v p, count-tails D v L)
+    omega (
+      arith,
+      count-append (from D v) (tailsOf p) (tails L),
+      count-append (λ k. eqb (edgeStart D k) v) (drop 1 p) (inner L),
+      count-tailsOf D v p,
+      count-tails D v L,
+    )
 
 -- sums
 sum-same : {A : Type 0} (f g : A → ℕ) (l : List A) → ((x : A) → f x ≡ g x) → sum (map f l) ≡ sum (map g l)
@@ -153,10 +157,13 @@ module _ (D : Design) (G : Graph) (legal : Legal D G) (L : List (List ℕ)) wher
 
   pub copies-few : length (copies L G) ≤ candidatesOf D G L
   copies-few =
-      omega
-      (arith, length-le (copies L G) (slots D L 0 (G .nodes)) (copies-nodup G L) copy-slot, length-slots D L 0 (G .nodes),
-      sum-same (λ v. 1 + countOf (from D v) (tails L)) (λ v. 1 + countOf (λ k. eqb (edgeStart D k) v) (inner L)) (G .nodes)
-      (λ v. ap (λ (x : ℕ). 1 + x) (count-tails D v L)))
+      omega (
+        arith,
+        length-le (copies L G) (slots D L 0 (G .nodes)) (copies-nodup G L) copy-slot,
+        length-slots D L 0 (G .nodes),
+        sum-same (λ v. 1 + countOf (from D v) (tails L)) (λ v. 1 + countOf (λ k. eqb (edgeStart D k) v) (inner L)) (G .nodes)
+            (λ v. ap (λ (x : ℕ). 1 + x) (count-tails D v L)),
+      )
 
   -- Z over any list of paths
   pub size : length (trueGraph G L .nodes) ≤ candidatesOf D G L
@@ -193,11 +200,14 @@ spread f n [] h = sum-zero (upto n 0)
 spread f n (x ∷ l) h =
     let below = spread f n l (λ y m. h y (List·Memᴰ·tail m)) in
     let lt : f x < n = h x (List·Memᴰ·head refl) in
-    omega
-    (arith, below, sum-hit (f x) n 0 (omega arith) (omega arith),
-    sum-same (λ v. countOf (λ y. eqb (f y) v) (x ∷ l)) (λ v. one (eqb (f x) v) + countOf (λ y. eqb (f y) v) l) (upto n 0)
-    (λ v. count-cons (λ y. eqb (f y) v) x l),
-    sum-add (λ v. one (eqb (f x) v)) (λ v. countOf (λ y. eqb (f y) v) l) (upto n 0))
+    omega (
+      arith,
+      below,
+      sum-hit (f x) n 0 (omega arith) (omega arith),
+      sum-same (λ v. countOf (λ y. eqb (f y) v) (x ∷ l)) (λ v. one (eqb (f x) v) + countOf (λ y. eqb (f y) v) l) (upto n 0)
+          (λ v. count-cons (λ y. eqb (f y) v) x l),
+      sum-add (λ v. one (eqb (f x) v)) (λ v. countOf (λ y. eqb (f y) v) l) (upto n 0),
+    )
 
 -- paths that are not empty, of edges of the design
 pub record Paths (D : Design) (K : List (List ℕ)) : Type 0 where
@@ -234,12 +244,16 @@ unfolding designGraph
 candidates-whole D K fit ok =
     let inside : (k : ℕ) → List·Memᴰ k (inner K) → edgeStart D k < D .nodes
     = λ k m.
-        let r = of-flatMap (λ (p : List ℕ). drop 1 p) K m in
-        fit .starts-in k (ok .named (r .0) (r .1) k (mem-rest (r .0) (r .2))) in
-    omega
-    (arith, spread (edgeStart D) (D .nodes) (inner K) inside, length-inner K (ok .filled),
-    sum-add (λ v. 1) (λ v. countOf (λ k. eqb (edgeStart D k) v) (inner K)) (upto (D .nodes) 0),
-    sum-ones (upto (D .nodes) 0), length-upto (D .nodes) 0)
+    let r = of-flatMap (λ (p : List ℕ). drop 1 p) K m in
+    fit .starts-in k (ok .named (r .0) (r .1) k (mem-rest (r .0) (r .2))) in
+    omega (
+      arith,
+      spread (edgeStart D) (D .nodes) (inner K) inside,
+      length-inner K (ok .filled),
+      sum-add (λ v. 1) (λ v. countOf (λ k. eqb (edgeStart D k) v) (inner K)) (upto (D .nodes) 0),
+      sum-ones (upto (D .nodes) 0),
+      length-upto (D .nodes) 0,
+    )
 
 -- Z over the design and a whole list: at most n + edges - paths copies
 pub size-whole : (D : Design) (K : List (List ℕ)) → DesignFits D → Paths D K
@@ -266,7 +280,10 @@ pub candidates-design : (D : Design) (PL : PathList)
 unfolding candidates
 candidates-design D PL s ls t lt =
     let fit = list-fits D PL ls lt in
-    omega
-    (arith, candidates-whole D (pathsOf PL) (design-fits D s t) (list-paths D PL fit),
-    cut-count (PL .edges) (PL .lengths), fit .total,
-    ap sum (cut-lengths (PL .edges) (PL .lengths) (omega (arith, fit .total))))
+    omega (
+      arith,
+      candidates-whole D (pathsOf PL) (design-fits D s t) (list-paths D PL fit),
+      cut-count (PL .edges) (PL .lengths),
+      fit .total,
+      ap sum (cut-lengths (PL .edges) (PL .lengths) (omega (arith, fit .total))),
+    )
