@@ -76,7 +76,7 @@ pub fn number_at(s: &[u32], i: usize) -> u32
 pub fn delay_at(s: &[i32], i: usize) -> i32
     ensures { λ r. ⌜ r ≡ getD (now (s .entry)) i (pos 0) ⌝ }
 {
-    if i < s.len() { s[i] } else { 0 }
+    if s.len() <= i { 0 } else { s[i] }
 }
 
 // The number that some bytes begin with: its value and how many bytes it takes; the bytes end

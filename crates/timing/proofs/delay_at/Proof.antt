@@ -12,10 +12,10 @@ shared-slice-copy-out-result : tie.Need-shared-slice-copy-out-result
 shared-slice-copy-out-result c = search needs
 
 returns : tie.Need-returns
-returns c = search needs
+returns c = sym (List·getD-eq-default (c .before .args .s .now) (pos 0) (c .if1 .taken))
 
 returns-2 : tie.Need-returns-2
-returns-2 c = sym (List·getD-eq-default (c .before .args .s .now) (pos 0) (c .if1 .left))
+returns-2 c = search needs
 
 pub delay-at-spec : {M : Type 1} → statement M
 delay-at-spec = tie.close (tie.spec mul-result shared-slice-copy-out-result returns returns-2)
