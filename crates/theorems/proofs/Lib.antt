@@ -10,6 +10,7 @@ pub mod Parts
 pub mod Refusals
 pub mod Tested
 pub mod Legal
+pub mod Kept
 pub mod Size
 pub mod Extremes
 pub mod Times

@@ -84,9 +84,9 @@ lower-before p q h =
 
 -- the true graph stands for what it is made of
 module _ (G : Graph) (L : List (List ℕ)) (up : Rising G) where
-  sorted : Sorted copyBefore (copies L G)
+  pub copies-sorted : Sorted copyBefore (copies L G)
   unfolding copies
-  sorted = sort-sorted copyBefore copy-order (flatMap (λ r. copiesOn L (r .first) (r .edges)) (permittedRuns L G))
+  copies-sorted = sort-sorted copyBefore copy-order (flatMap (λ r. copiesOn L (r .first) (r .edges)) (permittedRuns L G))
 
   abbrev at-number : Copy → ℕ
   at-number p = place copyBefore p (copies L G)
@@ -95,7 +95,7 @@ module _ (G : Graph) (L : List (List ℕ)) (up : Rising G) where
   at-label c = getD (copies L G) c (record { at = 0; mark = [] })
 
   shown-number : (p : Copy) → Shown G L p → (at-number p < length (copies L G)) × (at-label (at-number p) ≡ p)
-  shown-number p s = place-stands copyBefore copy-order p (record { at = 0; mark = [] }) (copies L G) sorted (mem-copies G L up p .1 s)
+  shown-number p s = place-stands copyBefore copy-order p (record { at = 0; mark = [] }) (copies L G) copies-sorted (mem-copies G L up p .1 s)
 
   size : length (trueGraph G L .nodes) ≡ length (copies L G)
   unfolding trueGraph
@@ -117,7 +117,7 @@ module _ (G : Graph) (L : List (List ℕ)) (up : Rising G) where
       let r = mem-edges e .0 m in
       let k = joined-link G L (r .0) (r .1) in
       let t : T (copyBefore (r .0 .start) (r .0 .end)) = lower-before (r .0 .start) (r .0 .end) (up .up _ (k .along)) in
-      let a = place-less copyBefore copy-order (r .0 .start) (r .0 .end) (copies L G) sorted (mem-copies G L up (r .0 .start) .1 (k .from)) t in
+      let a = place-less copyBefore copy-order (r .0 .start) (r .0 .end) (copies L G) copies-sorted (mem-copies G L up (r .0 .start) .1 (k .from)) t in
       let b = shown-number (r .0 .end) (k .to) .0 in
       (subst (λ (x : Edge). x .start < x .end) (r .2) a, rw size (subst (λ (x : Edge). x .end < length (copies L G)) (r .2) b))
 
@@ -132,7 +132,7 @@ module _ (G : Graph) (L : List (List ℕ)) (up : Rising G) where
       λ i. record { start = a i; end = b i; name = j .name }
 
   number-label : (c : ℕ) → c < length (copies L G) → at-number (at-label c) ≡ c
-  number-label c h = place-getD copyBefore copy-order (copies L G) (record { at = 0; mark = [] }) c sorted h
+  number-label c h = place-getD copyBefore copy-order (copies L G) (record { at = 0; mark = [] }) c copies-sorted h
 
   node-at : (c : ℕ) → c < length (copies L G) → nodeOf (trueGraph G L) c ≡ nodeOf G (at-label c .at)
   unfolding trueGraph
@@ -179,7 +179,7 @@ module _ (G H : Graph) (L : List (List ℕ)) (up : Rising G) (S : Stands G L H) 
       (subst (Joined G L) (λ i. record { start = sym (a .1) i; end = sym (b .1) i; name = j .name }) x)
 
   -- a copy of H where paths end shows a path that ends, and one where paths start a path that starts
-  end-shown : (h : ℕ) → h < length (H .nodes) → T (endsAt H h) → T (endsAt G (S .label h .at)) × T (permitted L []) × (S .label h .mark ≡ mark L [])
+  pub end-shown : (h : ℕ) → h < length (H .nodes) → T (endsAt H h) → T (endsAt G (S .label h .at)) × T (permitted L []) × (S .label h .mark ≡ mark L [])
   end-shown h l t = go (v .0 .0) (v .0 .1) (v .0 .2)
     where
       v : Shown G L (S .label h) × (S .number (S .label h) ≡ h) × (nodeOf H h ≡ nodeOf G (S .label h .at))
