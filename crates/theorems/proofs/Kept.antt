@@ -12,7 +12,7 @@ use Rattle.timing.specs.Lists.{allOf, countOf, eachNext}
 use Rattle.timing.specs.Graphs.{Design, edgeStart, edgeEnd, designGraph, Edge, edge, Graph, nodeOf, startsAt, endsAt}
 use Rattle.timing.specs.Marks.{mark}
 use Rattle.timing.specs.Sorting.{before}
-use Rattle.timing.specs.TrueGraphs.{Copy, copyBefore, edgeBefore, copies, trueGraph}
+use Rattle.timing.specs.TrueGraphs.{Copy, copyBefore, edgeBefore, copies, joins, numbered, trueGraph}
 use Rattle.timing.specs.WellFormed.{fewEnough, edgeRises, isSource, isSink, oneSinkCopy, linked, wellFormed}
 use Rattle.theorems.proofs.Lists.{and-intro, and-left, and-right, or-cases, or-left, or-right}
 use Rattle.theorems.proofs.Counting.{Rises, rises-next, sorted-next, count-cons, of-count, one}
@@ -41,6 +41,40 @@ rises-map lt f (x ∷ l) s h =
         let r = Memᴰ·of-map f l m in
         subst (λ (z : ℕ). f x ≤ z) (r .2) (h x (r .0) (List·Memᴰ·head refl) (List·Memᴰ·tail (r .1)) (s .0 (r .0) (r .1))),
     rises-map lt f l (s .1) (λ u v m n t. h u v (List·Memᴰ·tail m) (List·Memᴰ·tail n) t))
+
+-- a sorted list is sorted by any order that follows for its members
+sorted-by : {A : Type 0} (lt le : A → A → Bool) (l : List A) → Sorted lt l → ((x y : A) → List·Memᴰ x l → List·Memᴰ y l → T (lt x y) → T (le x y)) → Sorted le l
+sorted-by lt le [] s h = tt
+sorted-by lt le (x ∷ l) s h =
+    (λ y m. h x y (List·Memᴰ·head refl) (List·Memᴰ·tail m) (s .0 y m), sorted-by lt le l (s .1) (λ u v m n t. h u v (List·Memᴰ·tail m) (List·Memᴰ·tail n) t))
+
+-- a member stands at some place
+mem-at : (v : ℕ) (l : List ℕ) → List·Memᴰ v l → (i : ℕ) × (i < length l) × (getD l i 0 ≡ v)
+mem-at v [] m = absurd (List·Memᴰ·not-nil m)
+mem-at v (x ∷ l) m =
+    ⊎-elim (λ e. (0, omega arith, sym e)) (λ h. let r = mem-at v l h in (suc (r .0), omega (arith, r .1), r .2)) (List·Memᴰ·cases-cons m)
+
+-- a number that stands at one place at most is counted at most once
+count-once : (v : ℕ) (l : List ℕ) → ((i j : ℕ) → i < length l → j < length l → getD l i 0 ≡ v → getD l j 0 ≡ v → i ≡ j) → countOf (eqb v) l ≤ 1
+count-once v [] h = omega arith
+count-once v (x ∷ l) h = go (eqb v x) refl (count-once v l (λ i j a b p q. let e = h (suc i) (suc j) (omega arith) (omega arith) p q in omega arith))
+  where
+    none : T (eqb v x) → 0 < countOf (eqb v) l → ⊥
+    none t k =
+        let r = of-count (eqb v) l k in
+        let i = mem-at (r .0) l (r .1) in
+        let e = h 0 (suc (i .0)) (omega arith) (omega (arith, i .1)) (sym (eqb→eq v x t)) (i .2 ∙ sym (eqb→eq v (r .0) (r .2))) in
+        omega arith
+
+    go : (b : Bool) → eqb v x ≡ b → countOf (eqb v) l ≤ 1 → countOf (eqb v) (x ∷ l) ≤ 1
+    go true e below =
+        let z : countOf (eqb v) l ≡ 0 = zero-if (countOf (eqb v) l) (none (rw e tt)) in
+        omega (arith, count-cons (eqb v) x l, ap one e, z)
+      where
+        zero-if : (n : ℕ) → (0 < n → ⊥) → n ≡ 0
+        zero-if zero f = refl
+        zero-if (suc n) f = absurd (f (omega arith))
+    go false e below = omega (arith, count-cons (eqb v) x l, ap one e)
 
 -- a copy that comes before another is of a copy that does not come after
 before-at : (p q : Copy) → T (copyBefore p q) → p .at ≤ q .at
@@ -139,3 +173,61 @@ module _ (D : Design) (G : Graph) (L : List (List ℕ)) (legal : Legal D G) wher
           (or-cases (ltb (e .name) (f .name)) (eqb (e .name) (f .name) && before (e .start ∷ []) (f .start ∷ []))
               (and-right (eqb (e .end) (f .end)) (before (e .name ∷ e .start ∷ []) (f .name ∷ f .start ∷ [])) h)))
       (or-cases (ltb (e .end) (f .end)) (eqb (e .end) (f .end) && before (e .name ∷ e .start ∷ []) (f .name ∷ f .start ∷ [])) t)
+
+-- a legal graph links its copies, and has one copy of a sink
+implied : (a b : Bool) → (T a → T b) → T (b || not a)
+implied true true h = tt
+implied true false h = h tt
+implied false true h = tt
+implied false false h = tt
+
+pub legal-linked : (D : Design) (G : Graph) → Legal D G → (c : ℕ) → c < length (G .nodes) → T (linked D G c)
+legal-linked D G legal c h =
+    and-intro (isSource D (nodeOf G c) || not (startsAt G c)) (isSink D (nodeOf G c) || not (endsAt G c))
+    (implied (startsAt G c) (isSource D (nodeOf G c)) (legal .sources c h))
+    (implied (endsAt G c) (isSink D (nodeOf G c)) (legal .sinks c h))
+
+-- no edge leaves a copy of a sink
+pub sink-ends : (D : Design) (G : Graph) → DesignFits D → Legal D G → (c : ℕ) → T (isSink D (nodeOf G c)) → T (endsAt G c)
+sink-ends D G fit legal c t =
+    no-out G c (λ e m s.
+        ends-none (designGraph D) (nodeOf G c) (designEdge D (e .name)) t (mem-design-edges D fit (e .name) (legal .named e m))
+        (sym (legal .starts e m) ∙ ap (nodeOf G) s))
+
+pub legal-one-sink : (D : Design) (G : Graph) → DesignFits D → Legal D G → (v : ℕ) → T (oneSinkCopy D G v)
+legal-one-sink D G fit legal v = go (isSink D v) refl
+  where
+    go : (b : Bool) → isSink D v ≡ b → T (not b || leb (countOf (eqb v) (G .nodes)) 1)
+    go true e =
+        le→leb (countOf (eqb v) (G .nodes)) 1
+        (count-once v (G .nodes) (λ i j a b p q.
+            legal .oneEnd i j a b (sink-ends D G fit legal i (subst (λ (x : ℕ). T (isSink D x)) (sym p) (rw e tt)))
+            (sink-ends D G fit legal j (subst (λ (x : ℕ). T (isSink D x)) (sym q) (rw e tt))) (p ∙ sym q)))
+    go false e = tt
+
+edges-sorted : (G : Graph) (L : List (List ℕ)) → Sorted edgeBefore (trueGraph G L .edges)
+unfolding trueGraph
+edges-sorted G L = sort-sorted edgeBefore edge-order (map (numbered (copies L G)) (joins L G))
+
+-- W: the true graph of a legal graph passes test 32, where its counts are within the limits
+pub true-formed : (D : Design) (G : Graph) (L : List (List ℕ)) → DesignFits D → Legal D G → T (fewEnough (trueGraph G L)) → T (wellFormed D (trueGraph G L))
+true-formed D G L fit legal few =
+    let R = trueGraph G L in
+    let kept = true-legal D G L legal in
+    formed-passes D R
+    (record {
+      few = few;
+      below = allOf-intro (λ v. ltb v (D .nodes)) (R .nodes) (λ v m. lt→ltb v (D .nodes) (kept .below v m));
+      order = rises-next (R .nodes) .0 (kept .order);
+      fits = λ e m.
+          record {
+            start-in = start-inside D G L legal e m;
+            end-in = kept .rising .inside e m;
+            named = kept .named e m;
+            starts = kept .starts e m;
+            ends = kept .ends e m;
+          };
+      rises = sorted-next edgeRises (R .edges) (sorted-by edgeBefore edgeRises (R .edges) (edges-sorted G L) (edge-rises D G L legal));
+      one-sink = λ v h. legal-one-sink D R fit kept v;
+      links = legal-linked D R kept;
+    })
