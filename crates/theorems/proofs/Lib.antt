@@ -11,6 +11,7 @@ pub mod Refusals
 pub mod Tested
 pub mod Legal
 pub mod Kept
+pub mod Renumbering
 pub mod Size
 pub mod Extremes
 pub mod Times
