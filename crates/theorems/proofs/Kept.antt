@@ -36,11 +36,12 @@ rises-at (x ∷ xs) r (suc i) (suc j) h k = rises-at xs (r .1) i j (omega arith)
 rises-map : {A : Type 0} (lt : A → A → Bool) (f : A → ℕ) (l : List A) → Sorted lt l
     → ((x y : A) → List·Memᴰ x l → List·Memᴰ y l → T (lt x y) → f x ≤ f y) → Rises (map f l)
 rises-map lt f [] s h = tt
-rises-map lt f (x ∷ l) s h =
-    (λ y m.
-        let r = Memᴰ·of-map f l m in
-        subst (λ (z : ℕ). f x ≤ z) (r .2) (h x (r .0) (List·Memᴰ·head refl) (List·Memᴰ·tail (r .1)) (s .0 (r .0) (r .1))),
-    rises-map lt f l (s .1) (λ u v m n t. h u v (List·Memᴰ·tail m) (List·Memᴰ·tail n) t))
+rises-map lt f (x ∷ l) s h = (
+  λ y m.
+      let r = Memᴰ·of-map f l m in
+      subst (λ (z : ℕ). f x ≤ z) (r .2) (h x (r .0) (List·Memᴰ·head refl) (List·Memᴰ·tail (r .1)) (s .0 (r .0) (r .1))),
+  rises-map lt f l (s .1) (λ u v m n t. h u v (List·Memᴰ·tail m) (List·Memᴰ·tail n) t),
+)
 
 -- a sorted list is sorted by any order that follows for its members
 sorted-by : {A : Type 0} (lt le : A → A → Bool) (l : List A) → Sorted lt l → ((x y : A) → List·Memᴰ x l → List·Memᴰ y l → T (lt x y) → T (le x y)) → Sorted le l
@@ -104,10 +105,10 @@ module _ (D : Design) (G : Graph) (L : List (List ℕ)) (legal : Legal D G) wher
       let j = link f k in
       let q = legal .oneStart _ _ (i .along) (j .along) (ap (λ (x : ℕ). S .label x .at) a) b in
       let r : S .label (e .start) ≡ S .label (f .start) =
-          λ t. record {
-            at = ap (λ (x : Edge). x .start) q t;
-            mark = (i .marks ∙ (λ u. mark L (b u ∷ S .label (a u) .mark)) ∙ sym (j .marks)) t;
-          } in
+      λ t. record {
+        at = ap (λ (x : Edge). x .start) q t;
+        mark = (i .marks ∙ (λ u. mark L (b u ∷ S .label (a u) .mark)) ∙ sym (j .marks)) t;
+      } in
       let s = same-label (e .start) (f .start) (start-inside e m) (start-inside f k) r in
       λ t. edge (s t) (a t) (b t)
 
@@ -133,8 +134,8 @@ module _ (D : Design) (G : Graph) (L : List (List ℕ)) (legal : Legal D G) wher
   nodes-rise =
       rises-map copyBefore (λ (c : Copy). nodeOf G (c .at)) (copies L G) (copies-sorted G L (legal .rising))
       (λ p q m k t.
-          let s = mem-copies G L (legal .rising) q .0 k in
-          rises-at (G .nodes) (legal .order) (p .at) (q .at) (before-at p q t) (passes-inside (legal .rising) (s .1)))
+      let s = mem-copies G L (legal .rising) q .0 k in
+      rises-at (G .nodes) (legal .order) (p .at) (q .at) (before-at p q t) (passes-inside (legal .rising) (s .1)))
 
   pub true-legal : Legal D (trueGraph G L)
   true-legal =
@@ -163,15 +164,15 @@ module _ (D : Design) (G : Graph) (L : List (List ℕ)) (legal : Legal D G) wher
       ⊎-elim
       (λ h. or-left (ltb (e .end) (f .end)) (eqb (e .end) (f .end) && ltb (e .name) (f .name)) h)
       (λ h.
-          let a = and-left (eqb (e .end) (f .end)) (before (e .name ∷ e .start ∷ []) (f .name ∷ f .start ∷ [])) h in
-          ⊎-elim
-          (λ n. or-right (ltb (e .end) (f .end)) (eqb (e .end) (f .end) && ltb (e .name) (f .name)) (and-intro (eqb (e .end) (f .end)) (ltb (e .name) (f .name)) a n))
-          (λ n.
-              let b = and-left (eqb (e .name) (f .name)) (before (e .start ∷ []) (f .start ∷ [])) n in
-              let q = one-start e f m k (eqb→eq (e .end) (f .end) a) (eqb→eq (e .name) (f .name) b) in
-              absurd (edge-order .irrefl e (subst (λ (x : Edge). T (edgeBefore e x)) (sym q) t)))
-          (or-cases (ltb (e .name) (f .name)) (eqb (e .name) (f .name) && before (e .start ∷ []) (f .start ∷ []))
-              (and-right (eqb (e .end) (f .end)) (before (e .name ∷ e .start ∷ []) (f .name ∷ f .start ∷ [])) h)))
+      let a = and-left (eqb (e .end) (f .end)) (before (e .name ∷ e .start ∷ []) (f .name ∷ f .start ∷ [])) h in
+      ⊎-elim
+      (λ n. or-right (ltb (e .end) (f .end)) (eqb (e .end) (f .end) && ltb (e .name) (f .name)) (and-intro (eqb (e .end) (f .end)) (ltb (e .name) (f .name)) a n))
+      (λ n.
+      let b = and-left (eqb (e .name) (f .name)) (before (e .start ∷ []) (f .start ∷ [])) n in
+      let q = one-start e f m k (eqb→eq (e .end) (f .end) a) (eqb→eq (e .name) (f .name) b) in
+      absurd (edge-order .irrefl e (subst (λ (x : Edge). T (edgeBefore e x)) (sym q) t)))
+      (or-cases (ltb (e .name) (f .name)) (eqb (e .name) (f .name) && before (e .start ∷ []) (f .start ∷ []))
+      (and-right (eqb (e .end) (f .end)) (before (e .name ∷ e .start ∷ []) (f .name ∷ f .start ∷ [])) h)))
       (or-cases (ltb (e .end) (f .end)) (eqb (e .end) (f .end) && before (e .name ∷ e .start ∷ []) (f .name ∷ f .start ∷ [])) t)
 
 -- a legal graph links its copies, and has one copy of a sink
@@ -191,8 +192,8 @@ legal-linked D G legal c h =
 pub sink-ends : (D : Design) (G : Graph) → DesignFits D → Legal D G → (c : ℕ) → T (isSink D (nodeOf G c)) → T (endsAt G c)
 sink-ends D G fit legal c t =
     no-out G c (λ e m s.
-        ends-none (designGraph D) (nodeOf G c) (designEdge D (e .name)) t (mem-design-edges D fit (e .name) (legal .named e m))
-        (sym (legal .starts e m) ∙ ap (nodeOf G) s))
+    ends-none (designGraph D) (nodeOf G c) (designEdge D (e .name)) t (mem-design-edges D fit (e .name) (legal .named e m))
+    (sym (legal .starts e m) ∙ ap (nodeOf G) s))
 
 pub legal-one-sink : (D : Design) (G : Graph) → DesignFits D → Legal D G → (v : ℕ) → T (oneSinkCopy D G v)
 legal-one-sink D G fit legal v = go (isSink D v) refl
@@ -201,11 +202,11 @@ legal-one-sink D G fit legal v = go (isSink D v) refl
     go true e =
         le→leb (countOf (eqb v) (G .nodes)) 1
         (count-once v (G .nodes) (λ i j a b p q.
-            legal .oneEnd i j a b (sink-ends D G fit legal i (subst (λ (x : ℕ). T (isSink D x)) (sym p) (rw e tt)))
-            (sink-ends D G fit legal j (subst (λ (x : ℕ). T (isSink D x)) (sym q) (rw e tt))) (p ∙ sym q)))
+        legal .oneEnd i j a b (sink-ends D G fit legal i (subst (λ (x : ℕ). T (isSink D x)) (sym p) (rw e tt)))
+        (sink-ends D G fit legal j (subst (λ (x : ℕ). T (isSink D x)) (sym q) (rw e tt))) (p ∙ sym q)))
     go false e = tt
 
-edges-sorted : (G : Graph) (L : List (List ℕ)) → Sorted edgeBefore (trueGraph G L .edges)
+pub edges-sorted : (G : Graph) (L : List (List ℕ)) → Sorted edgeBefore (trueGraph G L .edges)
 unfolding trueGraph
 edges-sorted G L = sort-sorted edgeBefore edge-order (map (numbered (copies L G)) (joins L G))
 

@@ -13,6 +13,7 @@ pub mod Legal
 pub mod Kept
 pub mod Renumbering
 pub mod Size
+pub mod Series
 pub mod Extremes
 pub mod Times
 pub mod Nodes

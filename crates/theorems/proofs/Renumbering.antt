@@ -66,8 +66,8 @@ module _ (G H K : Graph) (L : List (List ℕ)) (up : Rising G) (S : Stands G L H
   nodes-labels X P =
       map-map (P .label) (λ (p : Copy). nodeOf G (p .at)) (upto (length (X .nodes)) 0)
       ∙ by-places (X .nodes) (length (X .nodes)) 0 (λ c. nodeOf G (P .label c .at)) refl (λ k l.
-          let z : 0 + k ≡ k = omega arith in
-          ap (λ (c : ℕ). nodeOf G (P .label c .at)) z ∙ sym (P .every k l .2))
+      let z : 0 + k ≡ k = omega arith in
+      ap (λ (c : ℕ). nodeOf G (P .label c .at)) z ∙ sym (P .every k l .2))
     where
       map-map : {A B C : Type 0} (f : A → B) (g : B → C) (l : List A) → map g (map f l) ≡ map (λ x. g (f x)) l
       map-map f g [] = refl
@@ -78,7 +78,7 @@ module _ (G H K : Graph) (L : List (List ℕ)) (up : Rising G) (S : Stands G L H
       ap (countOf (eqb v)) (sym (nodes-labels H S))
       ∙ count-map (eqb v) (λ (p : Copy). nodeOf G (p .at)) (labels H S)
       ∙ count-same (λ (p : Copy). eqb v (nodeOf G (p .at))) (labels H S) (labels K Q) (labels-nodup H S) (labels-nodup K Q)
-        (λ p. (λ m. mem-labels K Q p .1 (mem-labels H S p .0 m), λ m. mem-labels H S p .1 (mem-labels K Q p .0 m)))
+      (λ p. (λ m. mem-labels K Q p .1 (mem-labels H S p .0 m), λ m. mem-labels H S p .1 (mem-labels K Q p .0 m)))
       ∙ sym (count-map (eqb v) (λ (p : Copy). nodeOf G (p .at)) (labels K Q))
       ∙ ap (countOf (eqb v)) (nodes-labels K Q)
 
@@ -141,6 +141,6 @@ stands-renumbered G H K L up S Q rh rk eh ek =
       λ m. let r = Memᴰ·of-map (renumbered t) (H .edges) m in subst (λ (x : Edge). List·Memᴰ x (K .edges)) (r .2) (forth G H K L up S Q (r .0) (r .1)),
       λ m.
           let q : renumbered t (renumbered b e) ≡ e =
-              λ i. edge (from (e .start) (start-in K (Q .rising) e m) .1 i) (from (e .end) (Q .rising .inside e m) .1 i) (e .name) in
+          λ i. edge (from (e .start) (start-in K (Q .rising) e m) .1 i) (from (e .end) (Q .rising .inside e m) .1 i) (e .name) in
           subst (λ (x : Edge). List·Memᴰ x (map (renumbered t) (H .edges))) q (Memᴰ·map (renumbered t) (forth G K H L up Q S e m)),
     )
