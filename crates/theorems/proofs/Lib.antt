@@ -14,3 +14,4 @@ pub mod Size
 pub mod Extremes
 pub mod Times
 pub mod Nodes
+pub mod Demand2
