@@ -113,13 +113,14 @@ module _ (G H : Graph) (L : List (List ℕ)) (up : Rising G) (S : Stands G L H) 
         record { path = λ i. record { first = f i; edges = n i }; delay = λ d. delay-names d (w .0) (q .edges) n },
       )
 
--- Demand 2: H is a true graph of G and L, a graph of the design D, and the paths of the demand are these.
+-- Demand 2 for H, a graph of the design D that was made of G by removing the listed paths L: H's source-to-sink paths, taken
+-- back to the design's edges, are G's complete paths that contain no listed path: each once, no others, delays unchanged.
 pub record Demand2 (D : Design) (G : Graph) (L : List (List ℕ)) (H : Graph) : Type 0 where
-  -- no others: every source-to-sink path of H, taken back, is a complete path that contains no listed path, with its delay
+  -- no others: every source-to-sink path of H is, taken back, a complete path that contains no listed path, with its delay
   pub sound : (r : Run) → List·Memᴰ r (completeRuns H) → (q : Run) × List·Memᴰ q (permittedRuns L G) × SamePath H G r q
-  -- all of them: every complete path that contains no listed path is a source-to-sink path of H, taken back, with its delay
+  -- all of them: every complete path that contains no listed path is, taken back, a source-to-sink path of H, with its delay
   pub complete : (q : Run) → List·Memᴰ q (permittedRuns L G) → (r : Run) × List·Memᴰ r (completeRuns H) × SamePath H G r q
-  -- each once: two source-to-sink paths of H that are one path, taken back, are one
+  -- each once: two source-to-sink paths of H that are, taken back, one path are one path of H
   pub once : (r s : Run) → List·Memᴰ r (completeRuns H) → List·Memᴰ s (completeRuns H) → takenBack H r ≡ takenBack H s → r ≡ s
 
 pub stands-demand2 : (D : Design) (G H : Graph) (L : List (List ℕ)) → Rising G → Stands G L H → Legal D H → Demand2 D G L H

@@ -15,3 +15,4 @@ pub mod Extremes
 pub mod Times
 pub mod Nodes
 pub mod Demand2
+pub mod Demand2Times
