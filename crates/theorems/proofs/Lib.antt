@@ -17,3 +17,5 @@ pub mod Series
 pub mod Extremes
 pub mod Times
 pub mod Nodes
+pub mod Demand2
+pub mod Demand2Times
