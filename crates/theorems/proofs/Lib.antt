@@ -1,21 +1,25 @@
--- The theorems, from the bottom up.
+-- The theorems, from the bottom up. docs/THEOREMS.md lists them by demand.
 pub mod Lists
-pub mod Marks
-pub mod Sorting
 pub mod Counting
+pub mod Sorting
+-- listed paths and marks, runs, copies
+pub mod Marks
 pub mod Runs
 pub mod Copies
 pub mod Stands
 pub mod Parts
+-- what passing the tests gives
 pub mod Refusals
 pub mod Tested
 pub mod Legal
 pub mod Kept
-pub mod Renumbering
 pub mod Size
+-- demands 2 and 3
+pub mod Demand2
+pub mod Renumbering
 pub mod Series
+-- times
 pub mod Extremes
 pub mod Times
 pub mod Nodes
-pub mod Demand2
 pub mod Demand2Times
