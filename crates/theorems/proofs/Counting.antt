@@ -1,15 +1,15 @@
 -- Counting in lists: a list with no repeats is no longer than a list that holds its members, and lists that never fall
 -- are one where each number stands as often in one as in the other.
-use Prim.Native.Nat.{ℕ, suc, _+_, _≤_, _<_}
+use Prim.Native.Nat.{ℕ, zero, suc, _+_, _≤_, _<_}
 use mathlib.Core.Path.{_≡_, refl, sym, ap, ap₂, subst}
 use mathlib.Core.Logic.{⊎-elim, _↔_}
 use mathlib.Core.Bool.{Bool, true, false, cond}
-use mathlib.Core.List.{List, [], _∷_, _++_, map, List·Memᴰ, List·Memᴰ·head, List·Memᴰ·tail, List·Memᴰ·not-nil, List·Memᴰ·cases-cons, Memᴰ·append-left, Memᴰ·append-right, List·Memᴰ·append-cases, Memᴰ·of-map}
+use mathlib.Core.List.{List, [], _∷_, _++_, map, flatMap, List·Memᴰ, List·Memᴰ·head, List·Memᴰ·tail, List·Memᴰ·not-nil, List·Memᴰ·cases-cons, Memᴰ·append-left, Memᴰ·append-right, List·Memᴰ·append-cases, Memᴰ·of-map}
 use native.Mathlib.Omega.{arith}
 use lib.Dec.{T, eqb, leb, eqb→eq, eqb-refl, leb→le, le→leb}
 use lib.ListN.{length}
-use Rattle.timing.specs.Lists.{keep, countOf, eachNext}
-use Rattle.theorems.proofs.Lists.{and-intro, and-left, and-right, mem-keep, of-keep}
+use Rattle.timing.specs.Lists.{keep, countOf, eachNext, upto}
+use Rattle.theorems.proofs.Lists.{and-intro, and-left, and-right, mem-keep, of-keep, of-flatMap, of-upto}
 use Rattle.theorems.proofs.Sorting.{Linear, Sorted}
 
 -- what one element adds to a count
@@ -166,3 +166,33 @@ rises-same (x ∷ xs) (y ∷ ys) r s f =
     let rest : (v : ℕ) → countOf (eqb v) xs ≡ countOf (eqb v) ys
     = λ v. omega (arith, f v, count-cons (eqb v) x xs, count-cons (eqb v) y ys, ap (λ (u : ℕ). one (eqb v u)) e) in
     ap₂ _∷_ e (rises-same xs ys (r .1) (s .1) rest)
+
+-- what keeps a list free of repeats
+module _ {A : Type 0} where
+  pub nodup-keep : (p : A → Bool) (l : List A) → Nodup l → Nodup (keep p l)
+  nodup-keep p [] d = tt
+  nodup-keep p (x ∷ l) d = go (p x) (nodup-keep p l (d .1))
+    where
+      go : (b : Bool) → Nodup (keep p l) → Nodup (cond b (x ∷ keep p l) (keep p l))
+      go true r = (λ m. d .0 (of-keep p l m .0), r)
+      go false r = r
+
+  pub nodup-append : (k l : List A) → Nodup k → Nodup l → ((x : A) → List·Memᴰ x k → List·Memᴰ x l → ⊥) → Nodup (k ++ l)
+  nodup-append [] l d e f = e
+  nodup-append (x ∷ k) l d e f = (
+    λ m. ⊎-elim (d .0) (f x (List·Memᴰ·head refl)) (List·Memᴰ·append-cases k m),
+    nodup-append k l (d .1) e (λ y m n. f y (List·Memᴰ·tail m) n),
+  )
+
+-- lists with no repeats, of which no two share a member, one after the other
+pub nodup-flatMap : {A B : Type 0} (f : A → List B) (l : List A) → Nodup l → ((x : A) → Nodup (f x))
+    → ((x y : A) (z : B) → List·Memᴰ z (f x) → List·Memᴰ z (f y) → x ≡ y) → Nodup (flatMap f l)
+unfolding flatMap
+nodup-flatMap f [] d each apart = tt
+nodup-flatMap {A} f (x ∷ l) d each apart =
+    nodup-append (f x) (flatMap f l) (each x) (nodup-flatMap f l (d .1) each apart)
+    (λ z m n. let r = of-flatMap f l n in d .0 (subst (λ (y : A). List·Memᴰ y l) (sym (apart x (r .0) z m (r .2))) (r .1)))
+
+pub nodup-upto : (n i : ℕ) → Nodup (upto n i)
+nodup-upto zero i = tt
+nodup-upto (suc n) i = (λ m. omega (arith, of-upto n (suc i) i m .0), nodup-upto n (suc i))

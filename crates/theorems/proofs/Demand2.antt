@@ -11,16 +11,19 @@ use lib.Dec.{T, eqb}
 use lib.ListN.{length}
 use lib.IntN.{ℤ, _+ℤ_}
 use Rattle.timing.specs.Lists.{keep, upto}
-use Rattle.timing.specs.Graphs.{Design, edgeEnd, Edge, Graph, nodeOf, edgesOut, startsAt, endsAt, runsFrom, Run, completeRuns, names, delayAlong, DesignPath, takenBack}
+use Rattle.timing.specs.Graphs.{Design, edgeEnd, designGraph, Edge, Graph, nodeOf, edgesOut, startsAt, endsAt, runsFrom, Run, completeRuns, names, delayAlong, DesignPath, takenBack}
+use Rattle.timing.specs.declared.Verdict.the-variants.{Passed}
 use Rattle.timing.specs.Marks.{permitted}
+use Rattle.timing.specs.Tests.{designSizes, designTests}
+use Rattle.timing.specs.WellFormed.{wellFormed}
 use Rattle.timing.specs.TrueGraphs.{Copy, copyAt, edgeBefore, numbered, permittedRuns, copies, joins, trueGraph}
 use Rattle.theorems.proofs.Lists.{of-flatMap, of-keep, of-upto}
-use Rattle.theorems.proofs.Sorting.{sort-sorted}
-use Rattle.theorems.proofs.Counting.{Nodup, nodup-map, sorted-nodup}
+use Rattle.theorems.proofs.Counting.{Nodup, nodup-map, nodup-keep, nodup-append, nodup-flatMap, nodup-upto}
 use Rattle.theorems.proofs.Runs.{Rising, Leads, Way, leads-up, way-then, complete-runs}
 use Rattle.theorems.proofs.Copies.{Passes, edge-order, run-passes, passes-run}
 use Rattle.theorems.proofs.Stands.{Stands, passes-inside, lowered, names-lowered, start-shown, way-down, leads-down, way-up, start-up, true-stands}
-use Rattle.theorems.proofs.Legal.{Legal}
+use Rattle.theorems.proofs.Legal.{Legal, design-legal, wellFormed-legal}
+use Rattle.theorems.proofs.Kept.{true-distinct, true-legal}
 
 -- Each once: two complete paths of a legal graph that are one path of the design are one. From the end on: both ends are
 -- the one copy of their sink, and the end copy and the name of an edge give the edge.
@@ -115,7 +118,7 @@ module _ (G H : Graph) (L : List (List ℕ)) (up : Rising G) (S : Stands G L H) 
 
 -- Demand 2 for H, a graph of the design D that was made of G by removing the listed paths L: H's source-to-sink paths, taken
 -- back to the design's edges, are G's complete paths that contain no listed path: each once, no others, delays unchanged.
-pub record Demand2 (D : Design) (G : Graph) (L : List (List ℕ)) (H : Graph) : Type 0 where
+pub record Demand2 (G : Graph) (L : List (List ℕ)) (H : Graph) : Type 0 where
   -- no others: every source-to-sink path of H is, taken back, a complete path that contains no listed path, with its delay
   pub sound : (r : Run) → List·Memᴰ r (completeRuns H) → (q : Run) × List·Memᴰ q (permittedRuns L G) × SamePath H G r q
   -- all of them: every complete path that contains no listed path is, taken back, a source-to-sink path of H, with its delay
@@ -123,42 +126,20 @@ pub record Demand2 (D : Design) (G : Graph) (L : List (List ℕ)) (H : Graph) : 
   -- each once: two source-to-sink paths of H that are, taken back, one path are one path of H
   pub once : (r s : Run) → List·Memᴰ r (completeRuns H) → List·Memᴰ s (completeRuns H) → takenBack H r ≡ takenBack H s → r ≡ s
 
-pub stands-demand2 : (D : Design) (G H : Graph) (L : List (List ℕ)) → Rising G → Stands G L H → Legal D H → Demand2 D G L H
+pub stands-demand2 : (D : Design) (G H : Graph) (L : List (List ℕ)) → Rising G → Stands G L H → Legal D H → Demand2 G L H
 stands-demand2 D G H L up S legal = record { sound = path-sound G H L up S; complete = path-complete G H L up S; once = path-once D H legal }
 
-pub true-demand2 : (D : Design) (G : Graph) (L : List (List ℕ)) → Rising G → Legal D (trueGraph G L) → Demand2 D G L (trueGraph G L)
-true-demand2 D G L up legal = stands-demand2 D G (trueGraph G L) L up (true-stands G L up) legal
+-- Demand 2 for removal from any legal graph; then from a design that passes its tests, and from an earlier graph that passes 32.
+pub true-demand2 : (D : Design) (G : Graph) (L : List (List ℕ)) → Legal D G → Demand2 G L (trueGraph G L)
+true-demand2 D G L legal = stands-demand2 D G (trueGraph G L) L (legal .rising) (true-stands G L (legal .rising)) (true-legal D G L legal)
+
+pub design-demand2 : (D : Design) (L : List (List ℕ)) → designSizes D ≡ Passed → designTests D ≡ Passed → Demand2 (designGraph D) L (trueGraph (designGraph D) L)
+design-demand2 D L s t = true-demand2 D (designGraph D) L (design-legal D s t)
+
+pub graph-demand2 : (D : Design) (G : Graph) (L : List (List ℕ)) → designSizes D ≡ Passed → designTests D ≡ Passed → T (wellFormed D G) → Demand2 G L (trueGraph G L)
+graph-demand2 D G L s t w = true-demand2 D G L (wellFormed-legal D G s t w)
 
 -- The lists of paths repeat nothing either, so that "each once" is also true of the list.
-module _ {A : Type 0} where
-  nodup-keep : (p : A → Bool) (l : List A) → Nodup l → Nodup (keep p l)
-  nodup-keep p [] d = tt
-  nodup-keep p (x ∷ l) d = go (p x) (nodup-keep p l (d .1))
-    where
-      go : (b : Bool) → Nodup (keep p l) → Nodup (cond b (x ∷ keep p l) (keep p l))
-      go true r = (λ m. d .0 (of-keep p l m .0), r)
-      go false r = r
-
-  nodup-append : (k l : List A) → Nodup k → Nodup l → ((x : A) → List·Memᴰ x k → List·Memᴰ x l → ⊥) → Nodup (k ++ l)
-  nodup-append [] l d e f = e
-  nodup-append (x ∷ k) l d e f = (
-    λ m. ⊎-elim (d .0) (f x (List·Memᴰ·head refl)) (List·Memᴰ·append-cases k m),
-    nodup-append k l (d .1) e (λ y m n. f y (List·Memᴰ·tail m) n),
-  )
-
--- lists with no repeats, of which no two share a member, one after the other
-nodup-flatMap : {A B : Type 0} (f : A → List B) (l : List A) → Nodup l → ((x : A) → Nodup (f x))
-    → ((x y : A) (z : B) → List·Memᴰ z (f x) → List·Memᴰ z (f y) → x ≡ y) → Nodup (flatMap f l)
-unfolding flatMap
-nodup-flatMap f [] d each apart = tt
-nodup-flatMap {A} f (x ∷ l) d each apart =
-    nodup-append (f x) (flatMap f l) (each x) (nodup-flatMap f l (d .1) each apart)
-    (λ z m n. let r = of-flatMap f l n in d .0 (subst (λ (y : A). List·Memᴰ y l) (sym (apart x (r .0) z m (r .2))) (r .1)))
-
-nodup-upto : (n i : ℕ) → Nodup (upto n i)
-nodup-upto zero i = tt
-nodup-upto (suc n) i = (λ m. omega (arith, of-upto n (suc i) i m .0), nodup-upto n (suc i))
-
 -- the empty run, and each edge in front of each of its runs
 steps-nodup : (f : Edge → List (List Edge)) (l : List Edge) (b : Bool) → Nodup l → ((e : Edge) → Nodup (f e))
     → Nodup (cond b ([] ∷ []) [] ++ flatMap (λ e. map (λ r. e ∷ r) (f e)) l)
@@ -203,13 +184,8 @@ module _ (G : Graph) (d : Nodup (G .edges)) where
       from : ℕ → List Run
       from c = map (run c) (runsFrom G (length (G .nodes)) c)
 
--- a true graph's edges are sorted, so that none repeats
-pub true-edges-nodup : (G : Graph) (L : List (List ℕ)) → Nodup (trueGraph G L .edges)
-unfolding trueGraph
-true-edges-nodup G L = sorted-nodup edgeBefore edge-order (trueGraph G L .edges) (sort-sorted edgeBefore edge-order (map (numbered (copies L G)) (joins L G)))
-
 -- the list of a true graph's paths, taken back to the design, has no repeats
 pub true-paths-nodup : (D : Design) (G : Graph) (L : List (List ℕ)) → Legal D (trueGraph G L) → Nodup (map (takenBack (trueGraph G L)) (completeRuns (trueGraph G L)))
 true-paths-nodup D G L legal =
     nodup-map (takenBack (trueGraph G L)) (completeRuns (trueGraph G L)) (path-once D (trueGraph G L) legal)
-    (complete-runs-nodup (trueGraph G L) (true-edges-nodup G L))
+    (complete-runs-nodup (trueGraph G L) (true-distinct G L))

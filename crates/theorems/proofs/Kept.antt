@@ -15,7 +15,7 @@ use Rattle.timing.specs.Sorting.{before}
 use Rattle.timing.specs.TrueGraphs.{Copy, copyBefore, edgeBefore, copies, joins, numbered, trueGraph}
 use Rattle.timing.specs.WellFormed.{fewEnough, edgeRises, isSource, isSink, oneSinkCopy, linked, wellFormed}
 use Rattle.theorems.proofs.Lists.{and-intro, and-left, and-right, or-cases, or-left, or-right}
-use Rattle.theorems.proofs.Counting.{Rises, rises-next, sorted-next, count-cons, of-count, one}
+use Rattle.theorems.proofs.Counting.{Nodup, sorted-nodup, Rises, rises-next, sorted-next, count-cons, of-count, one}
 use Rattle.theorems.proofs.Sorting.{Linear, Sorted, sort-sorted, mem-getD}
 use Rattle.theorems.proofs.Refusals.{allOf-intro}
 use Rattle.theorems.proofs.Runs.{Rising}
@@ -209,6 +209,10 @@ legal-one-sink D G fit legal v = go (isSink D v) refl
 pub edges-sorted : (G : Graph) (L : List (List ℕ)) → Sorted edgeBefore (trueGraph G L .edges)
 unfolding trueGraph
 edges-sorted G L = sort-sorted edgeBefore edge-order (map (numbered (copies L G)) (joins L G))
+
+-- no edge of a true graph stands in it twice
+pub true-distinct : (G : Graph) (L : List (List ℕ)) → Nodup (trueGraph G L .edges)
+true-distinct G L = sorted-nodup edgeBefore edge-order (trueGraph G L .edges) (edges-sorted G L)
 
 -- W: the true graph of a legal graph passes test 32, where its counts are within the limits
 pub true-formed : (D : Design) (G : Graph) (L : List (List ℕ)) → DesignFits D → Legal D G → T (fewEnough (trueGraph G L)) → T (wellFormed D (trueGraph G L))

@@ -14,6 +14,8 @@ pub mod Tested
 pub mod Legal
 pub mod Kept
 pub mod Size
+-- how a removal finds the copies
+pub mod Back
 -- demands 2 and 3
 pub mod Demand2
 pub mod Renumbering

@@ -13,7 +13,7 @@ use Rattle.timing.specs.Graphs.{Edge, edge, Graph, nodeOf}
 use Rattle.timing.specs.TrueGraphs.{Copy}
 use Rattle.timing.specs.Series.{renumbered, Renumbered}
 use Rattle.theorems.proofs.Lists.{mem-upto, of-upto}
-use Rattle.theorems.proofs.Counting.{Nodup, count-map, count-same, length-same, nodup-map, Rises, rises-same}
+use Rattle.theorems.proofs.Counting.{Nodup, count-map, count-same, length-same, nodup-map, nodup-upto, Rises, rises-same}
 use Rattle.theorems.proofs.Runs.{Rising}
 use Rattle.theorems.proofs.Copies.{Shown, joined-link}
 use Rattle.theorems.proofs.Stands.{joinOf, Stands, join-edge, length-map}
@@ -29,10 +29,6 @@ by-places (x ∷ xs) (suc n) i f e h =
     let rest = by-places xs n (suc i) f (omega arith) (λ k l. let y : suc i + k ≡ i + suc k = omega arith in ap f y ∙ h (suc k) (omega arith)) in
     λ t. first t ∷ rest t
 
-upto-nodup : (n i : ℕ) → Nodup (upto n i)
-upto-nodup zero i = tt
-upto-nodup (suc n) i = (λ m. omega (arith, of-upto n (suc i) i m .0), upto-nodup n (suc i))
-
 module _ (G H K : Graph) (L : List (List ℕ)) (up : Rising G) (S : Stands G L H) (Q : Stands G L K) where
   -- the labels of all copies
   labels : (X : Graph) → Stands G L X → List Copy
@@ -46,7 +42,7 @@ module _ (G H K : Graph) (L : List (List ℕ)) (up : Rising G) (S : Stands G L H
   labels-nodup X P =
       nodup-map (P .label) (upto (length (X .nodes)) 0)
       (λ c d m k e. sym (P .every c (in-range _ c m) .1) ∙ ap (P .number) e ∙ P .every d (in-range _ d k) .1)
-      (upto-nodup (length (X .nodes)) 0)
+      (nodup-upto (length (X .nodes)) 0)
 
   mem-labels : (X : Graph) (P : Stands G L X) (p : Copy) → List·Memᴰ p (labels X P) ↔ Shown G L p
   unfolding labels

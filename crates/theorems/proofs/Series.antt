@@ -13,22 +13,21 @@ use Rattle.timing.specs.declared.Verdict.the-variants.{Passed, Refused}
 use Rattle.timing.specs.Lists.{countOf, sum}
 use Rattle.timing.specs.Graphs.{Design, edgeStart, Edge, Graph, graph, edgesOf, designGraph}
 use Rattle.timing.specs.Marks.{PathList, pathsOf}
-use Rattle.timing.specs.TrueGraphs.{edgeBefore, trueGraph}
+use Rattle.timing.specs.TrueGraphs.{trueGraph}
 use Rattle.timing.specs.WellFormed.{fewEnough, wellFormed}
 use Rattle.timing.specs.Refusals.{refusal, unless, _then_}
 use Rattle.timing.specs.Tests.{designSizes, listSizes, designTests, listTests, graphTest, candidates, scratchTest, Room, roomSizes, roomTests}
 use Rattle.timing.specs.Calls.{GraphSlices, graphOf, slicesOf, graphSizes, Outcome, made, refused, outcome, Removal, removalTests, removeFromDesign, removeFromGraph}
 use Rattle.timing.specs.Series.{removeNext, heldNext, verdictOf, verdicts, heldAfter, heldFor, withList, wholeNext, verdictAlone, verdictsAlone, wholeAfter, Renumbered, HeldIs, Demand3}
 use Rattle.theorems.proofs.Lists.{holds, and-intro, and-left, and-right}
-use Rattle.theorems.proofs.Counting.{Nodup, sorted-nodup}
+use Rattle.theorems.proofs.Counting.{Nodup}
 use Rattle.theorems.proofs.Refusals.{then-passed, unless-passed}
-use Rattle.theorems.proofs.Copies.{edge-order}
 use Rattle.theorems.proofs.Stands.{Stands, length-map, true-stands}
 use Rattle.theorems.proofs.Parts.{parts-stand}
 use Rattle.theorems.proofs.Renumbering.{stands-renumbered}
 use Rattle.theorems.proofs.Tested.{DesignFits, design-fits, ListFits, list-fits, Formed, formed}
 use Rattle.theorems.proofs.Legal.{Legal, fits-legal}
-use Rattle.theorems.proofs.Kept.{true-legal, edges-sorted, true-formed}
+use Rattle.theorems.proofs.Kept.{true-distinct, true-legal, true-formed}
 use Rattle.theorems.proofs.Size.{Paths, paths-append, list-paths, size-whole}
 
 -- a graph lent as slices is the graph, and its slices belong together
@@ -49,9 +48,6 @@ slices-sizes G =
     passes : (b : Bool) → T b → unless 30 (b && b) ≡ Passed
     passes true t = refl
     passes false t = absurd t
-
-pub true-distinct : (G : Graph) (L : List (List ℕ)) → Nodup (trueGraph G L .edges)
-true-distinct G L = sorted-nodup edgeBefore edge-order (trueGraph G L .edges) (edges-sorted G L)
 
 -- what is known of a graph that is held for the whole list L
 pub record Held (D : Design) (L : List (List ℕ)) (H : Graph) : Type 0 where

@@ -101,9 +101,9 @@ module _ (G : Graph) (L : List (List ℕ)) (up : Rising G) where
   unfolding trueGraph
   size = length-map (λ (c : Copy). nodeOf G (c .at)) (copies L G)
 
-  mem-edges : (e : Edge) → List·Memᴰ e (trueGraph G L .edges) ↔ ((j : Join) × Joined G L j × (numbered (copies L G) j ≡ e))
+  pub true-edges : (e : Edge) → List·Memᴰ e (trueGraph G L .edges) ↔ ((j : Join) × Joined G L j × (numbered (copies L G) j ≡ e))
   unfolding trueGraph
-  mem-edges e = (
+  true-edges e = (
     λ m.
         let r = Memᴰ·of-map (numbered (copies L G)) (joins L G) (sort-mem edgeBefore edge-order e (map (numbered (copies L G)) (joins L G)) .0 m) in
         (r .0, mem-joins G L up (r .0) .0 (r .1), r .2),
@@ -114,7 +114,7 @@ module _ (G : Graph) (L : List (List ℕ)) (up : Rising G) where
 
   edge-rises : (e : Edge) → List·Memᴰ e (trueGraph G L .edges) → (e .start < e .end) × (e .end < length (trueGraph G L .nodes))
   edge-rises e m =
-      let r = mem-edges e .0 m in
+      let r = true-edges e .0 m in
       let k = joined-link G L (r .0) (r .1) in
       let t : T (copyBefore (r .0 .start) (r .0 .end)) = lower-before (r .0 .start) (r .0 .end) (up .up _ (k .along)) in
       let a = place-less copyBefore copy-order (r .0 .start) (r .0 .end) (copies L G) copies-sorted (mem-copies G L up (r .0 .start) .1 (k .from)) t in
@@ -149,10 +149,10 @@ module _ (G : Graph) (L : List (List ℕ)) (up : Rising G) where
             let k : c < length (copies L G) = rw size at h in
             (mem-copies G L up (at-label c) .0 (mem-getD copyBefore copy-order (copies L G) (record { at = 0; mark = [] }) c k), number-label c k, node-at c k);
         joined = λ e m.
-            let r = mem-edges e .0 m in
+            let r = true-edges e .0 m in
             subst (Joined G L) (sym (label-join (r .0) (r .1)) ∙ ap (joinOf at-label) (r .2)) (r .1);
         edges = λ e h k x.
-            mem-edges e .1 (
+            true-edges e .1 (
               joinOf at-label e,
               x,
               λ i. edge (number-label (e .start) (rw size at h) i) (number-label (e .end) (rw size at k) i) (e .name),
