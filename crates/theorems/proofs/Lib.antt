@@ -25,3 +25,5 @@ pub mod Extremes
 pub mod Times
 pub mod Nodes
 pub mod Demand2Times
+-- the hypotheses can be met
+pub mod Examples

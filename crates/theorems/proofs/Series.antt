@@ -3,7 +3,7 @@
 use Prim.Native.Nat.{ℕ, zero, suc, _+_, _*_, _≤_, _<_, min}
 use mathlib.Core.Path.{_≡_, refl, sym, ap, _∙_, subst, subst₂}
 use mathlib.Core.Bool.{Bool, true, false, _&&_}
-use mathlib.Core.List.{List, [], _∷_, _++_, map, flatMap, List·Memᴰ}
+use mathlib.Core.List.{List, [], _∷_, _++_, map, flatMap, List·Memᴰ, append-assoc, append-nil}
 use mathlib.Core.Option.{Option, none, some}
 use native.Mathlib.Omega.{arith}
 use lib.Dec.{T, eqb, leb, eqb-refl, leb→le, le→leb}
@@ -263,3 +263,35 @@ pub demand3 : (D : Design) (rs : List Removal) → Demand3 D rs
 demand3 D rs =
     let s = series D rs none none tt in
     record { refusals = s .0; graph = related-is D (wholeAfter D none rs) (heldAfter D none rs) (s .1) }
+
+-- Corollary: a list cut anywhere between its paths. Where no removal of a series is refused, the graph held is that of all
+-- its lists put end to end, however they were cut.
+abbrev pub AllPassed : List Verdict → Type 0
+AllPassed [] = Unit {0}
+AllPassed (Passed ∷ vs) = AllPassed vs
+AllPassed (Refused x ∷ vs) = ⊥
+
+pub listsOf : List Removal → List (List ℕ)
+listsOf rs = flatMap (λ r. pathsOf (r .list)) rs
+
+whole-passed : (D : Design) (rs : List Removal) (L : List (List ℕ)) → AllPassed (verdictsAlone D (some L) rs) → wholeAfter D (some L) rs ≡ some (L ++ listsOf rs)
+unfolding listsOf flatMap
+whole-passed D [] L a = ap some (sym (append-nil L))
+whole-passed D (r ∷ rs) L a = go (verdictAlone D (some L) r) a (λ b. whole-passed D rs (L ++ pathsOf (r .list)) b)
+  where
+    go : (v : Verdict) → AllPassed (v ∷ verdictsAlone D (wholeNext (some L) r v) rs)
+        → (AllPassed (verdictsAlone D (some (L ++ pathsOf (r .list))) rs) → wholeAfter D (some (L ++ pathsOf (r .list))) rs ≡ some ((L ++ pathsOf (r .list)) ++ flatMap (λ r. pathsOf (r .list)) rs))
+        → wholeAfter D (wholeNext (some L) r v) rs ≡ some (L ++ flatMap (λ r. pathsOf (r .list)) (r ∷ rs))
+    go Passed b below = below b ∙ ap some (append-assoc L (pathsOf (r .list)) (flatMap (λ r. pathsOf (r .list)) rs))
+    go (Refused x) b below = absurd b
+
+pub cut-list : (D : Design) (r : Removal) (rs : List Removal) → AllPassed (verdicts D none (r ∷ rs)) → HeldIs D (some (listsOf (r ∷ rs))) (heldAfter D none (r ∷ rs))
+unfolding listsOf flatMap
+cut-list D r rs a =
+    let d = demand3 D (r ∷ rs) in
+    subst (λ (w : Option (List (List ℕ))). HeldIs D w (heldAfter D none (r ∷ rs)))
+    (go (verdictAlone D none r) (subst AllPassed (d .refusals) a)) (d .graph)
+  where
+    go : (v : Verdict) → AllPassed (v ∷ verdictsAlone D (wholeNext none r v) rs) → wholeAfter D (wholeNext none r v) rs ≡ some (flatMap (λ r. pathsOf (r .list)) (r ∷ rs))
+    go Passed b = whole-passed D rs (pathsOf (r .list)) b
+    go (Refused x) b = absurd b
