@@ -14,15 +14,14 @@ use Rattle.timing.specs.Marks.{mark}
 use Rattle.timing.specs.Sorting.{before}
 use Rattle.timing.specs.TrueGraphs.{Copy, copyBefore, edgeBefore, copies, joins, numbered, trueGraph}
 use Rattle.timing.specs.WellFormed.{fewEnough, edgeRises, isSource, isSink, oneSinkCopy, linked, wellFormed}
-use Rattle.theorems.proofs.Lists.{and-intro, and-left, and-right, or-cases, or-left, or-right}
+use Rattle.theorems.proofs.Lists.{and-intro, and-left, and-right, or-cases, or-left, or-right, allOf-intro, getD-mem}
 use Rattle.theorems.proofs.Counting.{Nodup, sorted-nodup, Rises, rises-next, sorted-next, count-cons, of-count, one}
-use Rattle.theorems.proofs.Sorting.{Linear, Sorted, sort-sorted, mem-getD}
-use Rattle.theorems.proofs.Refusals.{allOf-intro}
+use Rattle.theorems.proofs.Sorting.{Linear, Sorted, sort-sorted}
 use Rattle.theorems.proofs.Runs.{Rising}
 use Rattle.theorems.proofs.Copies.{Shown, Link, copy-order, edge-order, joined-link, mem-copies}
 use Rattle.theorems.proofs.Stands.{joinOf, Stands, ends-none, no-out, end-shown, start-shown, passes-inside, true-stands, copies-sorted}
 use Rattle.theorems.proofs.Tested.{DesignFits, EdgeFits, Formed, formed-passes}
-use Rattle.theorems.proofs.Legal.{Legal, getD-mem, designEdge, mem-design-edges}
+use Rattle.theorems.proofs.Legal.{Legal, designEdge, mem-design-edges}
 
 -- a later place of a list that rises holds no less
 pub rises-at : (xs : List ℕ) → Rises xs → (i j : ℕ) → i ≤ j → j < length xs → getD xs i 0 ≤ getD xs j 0

@@ -14,11 +14,10 @@ use Rattle.timing.specs.Lists.{countOf, eachNext, upto}
 use Rattle.timing.specs.Graphs.{Design, edgeStart, edgeEnd, Edge, edge, Graph, edgesOf, designGraph, nodeOf, startsAt, endsAt}
 use Rattle.timing.specs.WellFormed.{edgeRises, isSource, isSink, wellFormed}
 use Rattle.timing.specs.Tests.{designSizes, designTests}
-use Rattle.theorems.proofs.Lists.{and-intro, and-left, and-right, or-cases, or-left, or-right, of-upto}
+use Rattle.theorems.proofs.Lists.{and-intro, and-left, and-right, or-cases, or-left, or-right, of-upto, allOf-elim, getD-mem, length-upto, getD-upto}
 use Rattle.theorems.proofs.Sorting.{Sorted}
 use Rattle.theorems.proofs.Runs.{Rising}
 use Rattle.theorems.proofs.Counting.{one, count-cons, count-positive, Rises, rises-next, next-sorted}
-use Rattle.theorems.proofs.Refusals.{allOf-elim}
 use Rattle.theorems.proofs.Tested.{DesignFits, design-fits, Formed, formed}
 
 pub record Legal (D : Design) (G : Graph) : Type 0 where
@@ -32,21 +31,6 @@ pub record Legal (D : Design) (G : Graph) : Type 0 where
   pub order : Rises (G .nodes)
   pub sources : (c : ℕ) → c < length (G .nodes) → T (startsAt G c) → T (isSource D (nodeOf G c))
   pub sinks : (c : ℕ) → c < length (G .nodes) → T (endsAt G c) → T (isSink D (nodeOf G c))
-
-pub getD-mem : {A : Type 0} (l : List A) (i : ℕ) (d : A) → i < length l → List·Memᴰ (getD l i d) l
-getD-mem [] i d h = absurd (omega arith)
-getD-mem (x ∷ l) zero d h = List·Memᴰ·head refl
-getD-mem (x ∷ l) (suc i) d h = List·Memᴰ·tail (getD-mem l i d (omega arith))
-
--- the numbers from i on
-pub length-upto : (n i : ℕ) → length (upto n i) ≡ n
-length-upto zero i = refl
-length-upto (suc n) i = ap suc (length-upto n (suc i))
-
-pub getD-upto : (n i c d : ℕ) → c < n → getD (upto n i) c d ≡ i + c
-getD-upto zero i c d h = absurd (omega arith)
-getD-upto (suc n) i zero d h = omega arith
-getD-upto (suc n) i (suc c) d h = omega (arith, getD-upto n (suc i) c d (omega arith))
 
 rises-upto : (n i : ℕ) → Rises (upto n i)
 rises-upto zero i = tt

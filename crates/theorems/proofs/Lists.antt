@@ -7,7 +7,7 @@ use mathlib.Core.List.{List, [], _∷_, _++_, map, flatMap, List·Memᴰ, List·
 use native.Mathlib.Omega.{arith}
 use native.Mathlib.Decide.{ℕ-discrete}
 use lib.Dec.{T}
-use lib.ListN.{length}
+use lib.ListN.{length, getD}
 use Rattle.timing.specs.Lists.{isNil, anyOf, allOf, keep, upto}
 
 pub and-intro : (a b : Bool) → T a → T b → T (a && b)
@@ -123,3 +123,51 @@ of-upto (suc n) i x m = go (List·Memᴰ·cases-cons m) (λ h. of-upto n (suc i)
     go : (x ≡ i) ⊎ List·Memᴰ x (upto n (suc i)) → (List·Memᴰ x (upto n (suc i)) → (suc i ≤ x) × (x < suc i + n)) → (i ≤ x) × (x < i + suc n)
     go (inl e) below = (omega arith, omega arith)
     go (inr h) below = let r = below h in (omega (arith, r .0), omega (arith, r .1))
+
+-- a test of all members
+module _ {A : Type 0} (p : A → Bool) where
+  pub allOf-elim : {x : A} (l : List A) → T (allOf p l) → List·Memᴰ x l → T (p x)
+  allOf-elim [] t m = absurd (List·Memᴰ·not-nil m)
+  allOf-elim {x} (y ∷ l) t m =
+      ⊎-elim
+      (λ (e : x ≡ y). rw e (and-left (p y) (allOf p l) t))
+      (λ h. allOf-elim l (and-right (p y) (allOf p l) t) h)
+      (List·Memᴰ·cases-cons m)
+
+  pub allOf-intro : (l : List A) → ((x : A) → List·Memᴰ x l → T (p x)) → T (allOf p l)
+  allOf-intro [] f = tt
+  allOf-intro (y ∷ l) f = and-intro (p y) (allOf p l) (f y (List·Memᴰ·head refl)) (allOf-intro l (λ x m. f x (List·Memᴰ·tail m)))
+
+-- a member that does not pass is found
+pub anyOf-false : {A : Type 0} (p : A → Bool) (l : List A) → anyOf (λ x. not (p x)) l ≡ false → (x : A) → List·Memᴰ x l → T (p x)
+anyOf-false p l e x m = go (p x) refl
+  where
+    go : (b : Bool) → p x ≡ b → T b
+    go true q = tt
+    go false q = fails (anyOf (λ y. not (p y)) l) e (anyOf-intro (λ y. not (p y)) m (rw q tt))
+
+-- a place of a list
+pub getD-mem : {A : Type 0} (l : List A) (i : ℕ) (d : A) → i < length l → List·Memᴰ (getD l i d) l
+getD-mem [] i d h = absurd (omega arith)
+getD-mem (x ∷ l) zero d h = List·Memᴰ·head refl
+getD-mem (x ∷ l) (suc i) d h = List·Memᴰ·tail (getD-mem l i d (omega arith))
+
+pub getD-map : {A B : Type 0} (f : A → B) (l : List A) (a : A) (b : B) (i : ℕ) → i < length l → getD (map f l) i b ≡ f (getD l i a)
+getD-map f [] a b i h = absurd (omega arith)
+getD-map f (x ∷ l) a b zero h = refl
+getD-map f (x ∷ l) a b (suc i) h = getD-map f l a b i (omega arith)
+
+-- the numbers from i on
+pub length-upto : (n i : ℕ) → length (upto n i) ≡ n
+length-upto zero i = refl
+length-upto (suc n) i = ap suc (length-upto n (suc i))
+
+pub getD-upto : (n i c d : ℕ) → c < n → getD (upto n i) c d ≡ i + c
+getD-upto zero i c d h = absurd (omega arith)
+getD-upto (suc n) i zero d h = omega arith
+getD-upto (suc n) i (suc c) d h = omega (arith, getD-upto n (suc i) c d (omega arith))
+
+-- an empty list has no member
+pub none-of-nil : {A : Type 0} (l : List A) (x : A) → T (isNil l) → List·Memᴰ x l → ⊥
+none-of-nil [] x t m = List·Memᴰ·not-nil m
+none-of-nil (y ∷ l) x t m = t

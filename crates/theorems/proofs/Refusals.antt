@@ -8,7 +8,6 @@ use lib.Dec.{T}
 use Rattle.timing.specs.declared.Refusal.{Refusal}
 use Rattle.timing.specs.declared.Verdict.{Verdict}
 use Rattle.timing.specs.declared.Verdict.the-variants.{Passed, Refused}
-use Rattle.timing.specs.Lists.{allOf}
 use Rattle.timing.specs.Refusals.{refusal, _then_, unless, firstBad}
 use Rattle.theorems.proofs.Lists.{and-intro, and-left, and-right}
 
@@ -37,17 +36,3 @@ firstBad-passed {A} number bad k (y ∷ xs) e x m = go (bad y) refl e (λ h. fir
         → (firstBad number bad (suc k) xs ≡ Passed → (z : A) → List·Memᴰ z xs → bad z ≡ false) → bad x ≡ false
     go true q h below = absurd (refused-passed (refusal number k) h)
     go false q h below = ⊎-elim (λ (same : x ≡ y). rw same q) (below h x) (List·Memᴰ·cases-cons m)
-
--- a test of all members
-module _ {A : Type 0} (p : A → Bool) where
-  pub allOf-elim : {x : A} (l : List A) → T (allOf p l) → List·Memᴰ x l → T (p x)
-  allOf-elim [] t m = absurd (List·Memᴰ·not-nil m)
-  allOf-elim {x} (y ∷ l) t m =
-      ⊎-elim
-      (λ (e : x ≡ y). rw e (and-left (p y) (allOf p l) t))
-      (λ h. allOf-elim l (and-right (p y) (allOf p l) t) h)
-      (List·Memᴰ·cases-cons m)
-
-  pub allOf-intro : (l : List A) → ((x : A) → List·Memᴰ x l → T (p x)) → T (allOf p l)
-  allOf-intro [] f = tt
-  allOf-intro (y ∷ l) f = and-intro (p y) (allOf p l) (f y (List·Memᴰ·head refl)) (allOf-intro l (λ x m. f x (List·Memᴰ·tail m)))

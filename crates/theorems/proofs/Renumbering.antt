@@ -7,7 +7,7 @@ use mathlib.Core.Bool.{Bool}
 use mathlib.Core.List.{List, [], _∷_, map, List·Memᴰ, List·Memᴰ·head, List·Memᴰ·tail, List·Memᴰ·not-nil, Memᴰ·map, Memᴰ·of-map}
 use native.Mathlib.Omega.{arith}
 use lib.Dec.{eqb}
-use lib.ListN.{length, getD}
+use lib.ListN.{length, getD, length-map}
 use Rattle.timing.specs.Lists.{countOf, upto}
 use Rattle.timing.specs.Graphs.{Edge, edge, Graph, nodeOf}
 use Rattle.timing.specs.TrueGraphs.{Copy}
@@ -16,7 +16,7 @@ use Rattle.theorems.proofs.Lists.{mem-upto, of-upto}
 use Rattle.theorems.proofs.Counting.{Nodup, count-map, count-same, length-same, nodup-map, nodup-upto, Rises, rises-same}
 use Rattle.theorems.proofs.Runs.{Rising}
 use Rattle.theorems.proofs.Copies.{Shown, joined-link}
-use Rattle.theorems.proofs.Stands.{joinOf, Stands, join-edge, length-map}
+use Rattle.theorems.proofs.Stands.{joinOf, Stands, join-edge}
 
 -- a list by its places
 by-places : (xs : List ℕ) (n i : ℕ) (f : ℕ → ℕ) → n ≡ length xs → ((k : ℕ) → k < n → f (i + k) ≡ getD xs k 0) → map f (upto n i) ≡ xs
@@ -98,7 +98,7 @@ pub stands-renumbered : (G H K : Graph) (L : List (List ℕ)) → Rising G → S
 stands-renumbered G H K L up S Q rh rk eh ek =
     record {
       nodes = nodes;
-      edges = sym (length-map (renumbered t) (H .edges)) ∙ length-same (map (renumbered t) (H .edges)) (K .edges) moved ek members;
+      edges = sym (length-map (H .edges) (renumbered t)) ∙ length-same (map (renumbered t) (H .edges)) (K .edges) moved ek members;
       to = t;
       back = b;
       there = λ c h. let r = to-there G H K L up S Q c h in (subst (λ (n : ℕ). t c < n) (sym size) (r .0), r .1, r .2);

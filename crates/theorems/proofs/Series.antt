@@ -7,7 +7,7 @@ use mathlib.Core.List.{List, [], _∷_, _++_, map, flatMap, List·Memᴰ, append
 use mathlib.Core.Option.{Option, none, some}
 use native.Mathlib.Omega.{arith}
 use lib.Dec.{T, eqb, leb, eqb-refl, leb→le, le→leb}
-use lib.ListN.{length, drop}
+use lib.ListN.{length, drop, length-map}
 use Rattle.timing.specs.declared.Verdict.{Verdict}
 use Rattle.timing.specs.declared.Verdict.the-variants.{Passed, Refused}
 use Rattle.timing.specs.Lists.{countOf, sum}
@@ -22,7 +22,7 @@ use Rattle.timing.specs.Series.{removeNext, heldNext, verdictOf, verdicts, held
 use Rattle.theorems.proofs.Lists.{holds, and-intro, and-left, and-right}
 use Rattle.theorems.proofs.Counting.{Nodup}
 use Rattle.theorems.proofs.Refusals.{then-passed, unless-passed}
-use Rattle.theorems.proofs.Stands.{Stands, length-map, true-stands}
+use Rattle.theorems.proofs.Stands.{Stands, true-stands}
 use Rattle.theorems.proofs.Parts.{parts-stand}
 use Rattle.theorems.proofs.Renumbering.{stands-renumbered}
 use Rattle.theorems.proofs.Tested.{DesignFits, design-fits, ListFits, list-fits, Formed, formed}
@@ -40,9 +40,9 @@ graph-slices G = λ i. graph (G .nodes) (slices-edges (G .edges) i)
 
 pub slices-sizes : (G : Graph) → graphSizes (slicesOf G) ≡ Passed
 slices-sizes G =
-    let a = length-map (λ (e : Edge). e .start) (G .edges) in
-    let b = length-map (λ (e : Edge). e .end) (G .edges) in
-    let c = length-map (λ (e : Edge). e .name) (G .edges) in
+    let a = length-map (G .edges) (λ (e : Edge). e .start) in
+    let b = length-map (G .edges) (λ (e : Edge). e .end) in
+    let c = length-map (G .edges) (λ (e : Edge). e .name) in
     rw (a, b, c) (passes (eqb (length (G .edges)) (length (G .edges))) (eqb-refl (length (G .edges))))
   where
     passes : (b : Bool) → T b → unless 30 (b && b) ≡ Passed

@@ -15,22 +15,14 @@ use Rattle.timing.specs.Graphs.{Design, edgeStart, Edge, Graph, designGraph, no
 use Rattle.timing.specs.Marks.{PathList, cut, pathsOf, permitted, suffixes, tailsOf, tails, mark}
 use Rattle.timing.specs.TrueGraphs.{Copy, copyBefore, copyAt, copiesOn, permittedRuns, copies, trueGraph}
 use Rattle.timing.specs.Tests.{designSizes, listSizes, designTests, listTests, candidates}
-use Rattle.theorems.proofs.Lists.{of-flatMap, mem-keep, of-keep}
+use Rattle.theorems.proofs.Lists.{of-flatMap, mem-keep, of-keep, length-upto}
 use Rattle.theorems.proofs.Marks.{Prefix, Tail, mark-tail, mark-prefix}
 use Rattle.theorems.proofs.Sorting.{Linear, sort-mem, sort-sorted, by-key}
 use Rattle.theorems.proofs.Runs.{Rising, Way, complete-runs}
 use Rattle.theorems.proofs.Counting.{one, count-cons, count-append, Nodup, length-le, sorted-nodup}
 use Rattle.theorems.proofs.Tested.{DesignFits, design-fits, ListFits, list-fits}
-use Rattle.theorems.proofs.Legal.{Legal, length-upto, fits-legal}
-
--- copies are told apart by their key
-copies-linear : Linear copyBefore
-copies-linear =
-    by-key (λ (c : Copy). c .at ∷ length (c .mark) ∷ c .mark)
-    (λ x y e. same x y (head-eq-of-cons-eq e) (tail-eq-of-cons-eq (tail-eq-of-cons-eq e)))
-  where
-    same : (x y : Copy) → x .at ≡ y .at → x .mark ≡ y .mark → x ≡ y
-    same x y p q = λ i. record { at = p i; mark = q i }
+use Rattle.theorems.proofs.Legal.{Legal, fits-legal}
+use Rattle.theorems.proofs.Copies.{copy-order}
 
 -- the listed edges that are not first in their path
 abbrev pub inner : List (List ℕ) → List ℕ
@@ -125,7 +117,7 @@ pub of-copies : (G : Graph) → Rising G → (L : List (List ℕ)) (x : Copy) �
 unfolding copies permittedRuns
 of-copies G up L x m =
     let on : Run → List Copy = λ r. copiesOn L (r .first) (r .edges) in
-    let q = of-flatMap on {y = x} (permittedRuns L G) (sort-mem copyBefore copies-linear x (flatMap on (permittedRuns L G)) .0 m) in
+    let q = of-flatMap on {y = x} (permittedRuns L G) (sort-mem copyBefore copy-order x (flatMap on (permittedRuns L G)) .0 m) in
     let k = of-keep (λ (r : Run). permitted L (names (r .edges))) (completeRuns G) (q .1) in
     let w = complete-runs G up (q .0) .0 (k .0) in
     shown-on G up L (q .0 .first) (q .0 .edges) x (w .0) (w .2) (q .2)
@@ -133,8 +125,8 @@ of-copies G up L x m =
 pub copies-nodup : (G : Graph) (L : List (List ℕ)) → Nodup (copies L G)
 unfolding copies
 copies-nodup G L =
-    sorted-nodup copyBefore copies-linear (copies L G)
-    (sort-sorted copyBefore copies-linear (flatMap (λ r. copiesOn L (r .first) (r .edges)) (permittedRuns L G)))
+    sorted-nodup copyBefore copy-order (copies L G)
+    (sort-sorted copyBefore copy-order (flatMap (λ r. copiesOn L (r .first) (r .edges)) (permittedRuns L G)))
 
 -- so its mark is a candidate
 module _ (D : Design) (G : Graph) (legal : Legal D G) (L : List (List ℕ)) where

@@ -7,15 +7,15 @@ use mathlib.Core.Bool.{Bool, true, false, _&&_, _||_}
 use mathlib.Core.List.{List, [], _∷_, _++_, map, flatMap, List·Memᴰ, List·Memᴰ·head, List·Memᴰ·tail, List·Memᴰ·not-nil, List·Memᴰ·cases-cons, append-assoc, Memᴰ·map, Memᴰ·of-map}
 use native.Mathlib.Omega.{arith}
 use lib.Dec.{T, eqb, ltb, lt→ltb}
-use lib.ListN.{length, getD, length-append}
+use lib.ListN.{length, getD, length-map}
 use Rattle.timing.specs.Lists.{isNil}
 use Rattle.timing.specs.Graphs.{Edge, edge, Graph, graph, nodeOf, edgesIn, edgesOut, startsAt, endsAt, Run, completeRuns, names}
 use Rattle.timing.specs.Marks.{permitted, mark}
 use Rattle.timing.specs.Sorting.{before, sort, place}
 use Rattle.timing.specs.TrueGraphs.{Copy, Join, copyBefore, edgeBefore, copyAt, copiesOn, copies, joins, numbered, permittedRuns, trueGraph}
-use Rattle.theorems.proofs.Lists.{or-left, holds}
+use Rattle.theorems.proofs.Lists.{or-left, holds, getD-mem, getD-map, none-of-nil}
 use Rattle.theorems.proofs.Marks.{begins, mark-reads, permitted-front}
-use Rattle.theorems.proofs.Sorting.{Sorted, sort-mem, sort-sorted, place-stands, place-getD, place-less, mem-getD}
+use Rattle.theorems.proofs.Sorting.{Sorted, sort-mem, sort-sorted, place-stands, place-getD, place-less}
 use Rattle.theorems.proofs.Runs.{Rising, Leads, Way, mem-in, mem-out, leads-last, leads-then, way-then, complete-runs}
 use Rattle.theorems.proofs.Copies.{Passes, Shown, Joined, Link, copy-order, edge-order, names-append, pass-on, rest-permitted, joined-link, link-joined, mem-copies, mem-joins, run-passes, passes-run}
 
@@ -47,25 +47,11 @@ no-in G c f = go (edgesIn G c) (λ e m. let r = mem-in G c e .0 m in f e (r .0) 
     go [] f = tt
     go (e ∷ l) f = absurd (f e (List·Memᴰ·head refl))
 
-nil-none : {A : Type 0} (l : List A) (x : A) → T (isNil l) → List·Memᴰ x l → ⊥
-nil-none [] x t m = List·Memᴰ·not-nil m
-nil-none (y ∷ l) x t m = t
-
 pub ends-none : (G : Graph) (c : ℕ) (e : Edge) → T (endsAt G c) → List·Memᴰ e (G .edges) → e .start ≡ c → ⊥
-ends-none G c e t m q = nil-none (edgesOut G c) e t (mem-out G c e .1 (m, q))
+ends-none G c e t m q = none-of-nil (edgesOut G c) e t (mem-out G c e .1 (m, q))
 
 pub starts-none : (G : Graph) (c : ℕ) (e : Edge) → T (startsAt G c) → List·Memᴰ e (G .edges) → e .end ≡ c → ⊥
-starts-none G c e t m q = nil-none (edgesIn G c) e t (mem-in G c e .1 (m, q))
-
--- lists under map
-pub length-map : {A B : Type 0} (f : A → B) (l : List A) → length (map f l) ≡ length l
-length-map f [] = refl
-length-map f (x ∷ l) = ap suc (length-map f l)
-
-pub getD-map : {A B : Type 0} (f : A → B) (l : List A) (a : A) (b : B) (i : ℕ) → i < length l → getD (map f l) i b ≡ f (getD l i a)
-getD-map f [] a b i h = absurd (omega arith)
-getD-map f (x ∷ l) a b zero h = refl
-getD-map f (x ∷ l) a b (suc i) h = getD-map f l a b i (omega arith)
+starts-none G c e t m q = none-of-nil (edgesIn G c) e t (mem-in G c e .1 (m, q))
 
 -- a copy that passes lies inside
 pub passes-inside : {G : Graph} {L : List (List ℕ)} {c : ℕ} {q : List Edge} → Rising G → Passes G L c q → c < length (G .nodes)
@@ -99,7 +85,7 @@ module _ (G : Graph) (L : List (List ℕ)) (up : Rising G) where
 
   size : length (trueGraph G L .nodes) ≡ length (copies L G)
   unfolding trueGraph
-  size = length-map (λ (c : Copy). nodeOf G (c .at)) (copies L G)
+  size = length-map (copies L G) (λ (c : Copy). nodeOf G (c .at))
 
   pub true-edges : (e : Edge) → List·Memᴰ e (trueGraph G L .edges) ↔ ((j : Join) × Joined G L j × (numbered (copies L G) j ≡ e))
   unfolding trueGraph
@@ -147,7 +133,7 @@ module _ (G : Graph) (L : List (List ℕ)) (up : Rising G) where
         shown = λ p s. let r = shown-number p s in (rw size (r .0), r .1);
         every = λ c h.
             let k : c < length (copies L G) = rw size at h in
-            (mem-copies G L up (at-label c) .0 (mem-getD copyBefore copy-order (copies L G) (record { at = 0; mark = [] }) c k), number-label c k, node-at c k);
+            (mem-copies G L up (at-label c) .0 (getD-mem (copies L G) c (record { at = 0; mark = [] }) k), number-label c k, node-at c k);
         joined = λ e m.
             let r = true-edges e .0 m in
             subst (Joined G L) (sym (label-join (r .0) (r .1)) ∙ ap (joinOf at-label) (r .2)) (r .1);

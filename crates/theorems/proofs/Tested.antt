@@ -16,8 +16,8 @@ use Rattle.timing.specs.Marks.{PathList, pathsOf}
 use Rattle.timing.specs.WellFormed.{fewEnough, nodesFit, edgeFits, edgeRises, oneSinkCopy, linked, wellFormed}
 use Rattle.timing.specs.Refusals.{unless, firstBad, _then_}
 use Rattle.timing.specs.Tests.{designSizes, listSizes, nodeCount, designCounts, strays, falls, tooSlow, designTests, listCounts, meets, listTests}
-use Rattle.theorems.proofs.Lists.{and-intro, and-left, and-right, holds, fails, anyOf-intro, mem-upto, of-upto}
-use Rattle.theorems.proofs.Refusals.{then-passed, unless-passed, firstBad-passed, allOf-elim, allOf-intro}
+use Rattle.theorems.proofs.Lists.{and-intro, and-left, and-right, holds, fails, anyOf-intro, mem-upto, of-upto, allOf-elim, allOf-intro, anyOf-false}
+use Rattle.theorems.proofs.Refusals.{then-passed, unless-passed, firstBad-passed}
 
 -- what tests 30 and 10 to 14 say of a design
 pub record DesignFits (D : Design) : Type 0 where
@@ -83,14 +83,6 @@ pub record ListFits (D : Design) (L : PathList) : Type 0 where
   pub filled : (p : List ℕ) → List·Memᴰ p (pathsOf L) → isNil p ≡ false
   pub named : (p : List ℕ) → List·Memᴰ p (pathsOf L) → (k : ℕ) → List·Memᴰ k p → k < length (D .starts)
   pub joined : (p : List ℕ) → List·Memᴰ p (pathsOf L) → T (eachNext (meets D) p)
-
--- a member that does not pass is found
-pub anyOf-false : {A : Type 0} (p : A → Bool) (l : List A) → anyOf (λ x. not (p x)) l ≡ false → (x : A) → List·Memᴰ x l → T (p x)
-anyOf-false p l e x m = go (p x) refl
-  where
-    go : (b : Bool) → p x ≡ b → T b
-    go true q = tt
-    go false q = fails (anyOf (λ y. not (p y)) l) e (anyOf-intro (λ y. not (p y)) m (rw q tt))
 
 pub list-fits : (D : Design) (L : PathList) → listSizes L ≡ Passed → listTests D L ≡ Passed → ListFits D L
 unfolding listTests
