@@ -1,20 +1,20 @@
 -- B and N: how a removal finds what is shown. First back from the ends: which marks can a permitted rest have at a copy.
 -- Then forward from the sources: which of them does some complete path show. Then the copies and the edges in their order.
-use Prim.Native.Nat.{ℕ, zero, suc, _<_}
+use Prim.Native.Nat.{ℕ, _<_}
 use mathlib.Core.Path.{_≡_, refl, sym, ap, _∙_, subst}
-use mathlib.Core.Logic.{_⊎_, inl, inr, ⊎-elim, _↔_}
-use mathlib.Core.Bool.{Bool, true, false, not}
-use mathlib.Core.List.{List, [], _∷_, _++_, map, List·Memᴰ, List·Memᴰ·head, List·Memᴰ·tail, List·Memᴰ·not-nil, append-assoc, Memᴰ·map, Memᴰ·of-map}
+use mathlib.Core.Logic.{_⊎_, inl, inr, _↔_}
+use mathlib.Core.Bool.{Bool, false, not}
+use mathlib.Core.List.{List, [], _∷_, _++_, List·Memᴰ, List·Memᴰ·head, List·Memᴰ·tail, append-assoc}
 use lib.Dec.{T}
 use lib.ListN.{length}
 use Rattle.timing.specs.Lists.{isNil, anyOf}
-use Rattle.timing.specs.Graphs.{Edge, edge, Graph, startsAt, endsAt, names}
-use Rattle.timing.specs.Marks.{isPrefix, occurs, permitted, mark}
-use Rattle.timing.specs.TrueGraphs.{Copy, Join, copyBefore, edgeBefore, copies, joins, numbered, trueGraph}
-use Rattle.theorems.proofs.Marks.{Prefix, begins, mark-prefix, mark-tail, Tail, mark-reads, splice, permitted-front, front-permitted}
+use Rattle.timing.specs.Graphs.{Edge, Graph, startsAt, endsAt, names}
+use Rattle.timing.specs.Marks.{occurs, permitted, mark}
+use Rattle.timing.specs.TrueGraphs.{Copy, Join, copyBefore, edgeBefore, copies, numbered, trueGraph}
+use Rattle.theorems.proofs.Marks.{Prefix, begins, mark-prefix, mark-reads, splice, permitted-front, front-permitted}
 use Rattle.theorems.proofs.Sorting.{Sorted, sorted-unique}
 use Rattle.theorems.proofs.Runs.{Rising, Leads, Way, leads-then, leads-last}
-use Rattle.theorems.proofs.Copies.{Passes, Shown, Joined, copy-order, edge-order, names-append, rest-permitted, mem-copies, mem-joins}
+use Rattle.theorems.proofs.Copies.{Passes, Shown, Joined, copy-order, edge-order, names-append, rest-permitted, mem-copies}
 use Rattle.theorems.proofs.Stands.{copies-sorted, true-edges}
 use Rattle.theorems.proofs.Kept.{edges-sorted}
 

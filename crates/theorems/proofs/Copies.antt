@@ -1,18 +1,17 @@
 -- What is shown: the copies and the joins of a graph and a list, as statements about permitted complete paths.
-use Prim.Native.Nat.{ℕ, zero, suc, _+_, _≤_, _<_}
+use Prim.Native.Nat.{ℕ, _<_}
 use mathlib.Core.Path.{_≡_, refl, sym, ap, _∙_, subst}
-use mathlib.Core.Logic.{_⊎_, inl, inr, ⊎-elim, _↔_}
-use mathlib.Core.Bool.{Bool, true, false}
-use mathlib.Core.List.{List, [], _∷_, _++_, map, flatMap, List·Memᴰ, List·Memᴰ·head, List·Memᴰ·tail, List·Memᴰ·not-nil, List·Memᴰ·cases-cons, append-assoc, append-nil, map-append}
+use mathlib.Core.Logic.{⊎-elim, _↔_}
+use mathlib.Core.Bool.{false}
+use mathlib.Core.List.{List, [], _∷_, _++_, flatMap, List·Memᴰ, List·Memᴰ·head, List·Memᴰ·tail, List·Memᴰ·not-nil, List·Memᴰ·cases-cons, append-assoc}
 use lib.Dec.{T}
 use lib.ListN.{length}
-use Rattle.timing.specs.Graphs.{Edge, edge, Graph, startsAt, endsAt, Run, completeRuns, names}
+use Rattle.timing.specs.Graphs.{Edge, edge, Graph, startsAt, Run, completeRuns, names}
 use Rattle.timing.specs.Marks.{permitted, mark}
-use Rattle.timing.specs.Sorting.{sort}
 use Rattle.timing.specs.TrueGraphs.{Copy, Join, copyBefore, edgeBefore, copyAt, copiesOn, joinsOn, permittedRuns, copies, joins}
 use Rattle.theorems.proofs.Lists.{mem-flatMap, of-flatMap, mem-keep, of-keep}
 use Rattle.theorems.proofs.Marks.{begins, mark-reads, splice, permitted-rest, permitted-front, front-permitted}
-use Rattle.theorems.proofs.Sorting.{Linear, by-key, sort-mem, sort-sorted}
+use Rattle.theorems.proofs.Sorting.{Linear, by-key, sort-mem}
 use Rattle.theorems.proofs.Runs.{Rising, Leads, Way, leads-then, way-then, complete-runs}
 
 -- a permitted complete path that passes c: `head` leads from where paths start to c, and q goes on to where they end

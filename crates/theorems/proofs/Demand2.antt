@@ -3,9 +3,8 @@
 -- (G, L), so that it holds however H was made; the design is one G.
 use Prim.Native.Nat.{ℕ, zero, suc, _<_}
 use mathlib.Core.Path.{_≡_, refl, sym, ap, ap₂, _∙_, subst}
-use mathlib.Core.Logic.{⊎-elim}
 use mathlib.Core.Bool.{Bool, true, false, cond}
-use mathlib.Core.List.{List, [], _∷_, _++_, map, flatMap, List·Memᴰ, List·Memᴰ·head, List·Memᴰ·tail, List·Memᴰ·append-cases, Memᴰ·of-map, head-eq-of-cons-eq, tail-eq-of-cons-eq, cons≢nil, nil≢cons, map-append}
+use mathlib.Core.List.{List, [], _∷_, _++_, map, flatMap, List·Memᴰ, Memᴰ·of-map, head-eq-of-cons-eq, tail-eq-of-cons-eq, cons≢nil, nil≢cons, map-append}
 use native.Mathlib.Omega.{arith}
 use lib.Dec.{T, eqb}
 use lib.ListN.{length}
@@ -16,11 +15,11 @@ use Rattle.timing.specs.declared.Verdict.the-variants.{Passed}
 use Rattle.timing.specs.Marks.{permitted}
 use Rattle.timing.specs.Tests.{designSizes, designTests}
 use Rattle.timing.specs.WellFormed.{wellFormed}
-use Rattle.timing.specs.TrueGraphs.{Copy, copyAt, edgeBefore, numbered, permittedRuns, copies, joins, trueGraph}
-use Rattle.theorems.proofs.Lists.{of-flatMap, of-keep, of-upto}
-use Rattle.theorems.proofs.Counting.{Nodup, nodup-map, nodup-keep, nodup-append, nodup-flatMap, nodup-upto}
+use Rattle.timing.specs.TrueGraphs.{Copy, copyAt, permittedRuns, trueGraph}
+use Rattle.theorems.proofs.Lists.{of-flatMap, of-keep}
+use Rattle.theorems.proofs.Counting.{Nodup, nodup-map, nodup-keep, nodup-flatMap, nodup-upto}
 use Rattle.theorems.proofs.Runs.{Rising, Leads, Way, leads-up, way-then, complete-runs}
-use Rattle.theorems.proofs.Copies.{Passes, edge-order, run-passes, passes-run}
+use Rattle.theorems.proofs.Copies.{Passes, run-passes, passes-run}
 use Rattle.theorems.proofs.Stands.{Stands, passes-inside, lowered, names-lowered, start-shown, way-down, leads-down, way-up, start-up, true-stands}
 use Rattle.theorems.proofs.Legal.{Legal, design-legal, wellFormed-legal}
 use Rattle.theorems.proofs.Kept.{true-distinct, true-legal}

@@ -1,13 +1,12 @@
 -- The hypotheses of the theorems can be met: deck A passes every test, its true graph is well formed, and both parts of M6
 -- pass in a series.
-use Prim.Native.Nat.{ℕ, zero, suc}
 use mathlib.Core.Path.{_≡_, refl}
-use mathlib.Core.List.{List, [], _∷_, flatMap}
-use mathlib.Core.Option.{Option, none, some}
+use mathlib.Core.List.{[], _∷_, flatMap}
+use mathlib.Core.Option.{none, some}
 use lib.Dec.{T}
-use lib.IntN.{ℤ, pos}
+use lib.IntN.{pos}
 use Rattle.timing.specs.declared.Verdict.the-variants.{Passed}
-use Rattle.timing.specs.Graphs.{Design, design, Graph, designGraph, edgesIn, edgesOut, runsFrom, completeRuns}
+use Rattle.timing.specs.Graphs.{Design, design, designGraph, edgesIn, edgesOut, runsFrom, completeRuns}
 use Rattle.timing.specs.Marks.{PathList, pathList, pathsOf, permitted, tails, mark}
 use Rattle.timing.specs.TrueGraphs.{permittedRuns, copies, joins, trueGraph}
 use Rattle.timing.specs.WellFormed.{wellFormed}
@@ -15,7 +14,7 @@ use Rattle.timing.specs.Tests.{designSizes, listSizes, designTests, listTests, 
 use Rattle.timing.specs.Calls.{Removal, removal, removeFromDesign, removeFromGraph}
 use Rattle.timing.specs.Series.{verdicts, HeldIs, heldAfter}
 use Rattle.theorems.proofs.Stands.{Stands, true-stands}
-use Rattle.theorems.proofs.Legal.{Legal, design-legal, wellFormed-legal}
+use Rattle.theorems.proofs.Legal.{Legal, design-legal}
 use Rattle.theorems.proofs.Demand2.{Demand2, design-demand2, graph-demand2}
 use Rattle.theorems.proofs.Series.{AllPassed, listsOf, cut-list}
 

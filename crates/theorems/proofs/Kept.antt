@@ -1,26 +1,24 @@
 -- W: the true graph of a legal graph is legal, and passes test 32 where it is small enough.
-use Prim.Native.Nat.{ℕ, zero, suc, _+_, _≤_, _<_}
+use Prim.Native.Nat.{ℕ, zero, suc, _≤_, _<_}
 use mathlib.Core.Path.{_≡_, refl, sym, ap, _∙_, subst}
-use mathlib.Core.Logic.{_⊎_, inl, inr, ⊎-elim, _↔_}
+use mathlib.Core.Logic.{⊎-elim}
 use mathlib.Core.Bool.{Bool, true, false, not, _&&_, _||_}
 use mathlib.Core.List.{List, [], _∷_, map, List·Memᴰ, List·Memᴰ·head, List·Memᴰ·tail, List·Memᴰ·not-nil, List·Memᴰ·cases-cons, Memᴰ·of-map}
 use native.Mathlib.Omega.{arith}
-use native.Mathlib.Decide.{decLt}
-use lib.Dec.{T, eqb, ltb, leb, eqb→eq, eqb-refl, ltb→lt, lt→ltb, leb→le, le→leb}
+use lib.Dec.{T, eqb, ltb, leb, eqb→eq, ltb→lt, lt→ltb, le→leb}
 use lib.ListN.{length, getD}
-use Rattle.timing.specs.Lists.{allOf, countOf, eachNext}
-use Rattle.timing.specs.Graphs.{Design, edgeStart, edgeEnd, designGraph, Edge, edge, Graph, nodeOf, startsAt, endsAt}
+use Rattle.timing.specs.Lists.{countOf}
+use Rattle.timing.specs.Graphs.{Design, designGraph, Edge, edge, Graph, nodeOf, startsAt, endsAt}
 use Rattle.timing.specs.Marks.{mark}
 use Rattle.timing.specs.Sorting.{before}
 use Rattle.timing.specs.TrueGraphs.{Copy, copyBefore, edgeBefore, copies, joins, numbered, trueGraph}
 use Rattle.timing.specs.WellFormed.{fewEnough, edgeRises, isSource, isSink, oneSinkCopy, linked, wellFormed}
 use Rattle.theorems.proofs.Lists.{and-intro, and-left, and-right, or-cases, or-left, or-right, allOf-intro, getD-mem}
 use Rattle.theorems.proofs.Counting.{Nodup, sorted-nodup, Rises, rises-next, sorted-next, count-cons, of-count, one}
-use Rattle.theorems.proofs.Sorting.{Linear, Sorted, sort-sorted}
-use Rattle.theorems.proofs.Runs.{Rising}
-use Rattle.theorems.proofs.Copies.{Shown, Link, copy-order, edge-order, joined-link, mem-copies}
+use Rattle.theorems.proofs.Sorting.{Sorted, sort-sorted}
+use Rattle.theorems.proofs.Copies.{Link, edge-order, joined-link, mem-copies}
 use Rattle.theorems.proofs.Stands.{joinOf, Stands, ends-none, no-out, end-shown, start-shown, passes-inside, true-stands, copies-sorted}
-use Rattle.theorems.proofs.Tested.{DesignFits, EdgeFits, Formed, formed-passes}
+use Rattle.theorems.proofs.Tested.{DesignFits, formed-passes}
 use Rattle.theorems.proofs.Legal.{Legal, designEdge, mem-design-edges}
 
 -- a later place of a list that rises holds no less

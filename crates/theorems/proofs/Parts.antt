@@ -1,19 +1,17 @@
 -- Removal in parts: what is removed from a graph that stands for (G, L) stands for (G, L ++ K). A copy of the result is a copy
 -- h of H with a mark of K; its label has the longer of the two marks, from which both can be read again.
-use Prim.Native.Nat.{ℕ, zero, suc, _<_}
+use Prim.Native.Nat.{ℕ, _<_}
 use mathlib.Core.Path.{_≡_, refl, sym, ap, _∙_, subst}
-use mathlib.Core.Logic.{_↔_}
-use mathlib.Core.Bool.{Bool, true, false, _&&_}
 use mathlib.Core.List.{List, [], _∷_, _++_, map, List·Memᴰ, nil≢cons, head-eq-of-cons-eq, tail-eq-of-cons-eq}
 use lib.Dec.{T}
 use lib.ListN.{length}
-use Rattle.timing.specs.Graphs.{Edge, edge, Graph, nodeOf, startsAt, endsAt, names}
+use Rattle.timing.specs.Graphs.{Edge, Graph, nodeOf, names}
 use Rattle.timing.specs.Marks.{permitted, mark, longer}
 use Rattle.timing.specs.TrueGraphs.{Copy, Join, copyAt, trueGraph}
 use Rattle.theorems.proofs.Lists.{and-intro, and-left, and-right}
 use Rattle.theorems.proofs.Marks.{mark-append, mark-through-left, mark-through-right, permitted-append}
-use Rattle.theorems.proofs.Runs.{Rising, Leads, Way, way-then}
-use Rattle.theorems.proofs.Copies.{Passes, Shown, Joined, names-append, pass-on}
+use Rattle.theorems.proofs.Runs.{Rising, way-then}
+use Rattle.theorems.proofs.Copies.{Passes, Shown, Joined, pass-on}
 use Rattle.theorems.proofs.Stands.{joinOf, Stands, passes-inside, lowered, names-lowered, start-shown, way-down, leads-down, way-up, leads-lift, start-up, true-stands}
 
 map-append : {A B : Type 0} (f : A → B) (xs ys : List A) → map f (xs ++ ys) ≡ map f xs ++ map f ys

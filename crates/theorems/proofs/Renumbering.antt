@@ -1,10 +1,9 @@
 -- E: two graphs that stand for the same are renumberings of each other within nodes, with equal lists of nodes and equally
 -- many edges. The labels of both are the shown copies, each once; so every node is counted equally often in both.
-use Prim.Native.Nat.{ℕ, zero, suc, _+_, _≤_, _<_}
+use Prim.Native.Nat.{ℕ, zero, suc, _+_, _<_}
 use mathlib.Core.Path.{_≡_, refl, sym, ap, _∙_, subst}
 use mathlib.Core.Logic.{_↔_}
-use mathlib.Core.Bool.{Bool}
-use mathlib.Core.List.{List, [], _∷_, map, List·Memᴰ, List·Memᴰ·head, List·Memᴰ·tail, List·Memᴰ·not-nil, Memᴰ·map, Memᴰ·of-map}
+use mathlib.Core.List.{List, [], _∷_, map, List·Memᴰ, Memᴰ·map, Memᴰ·of-map}
 use native.Mathlib.Omega.{arith}
 use lib.Dec.{eqb}
 use lib.ListN.{length, getD, length-map}
@@ -15,7 +14,7 @@ use Rattle.timing.specs.Series.{renumbered, Renumbered}
 use Rattle.theorems.proofs.Lists.{mem-upto, of-upto}
 use Rattle.theorems.proofs.Counting.{Nodup, count-map, count-same, length-same, nodup-map, nodup-upto, Rises, rises-same}
 use Rattle.theorems.proofs.Runs.{Rising}
-use Rattle.theorems.proofs.Copies.{Shown, joined-link}
+use Rattle.theorems.proofs.Copies.{Shown}
 use Rattle.theorems.proofs.Stands.{joinOf, Stands, join-edge}
 
 -- a list by its places

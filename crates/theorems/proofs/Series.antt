@@ -1,9 +1,9 @@
 -- S: demand 3, over a whole series of removals. The graph held always stands for the design and the whole list so far. So it
 -- has the nodes and the count of edges of their true graph, and the tests cannot tell the two apart.
-use Prim.Native.Nat.{ℕ, zero, suc, _+_, _*_, _≤_, _<_, min}
+use Prim.Native.Nat.{ℕ, _+_, _*_, _≤_, min}
 use mathlib.Core.Path.{_≡_, refl, sym, ap, _∙_, subst, subst₂}
 use mathlib.Core.Bool.{Bool, true, false, _&&_}
-use mathlib.Core.List.{List, [], _∷_, _++_, map, flatMap, List·Memᴰ, append-assoc, append-nil}
+use mathlib.Core.List.{List, [], _∷_, _++_, map, flatMap, append-assoc, append-nil}
 use mathlib.Core.Option.{Option, none, some}
 use native.Mathlib.Omega.{arith}
 use lib.Dec.{T, eqb, leb, eqb-refl, leb→le, le→leb}
@@ -15,17 +15,17 @@ use Rattle.timing.specs.Graphs.{Design, edgeStart, Edge, Graph, graph, edgesOf,
 use Rattle.timing.specs.Marks.{PathList, pathsOf}
 use Rattle.timing.specs.TrueGraphs.{trueGraph}
 use Rattle.timing.specs.WellFormed.{fewEnough, wellFormed}
-use Rattle.timing.specs.Refusals.{refusal, unless, _then_}
+use Rattle.timing.specs.Refusals.{unless, _then_}
 use Rattle.timing.specs.Tests.{designSizes, listSizes, designTests, listTests, graphTest, candidates, scratchTest, Room, roomSizes, roomTests}
-use Rattle.timing.specs.Calls.{GraphSlices, graphOf, slicesOf, graphSizes, Outcome, made, refused, outcome, Removal, removalTests, removeFromDesign, removeFromGraph}
-use Rattle.timing.specs.Series.{removeNext, heldNext, verdictOf, verdicts, heldAfter, heldFor, withList, wholeNext, verdictAlone, verdictsAlone, wholeAfter, Renumbered, HeldIs, Demand3}
-use Rattle.theorems.proofs.Lists.{holds, and-intro, and-left, and-right}
+use Rattle.timing.specs.Calls.{GraphSlices, graphOf, slicesOf, graphSizes, Outcome, outcome, Removal, removalTests, removeFromDesign, removeFromGraph}
+use Rattle.timing.specs.Series.{removeNext, heldNext, verdictOf, verdicts, heldAfter, wholeNext, verdictAlone, verdictsAlone, wholeAfter, Renumbered, HeldIs, Demand3}
+use Rattle.theorems.proofs.Lists.{holds, and-intro}
 use Rattle.theorems.proofs.Counting.{Nodup}
 use Rattle.theorems.proofs.Refusals.{then-passed, unless-passed}
 use Rattle.theorems.proofs.Stands.{Stands, true-stands}
 use Rattle.theorems.proofs.Parts.{parts-stand}
 use Rattle.theorems.proofs.Renumbering.{stands-renumbered}
-use Rattle.theorems.proofs.Tested.{DesignFits, design-fits, ListFits, list-fits, Formed, formed}
+use Rattle.theorems.proofs.Tested.{DesignFits, design-fits, list-fits, formed}
 use Rattle.theorems.proofs.Legal.{Legal, fits-legal}
 use Rattle.theorems.proofs.Kept.{true-distinct, true-legal, true-formed}
 use Rattle.theorems.proofs.Size.{Paths, paths-append, list-paths, size-whole}

@@ -4,7 +4,7 @@ use Prim.Native.Nat.{ℕ, zero, suc, _+_, _≤_, _<_}
 use mathlib.Core.Path.{_≡_, refl, sym, ap, ap₂, _∙_, subst}
 use mathlib.Core.Logic.{inl, inr, ⊎-elim}
 use mathlib.Core.Bool.{Bool, true, false}
-use mathlib.Core.List.{List, [], _∷_, _++_, map, flatMap, List·Memᴰ, List·Memᴰ·head, List·Memᴰ·tail, List·Memᴰ·not-nil, List·Memᴰ·cases-cons, Memᴰ·append-left, Memᴰ·append-right, List·Memᴰ·append-cases, Memᴰ·map, head-eq-of-cons-eq, tail-eq-of-cons-eq, cons≢nil}
+use mathlib.Core.List.{List, [], _∷_, _++_, map, flatMap, List·Memᴰ, List·Memᴰ·head, List·Memᴰ·tail, List·Memᴰ·not-nil, List·Memᴰ·cases-cons, Memᴰ·append-left, Memᴰ·append-right, List·Memᴰ·append-cases, Memᴰ·map, cons≢nil}
 use native.Mathlib.Omega.{arith}
 use lib.Dec.{T, eqb, eqb-refl}
 use lib.ListN.{length, getD, take, drop, length-append, length-map, length-take, length-drop}
@@ -17,7 +17,7 @@ use Rattle.timing.specs.TrueGraphs.{Copy, copyBefore, copyAt, copiesOn, permitt
 use Rattle.timing.specs.Tests.{designSizes, listSizes, designTests, listTests, candidates}
 use Rattle.theorems.proofs.Lists.{of-flatMap, mem-keep, of-keep, length-upto}
 use Rattle.theorems.proofs.Marks.{Prefix, Tail, mark-tail, mark-prefix}
-use Rattle.theorems.proofs.Sorting.{Linear, sort-mem, sort-sorted, by-key}
+use Rattle.theorems.proofs.Sorting.{sort-mem, sort-sorted}
 use Rattle.theorems.proofs.Runs.{Rising, Way, complete-runs}
 use Rattle.theorems.proofs.Counting.{one, count-cons, count-append, Nodup, length-le, sorted-nodup}
 use Rattle.theorems.proofs.Tested.{DesignFits, design-fits, ListFits, list-fits}

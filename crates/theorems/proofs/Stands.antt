@@ -1,23 +1,22 @@
 -- H stands for (G, L): its copies are labelled one to one by the copies that G and L show, and its edges are their joins.
 -- The true graph of G and L does; and what stands for (G, L) has the permitted paths of G, each once (theorem R).
-use Prim.Native.Nat.{ℕ, zero, suc, _+_, _≤_, _<_}
+use Prim.Native.Nat.{ℕ, _<_}
 use mathlib.Core.Path.{_≡_, refl, sym, ap, _∙_, subst}
-use mathlib.Core.Logic.{_⊎_, inl, inr, ⊎-elim, _↔_}
-use mathlib.Core.Bool.{Bool, true, false, _&&_, _||_}
-use mathlib.Core.List.{List, [], _∷_, _++_, map, flatMap, List·Memᴰ, List·Memᴰ·head, List·Memᴰ·tail, List·Memᴰ·not-nil, List·Memᴰ·cases-cons, append-assoc, Memᴰ·map, Memᴰ·of-map}
-use native.Mathlib.Omega.{arith}
+use mathlib.Core.Logic.{_↔_}
+use mathlib.Core.Bool.{false, _&&_}
+use mathlib.Core.List.{List, [], _∷_, _++_, map, flatMap, List·Memᴰ, List·Memᴰ·head, append-assoc, Memᴰ·map, Memᴰ·of-map}
 use lib.Dec.{T, eqb, ltb, lt→ltb}
 use lib.ListN.{length, getD, length-map}
 use Rattle.timing.specs.Lists.{isNil}
-use Rattle.timing.specs.Graphs.{Edge, edge, Graph, graph, nodeOf, edgesIn, edgesOut, startsAt, endsAt, Run, completeRuns, names}
+use Rattle.timing.specs.Graphs.{Edge, edge, Graph, nodeOf, edgesIn, edgesOut, startsAt, endsAt, names}
 use Rattle.timing.specs.Marks.{permitted, mark}
-use Rattle.timing.specs.Sorting.{before, sort, place}
+use Rattle.timing.specs.Sorting.{before, place}
 use Rattle.timing.specs.TrueGraphs.{Copy, Join, copyBefore, edgeBefore, copyAt, copiesOn, copies, joins, numbered, permittedRuns, trueGraph}
-use Rattle.theorems.proofs.Lists.{or-left, holds, getD-mem, getD-map, none-of-nil}
+use Rattle.theorems.proofs.Lists.{or-left, getD-mem, getD-map, none-of-nil}
 use Rattle.theorems.proofs.Marks.{begins, mark-reads, permitted-front}
 use Rattle.theorems.proofs.Sorting.{Sorted, sort-mem, sort-sorted, place-stands, place-getD, place-less}
-use Rattle.theorems.proofs.Runs.{Rising, Leads, Way, mem-in, mem-out, leads-last, leads-then, way-then, complete-runs}
-use Rattle.theorems.proofs.Copies.{Passes, Shown, Joined, Link, copy-order, edge-order, names-append, pass-on, rest-permitted, joined-link, link-joined, mem-copies, mem-joins, run-passes, passes-run}
+use Rattle.theorems.proofs.Runs.{Rising, Leads, Way, mem-in, mem-out, leads-last}
+use Rattle.theorems.proofs.Copies.{Passes, Shown, Joined, copy-order, edge-order, pass-on, rest-permitted, joined-link, mem-copies, mem-joins}
 
 -- an edge as a join of labelled copies
 abbrev pub joinOf : (ℕ → Copy) → Edge → Join

@@ -1,7 +1,7 @@
 -- What document 01's tests say where they pass, as statements: 30 and 10 to 14 of a design, 30 and 20 to 24 of a list of
 -- paths, 32 of a graph.
 use Prim.Native.Nat.{ℕ, _≤_, _<_}
-use mathlib.Core.Path.{_≡_, refl, sym, subst}
+use mathlib.Core.Path.{_≡_, sym, subst}
 use mathlib.Core.Bool.{Bool, true, false, not, _&&_}
 use mathlib.Core.List.{List, List·Memᴰ}
 use native.Mathlib.Omega.{arith}
@@ -16,7 +16,7 @@ use Rattle.timing.specs.Marks.{PathList, pathsOf}
 use Rattle.timing.specs.WellFormed.{fewEnough, nodesFit, edgeFits, edgeRises, oneSinkCopy, linked, wellFormed}
 use Rattle.timing.specs.Refusals.{unless, firstBad, _then_}
 use Rattle.timing.specs.Tests.{designSizes, listSizes, nodeCount, designCounts, strays, falls, tooSlow, designTests, listCounts, meets, listTests}
-use Rattle.theorems.proofs.Lists.{and-intro, and-left, and-right, holds, fails, anyOf-intro, mem-upto, of-upto, allOf-elim, allOf-intro, anyOf-false}
+use Rattle.theorems.proofs.Lists.{and-intro, and-left, and-right, holds, mem-upto, of-upto, allOf-elim, allOf-intro, anyOf-false}
 use Rattle.theorems.proofs.Refusals.{then-passed, unless-passed, firstBad-passed}
 
 -- what tests 30 and 10 to 14 say of a design

@@ -1,13 +1,11 @@
 -- The marked cases of document 01, M1 to M10, and rows that shut out wrong definitions which M1 to M10 would let through: one
 -- table and one claim, shown by computing the definitions. Made by tests/marked_table.py: every result is the walker's.
-use Prim.Native.Nat.{ℕ, zero, suc}
+use Prim.Native.Nat.{ℕ, suc}
 use mathlib.Core.Path.{_≡_, refl}
 use mathlib.Core.List.{List, [], _∷_, map, flatMap}
-use mathlib.Core.Option.{Option, none, some}
 use lib.IntN.{ℤ, pos, negsuc}
 use lib.ListN.{length}
 use Rattle.timing.specs.declared.NumberRead.{NumberRead}
-use Rattle.timing.specs.declared.NumberRead.the-variants.{Value}
 use Rattle.timing.specs.declared.NumberRead.the-variants.{Refused as NotRead}
 use Rattle.timing.specs.declared.NodeTimes.{NodeTimes}
 use Rattle.timing.specs.declared.NodeTimes.the-variants.{Times, None}

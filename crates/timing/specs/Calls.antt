@@ -2,8 +2,8 @@
 -- 14, 20 to 25, 32, 31, 33, 34, 35, one number over everything before the next, leaving out tests of what a call does
 -- not take." "A refusal changes no result buffer." "Result places past the result are unchanged."
 use Prim.Native.Nat.{ℕ, _+_, _*_}
-use mathlib.Core.Bool.{Bool, cond, _||_}
-use mathlib.Core.List.{List, [], _∷_, map}
+use mathlib.Core.Bool.{cond, _||_}
+use mathlib.Core.List.{List, map}
 use lib.Dec.{eqb, leb}
 use lib.IntN.{ℤ, pos, negℤ}
 use lib.ListN.{length}
@@ -29,7 +29,7 @@ use Rattle.timing.specs.TrueGraphs.{trueGraph}
 use Rattle.timing.specs.Times.{arrivalAt, requiredAt, slackAt, nodeRecord}
 use Rattle.timing.specs.Numbers.{writeAnswer, writtenRoom}
 use Rattle.timing.specs.Parsing.{Parsed, found, stopped}
-use Rattle.timing.specs.Decks.{Deck, Tables, packedDeck, readDeck}
+use Rattle.timing.specs.Decks.{Deck, Tables, readDeck}
 use Rattle.timing.specs.GraphBytes.{packedGraph, readGraph}
 use Rattle.timing.specs.Refusals.{refusal, _then_}
 use Rattle.timing.specs.Tests.{sameSizes, designSizes, listSizes, nodeCount, designCounts, designTests, listCounts, listTests, allowedTest, graphTest, graphCounts, scratchTest, Room, roomSizes, roomTests}

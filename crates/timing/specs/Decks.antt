@@ -9,7 +9,7 @@ use Rattle.timing.specs.Marks.{PathList, pathList, pathsOf}
 use Rattle.timing.specs.Numbers.{packed}
 use Rattle.timing.specs.Delays.{packedDelay, delayOf}
 use Rattle.timing.specs.Refusals.{unless, _then_}
-use Rattle.timing.specs.Parsing.{Parsed, Reader, _>>=_, _>>_, return, tested, number, repeated, Row, row, ended}
+use Rattle.timing.specs.Parsing.{Parsed, Reader, _>>=_, _>>_, return, tested, number, repeated, row, ended}
 
 pub record Deck : Type 0 where
   pub design : Design

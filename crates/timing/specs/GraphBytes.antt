@@ -3,10 +3,10 @@ use Prim.Native.Nat.{ℕ}
 use mathlib.Core.List.{List, [], _∷_, _++_, map, flatMap}
 use lib.Dec.{leb}
 use lib.ListN.{length}
-use Rattle.timing.specs.Graphs.{Edge, edge, Graph, graph}
+use Rattle.timing.specs.Graphs.{edge, Graph, graph}
 use Rattle.timing.specs.Numbers.{packed}
 use Rattle.timing.specs.Refusals.{unless, _then_}
-use Rattle.timing.specs.Parsing.{Parsed, Reader, _>>=_, _>>_, return, tested, number, repeated, Row, row, ended}
+use Rattle.timing.specs.Parsing.{Parsed, Reader, _>>=_, _>>_, return, tested, number, repeated, row, ended}
 
 unfoldable pub graphNumbers : Graph → List ℕ
 graphNumbers G =

@@ -2,7 +2,7 @@
 -- set when more follow, shortest form only; a fifth byte above hexadecimal 0F is too large even as the last byte".
 -- g is how many groups may follow the first one: 4 for the numbers of document 01, and left open in every law.
 use Prim.Native.Nat.{ℕ, zero, suc, _+_, _-_, _*_, _/_, _%_}
-use mathlib.Core.Bool.{Bool, true, false, cond}
+use mathlib.Core.Bool.{cond}
 use mathlib.Core.List.{List, [], _∷_, _++_}
 use lib.Dec.{ltb, leb, eqb}
 use lib.ListN.{length, take, drop}

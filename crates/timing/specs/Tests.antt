@@ -1,7 +1,7 @@
 -- Who can cause a refusal: each test with its number, its exact condition and its place.
 use Prim.Native.Nat.{ℕ, _+_, _*_, min}
 use mathlib.Core.Bool.{Bool, not, _&&_}
-use mathlib.Core.List.{List, [], _∷_, _++_, map, flatMap}
+use mathlib.Core.List.{map, flatMap}
 use lib.Dec.{eqb, ltb, leb}
 use lib.IntN.{natAbs}
 use lib.ListN.{length, drop}

@@ -1,6 +1,6 @@
 -- Times at copies and at nodes.
 use Prim.Native.Nat.{ℕ}
-use mathlib.Core.Bool.{Bool, cond, _&&_, _||_, not}
+use mathlib.Core.Bool.{cond, _&&_, not}
 use mathlib.Core.List.{List, [], _∷_, map}
 use lib.Dec.{eqb, ltb}
 use lib.IntN.{ℤ, pos, _-ℤ_}
@@ -10,7 +10,7 @@ use Rattle.timing.specs.declared.NodeTimes.{NodeTimes}
 use Rattle.timing.specs.declared.NodeTimes.the-variants.{Times, None}
 use Rattle.timing.specs.declared.NodeRecord.{NodeRecord}
 use Rattle.timing.specs.Lists.{isNil, keep, upto}
-use Rattle.timing.specs.Graphs.{Edge, Graph, runsTo, runsFrom, delayAlong}
+use Rattle.timing.specs.Graphs.{Graph, runsTo, runsFrom, delayAlong}
 
 abbrev pub larger : ℤ → ℤ → ℤ
 larger x y = cond (ltZ x y) y x

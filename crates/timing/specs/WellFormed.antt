@@ -1,6 +1,6 @@
 -- A well-formed true graph of a design.
 use Prim.Native.Nat.{ℕ}
-use mathlib.Core.Bool.{Bool, true, false, not, _&&_, _||_}
+use mathlib.Core.Bool.{Bool, not, _&&_, _||_}
 use lib.Dec.{eqb, ltb, leb}
 use lib.ListN.{length}
 use Rattle.timing.specs.Lists.{allOf, countOf, eachNext, upto}

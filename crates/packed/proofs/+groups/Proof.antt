@@ -1,15 +1,12 @@
 use Prim.Native.Nat.{suc, _+_, _-_, _*_, _≤_}
 use native.Mathlib.Omega.{arith}
-use native.Mathlib.Numerals.{add-one}
-use mathlib.Core.Path.{_≡_, refl, sym, _∙_, ap}
-use lib.ListN.{length, getD, drop, drop-of-length-le}
-use lib.Seq.{drop-cons, getD-drop}
+use mathlib.Core.Path.{_≡_, sym, _∙_}
+use lib.ListN.{getD, drop}
 use borrow.Author.Needs.{needs}
 use borrow.Author.Tests.{lt-ltb, le-ltb, le-leb, lt-leb, eq-eqb, ne-eqb}
-use Rattle.timing.specs.declared.Groups.{Groups}
-use Rattle.timing.specs.declared.Groups.the-variants.{Number, Ended, Unfit}
+use Rattle.timing.specs.declared.Groups.the-variants.{Number}
 use Rattle.timing.specs.Numbers.{followed, groupsIn}
-use Rattle.packed.proofs.Numbers.{cap, Bytes, Below, number-below, bytes-drop, cap-le, number-end, number-last, number-step}
+use Rattle.packed.proofs.Numbers.{cap, Below, number-below, bytes-drop, cap-le, number-end, number-last, number-step}
 use Prim.Native.Nat.{ℕ, _<_}
 use borrow.Fn.Kinds.{In}
 use borrow.Fn.PlainCycle.{Measures, is, falls, and}

@@ -1,12 +1,10 @@
 -- The answer follows from what the groups gave, case by case.
-use Prim.Native.Nat.{ℕ, _+_, _≤_}
 use native.Mathlib.Omega.{arith}
-use mathlib.Core.Path.{_≡_, refl, sym, _∙_, ap}
+use mathlib.Core.Path.{sym, _∙_, ap}
 use lib.ListN.{length, drop, length-drop}
-use Rattle.timing.specs.declared.Groups.{Groups}
-use Rattle.timing.specs.declared.Groups.the-variants.{Number, Ended, Unfit}
+use Rattle.timing.specs.declared.Groups.the-variants.{Number}
 use Rattle.timing.specs.declared.NumberRead.the-variants.{Refused}
-use Rattle.timing.specs.Numbers.{groupsIn, numberAnswer, readNumber}
+use Rattle.timing.specs.Numbers.{numberAnswer, readNumber}
 use Rattle.packed.proofs.Numbers.{Inside, number-inside}
 use borrow.Author.Needs.{needs}
 use Rattle.packed.proofs.read_number.Statement.{statement}

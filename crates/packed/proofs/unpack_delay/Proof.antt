@@ -1,8 +1,8 @@
 -- h = x / 2 is below 2^31, so that h, -h and -h - 1 fit.
-use Prim.Native.Nat.{ℕ, _+_, _/_, _%_, _<_}
+use Prim.Native.Nat.{ℕ, _/_, _<_}
 use native.Mathlib.Omega.{arith}
-use mathlib.Core.Path.{_≡_, refl, sym, _∙_, ap}
-use lib.IntN.{ℤ, pos, negsuc, negℤ, _-ℤ_}
+use mathlib.Core.Path.{_≡_}
+use lib.IntN.{pos, negsuc, _-ℤ_}
 use borrow.Author.Tests.{eq-eqb, ne-eqb}
 use mir.Syntax.{w32}
 use mir.Val.{SFits, toZ}
