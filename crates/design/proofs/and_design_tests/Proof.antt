@@ -1,0 +1,43 @@
+use lib.ListN.{length}
+use Rattle.timing.specs.Lists.{upto}
+use Rattle.timing.specs.Refusals.{firstBad}
+use Rattle.timing.specs.Graphs.{design}
+use Rattle.timing.specs.Tests.{designCounts, strays, falls, tooSlow, designTests}
+use Rattle.design.proofs.Chains.{chain-four}
+use borrow.Author.Needs.{needs}
+use Rattle.design.proofs.and_design_tests.Statement.{statement}
+use Rattle.design.proofs.and_design_tests.Tie as tie
+
+and-design-counts-requires : tie.Need-and-design-counts-requires
+and-design-counts-requires c κs = search needs
+
+and-known-requires : tie.Need-and-known-requires
+and-known-requires c κs = search needs
+
+and-rise-requires : tie.Need-and-rise-requires
+and-rise-requires c κs = search needs
+
+and-in-range-requires : tie.Need-and-in-range-requires
+and-in-range-requires c κs = search needs
+
+returns : tie.Need-returns
+unfolding designTests
+returns c =
+    let rising = c .before in
+    let known = rising .before in
+    let counts = known .before in
+    let a = counts .before .before .before .args in
+    let D = design (a .n) (a .starts .now) (a .ends .now) (a .delays .now) in
+    let edges = upto (length (a .starts .now)) 0 in
+    chain-four (a .before) (designCounts D) (firstBad 12 (strays D) 0 edges) (firstBad 13 (falls D) 0 edges) (firstBad 14 (tooSlow D) 0 edges)
+    (counts .and-design-counts .ensures) (known .and-known .ensures) (rising .and-rise .ensures) (c .and-in-range .ensures)
+
+pub and-design-tests-spec : {M : Type 1} → statement M
+and-design-tests-spec =
+    tie.close
+    (tie.spec
+    and-design-counts-requires
+    and-known-requires
+    and-rise-requires
+    and-in-range-requires
+    returns)

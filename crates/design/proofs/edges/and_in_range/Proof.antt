@@ -1,0 +1,88 @@
+-- The first bad edge of all is the first of the edges from k on.
+use Prim.Native.Nat.{_-_, _≤_}
+use native.Mathlib.Omega.{arith}
+use mathlib.Core.Path.{_≡_, sym, _∙_, ap}
+use mathlib.Core.Bool.{not}
+use mathlib.Core.List.{[]}
+use borrow.Author.Needs.{needs}
+use Rattle.timing.specs.declared.Verdict.the-variants.{Refused}
+use Rattle.timing.specs.Lists.{upto}
+use Rattle.timing.specs.Refusals.{firstBad}
+use Rattle.timing.specs.Graphs.{design}
+use Rattle.timing.specs.Tests.{tooSlow}
+use Rattle.timing.proofs.FirstBad.{bad-here, good-here, none-left, all-left}
+use Rattle.design.proofs.edges.and_in_range.Statement.{statement}
+use Rattle.design.proofs.edges.and_in_range.Tie as tie
+
+abbrev Inv-loop : tie.InvT-loop
+Inv-loop m delays k₀ k = (k ≤ m) × (firstBad 14 (tooSlow (design 0 [] [] delays)) k (upto (m - k) k) ≡ firstBad 14 (tooSlow (design 0 [] [] delays)) 0 (upto (m) 0))
+
+abbrev μ-loop : tie.MeasureT-loop
+μ-loop m delays k₀ k = m - k
+
+enum-told : tie.Need-enum-told Inv-loop μ-loop
+enum-told c = search needs
+
+enum-told-2 : tie.Need-enum-told-2 Inv-loop μ-loop
+enum-told-2 c = search needs
+
+returns : tie.Need-returns Inv-loop μ-loop
+returns c = search needs
+
+loop-holds : tie.Need-loop-holds Inv-loop μ-loop
+loop-holds c = let a = c .before .before .args in (omega arith, all-left 14 (tooSlow (design 0 [] [] (a .delays .now))) (a .m))
+
+in-range-requires : tie.Need-in-range-requires Inv-loop μ-loop
+in-range-requires c κs = search needs
+
+refuse-requires : tie.Need-refuse-requires Inv-loop μ-loop
+refuse-requires c κs = search needs
+
+returns-2 : tie.Need-returns-2 Inv-loop μ-loop
+returns-2 c =
+    let u = c .before .before in
+    let i = u .before in
+    let l = i .before in
+    let a = l .before .before .before .args in
+    rw (l .before .enum-told .given .1)
+    (ap Refused (c .refuse .ensures)
+    ∙ sym (bad-here 14 (tooSlow (design 0 [] [] (a .delays .now))) (l .loop .k) (a .m) (i .loop-test .taken) (ap not (sym (u .in-range .ensures)) ∙ c .before .if1 .taken))
+    ∙ l .loop .inv .1)
+
+add-k : tie.Need-add-k Inv-loop μ-loop
+add-k c = omega arith
+
+loop-less : tie.Need-loop-less Inv-loop μ-loop
+loop-less c = omega arith
+
+loop-again : tie.Need-loop-again Inv-loop μ-loop
+loop-again c =
+    let u = c .before in
+    let i = u .before in
+    let l = i .before in
+    let a = l .before .before .before .args in
+    (omega arith, good-here 14 (tooSlow (design 0 [] [] (a .delays .now))) (l .loop .k) (a .m) (i .loop-test .taken) (ap not (sym (u .in-range .ensures)) ∙ c .if1 .left) ∙ l .loop .inv .1)
+
+returns-3 : tie.Need-returns-3 Inv-loop μ-loop
+returns-3 c =
+    let l = c .before in
+    let a = l .before .before .before .args in
+    rw (l .before .enum-told .given .1) (sym (none-left 14 (tooSlow (design 0 [] [] (a .delays .now))) (l .loop .k) (a .m) (c .loop-test .left)) ∙ l .loop .inv .1)
+
+pub and-in-range-spec : {M : Type 1} → statement M
+and-in-range-spec =
+    tie.close
+    (tie.spec
+    Inv-loop
+    μ-loop
+    enum-told
+    enum-told-2
+    returns
+    loop-holds
+    in-range-requires
+    refuse-requires
+    returns-2
+    add-k
+    loop-less
+    loop-again
+    returns-3)

@@ -1,0 +1,94 @@
+// 12, 13 and 14: each passes over every edge of the design.
+ghost use mathlib.Core.Path.{_≡_};
+ghost use mathlib.Core.Bool.{_&&_};
+ghost use mathlib.Core.List.{[]};
+ghost use lib.Dec.{ltb, leb};
+ghost use lib.IntN.{pos, natAbs};
+ghost use lib.ListN.{length, getD};
+ghost use Rattle.timing.specs.Lists.{upto};
+ghost use Rattle.timing.specs.Refusals.{_then_, firstBad};
+ghost use Rattle.timing.specs.Graphs.{design};
+ghost use Rattle.timing.specs.Tests.{strays, falls, tooSlow};
+use timing::MAX_DELAY;
+use timing::Verdict;
+use timing::delay_at;
+use timing::number_at;
+use timing::refuse;
+
+// Both ends of edge k are nodes.
+fn known(n: u32, starts: &[u32], ends: &[u32], k: usize) -> bool
+    ensures { λ r. ⌜ r ≡ (ltb (getD (now (starts .entry)) k 0) n && ltb (getD (now (ends .entry)) k 0) n) ⌝ }
+{
+    let end = number_at(ends, k);
+    if number_at(starts, k) < n {
+        return end < n;
+    }
+    false
+}
+
+// 12: an edge names a node not below n.
+pub fn and_known(before: Verdict, n: u32, starts: &[u32], ends: &[u32]) -> Verdict
+    ensures { λ r. ⌜ r ≡ (before then firstBad 12 (strays (design n (now (starts .entry)) (now (ends .entry)) [])) 0 (upto (length (now (starts .entry))) 0)) ⌝ }
+{
+    let Verdict::Passed = before else {
+        return before;
+    };
+    let mut k = 0;
+    while k < starts.len() {
+        if !known(n, starts, ends, k) {
+            return Verdict::Refused(refuse(12, k));
+        }
+        k += 1;
+    }
+    Verdict::Passed
+}
+
+fn rises(starts: &[u32], ends: &[u32], k: usize) -> bool
+    ensures { λ r. ⌜ r ≡ ltb (getD (now (starts .entry)) k 0) (getD (now (ends .entry)) k 0) ⌝ }
+{
+    number_at(starts, k) < number_at(ends, k)
+}
+
+// 13: an edge does not rise.
+pub fn and_rise(before: Verdict, starts: &[u32], ends: &[u32]) -> Verdict
+    ensures { λ r. ⌜ r ≡ (before then firstBad 13 (falls (design 0 (now (starts .entry)) (now (ends .entry)) [])) 0 (upto (length (now (starts .entry))) 0)) ⌝ }
+{
+    let Verdict::Passed = before else {
+        return before;
+    };
+    let mut k = 0;
+    while k < starts.len() {
+        if !rises(starts, ends, k) {
+            return Verdict::Refused(refuse(13, k));
+        }
+        k += 1;
+    }
+    Verdict::Passed
+}
+
+fn in_range(delays: &[i32], k: usize) -> bool
+    ensures { λ r. ⌜ r ≡ leb (natAbs (getD (now (delays .entry)) k (pos 0))) 1000000 ⌝ }
+{
+    let d = delay_at(delays, k);
+    if d < -MAX_DELAY {
+        return false;
+    }
+    d <= MAX_DELAY
+}
+
+// 14: the delay of one of the m edges is out of range.
+pub fn and_in_range(before: Verdict, m: usize, delays: &[i32]) -> Verdict
+    ensures { λ r. ⌜ r ≡ (before then firstBad 14 (tooSlow (design 0 [] [] (now (delays .entry)))) 0 (upto m 0)) ⌝ }
+{
+    let Verdict::Passed = before else {
+        return before;
+    };
+    let mut k = 0;
+    while k < m {
+        if !in_range(delays, k) {
+            return Verdict::Refused(refuse(14, k));
+        }
+        k += 1;
+    }
+    Verdict::Passed
+}

@@ -1,0 +1,189 @@
+// The tests of unfit input: of a design, of a list of paths against a design, and of T. Each test
+// passes over everything before the next. A step of a chain takes the verdict of the tests before
+// it, and looks at nothing where they refused.
+ghost use mathlib.Core.Path.{_≡_};
+ghost use mathlib.Core.List.{List};
+ghost use Prim.Native.Nat.{ℕ};
+ghost use lib.IntN.{ℤ};
+ghost use lib.Dec.{leb};
+ghost use Rattle.timing.specs.Refusals.{_then_};
+ghost use Rattle.timing.specs.Refusals.{unless as passedIf};
+ghost use Rattle.timing.specs.Graphs.{design};
+ghost use Rattle.timing.specs.Marks.{pathList};
+ghost use Rattle.timing.specs.Tests.{designSizes, listSizes, designCounts, designTests, listCounts, listTests, allowedTest};
+ghost use Rattle.timing.specs.Calls.{testDesign, testList, testDeck};
+use timing::MAX_ALLOWED_TIME;
+use timing::MAX_EDGES;
+use timing::MAX_LISTED_EDGES;
+use timing::MAX_NODES;
+use timing::MAX_PATHS;
+use timing::Verdict;
+use timing::same_sizes;
+use timing::unless;
+
+mod edges;
+mod paths;
+
+// A further test whose place is 0.
+pub fn and_unless(before: Verdict, number: u32, fit: bool) -> Verdict
+    ensures { λ r. ⌜ r ≡ (before then passedIf number fit) ⌝ }
+{
+    let Verdict::Passed = before else {
+        return before;
+    };
+    unless(number, fit)
+}
+
+// 30 for the three slices of a design.
+pub fn design_sizes(starts: &[u32], ends: &[u32], delays: &[i32]) -> Verdict
+    ensures { λ r. ⌜ ((n : ℕ) → r ≡ designSizes (design n (now (starts .entry)) (now (ends .entry)) (now (delays .entry)))) ⌝ }
+{
+    same_sizes(starts.len(), ends.len(), delays.len())
+}
+
+// 30 for a list of paths: its lengths do not add up to the flat list. What is left of the flat list
+// is counted down, so that no sum wraps.
+pub fn and_list_sizes(before: Verdict, listed: &[u32], lengths: &[u32]) -> Verdict
+    ensures { λ r. ⌜ r ≡ (before then listSizes (pathList (now (listed .entry)) (now (lengths .entry)))) ⌝ }
+{
+    let Verdict::Passed = before else {
+        return before;
+    };
+    let mut left = listed.len();
+    let mut i = 0;
+    while i < lengths.len() {
+        let k = lengths[i] as usize;
+        if left < k {
+            return unless(30, false);
+        }
+        left -= k;
+        i += 1;
+    }
+    unless(30, left == 0)
+}
+
+pub fn list_sizes(listed: &[u32], lengths: &[u32]) -> Verdict
+    ensures { λ r. ⌜ r ≡ listSizes (pathList (now (listed .entry)) (now (lengths .entry))) ⌝ }
+{
+    and_list_sizes(Verdict::Passed, listed, lengths)
+}
+
+// 10 and 11, from n and m.
+fn and_design_counts(before: Verdict, n: u32, m: usize) -> Verdict
+    ensures { λ r. ⌜ r ≡ (before then (passedIf 10 (leb n 4096) then passedIf 11 (leb m 16384))) ⌝ }
+{
+    let nodes = and_unless(before, 10, n <= MAX_NODES);
+    and_unless(nodes, 11, m <= MAX_EDGES)
+}
+
+pub fn design_counts(n: u32, starts: &[u32]) -> Verdict
+    ensures { λ r. ⌜ ((ends : List ℕ) (delays : List ℤ) → r ≡ designCounts (design n (now (starts .entry)) ends delays)) ⌝ }
+{
+    and_design_counts(Verdict::Passed, n, starts.len())
+}
+
+// 10 to 14. The delays are tested for each edge that there is a start for.
+pub fn and_design_tests(
+    before: Verdict,
+    n: u32,
+    starts: &[u32],
+    ends: &[u32],
+    delays: &[i32],
+) -> Verdict
+    ensures { λ r. ⌜ r ≡ (before then designTests (design n (now (starts .entry)) (now (ends .entry)) (now (delays .entry)))) ⌝ }
+{
+    let counts = and_design_counts(before, n, starts.len());
+    let known = edges::and_known(counts, n, starts, ends);
+    let rising = edges::and_rise(known, starts, ends);
+    edges::and_in_range(rising, starts.len(), delays)
+}
+
+pub fn design_tests(n: u32, starts: &[u32], ends: &[u32], delays: &[i32]) -> Verdict
+    ensures { λ r. ⌜ r ≡ designTests (design n (now (starts .entry)) (now (ends .entry)) (now (delays .entry))) ⌝ }
+{
+    and_design_tests(Verdict::Passed, n, starts, ends, delays)
+}
+
+// 20 and 21, from the count of paths and of listed edges.
+fn and_list_counts(before: Verdict, paths: usize, edges: usize) -> Verdict
+    ensures { λ r. ⌜ r ≡ (before then (passedIf 20 (leb paths 1024) then passedIf 21 (leb edges 8192))) ⌝ }
+{
+    let count = and_unless(before, 20, paths <= MAX_PATHS);
+    and_unless(count, 21, edges <= MAX_LISTED_EDGES)
+}
+
+pub fn list_counts(listed: &[u32], lengths: &[u32]) -> Verdict
+    ensures { λ r. ⌜ r ≡ listCounts (pathList (now (listed .entry)) (now (lengths .entry))) ⌝ }
+{
+    and_list_counts(Verdict::Passed, lengths.len(), listed.len())
+}
+
+// 20 to 24, of a list against a design of as many edges as it has starts.
+pub fn and_list_tests(
+    before: Verdict,
+    starts: &[u32],
+    ends: &[u32],
+    listed: &[u32],
+    lengths: &[u32],
+) -> Verdict
+    ensures { λ r. ⌜ ((n : ℕ) (delays : List ℤ) → r ≡ (before then listTests (design n (now (starts .entry)) (now (ends .entry)) delays) (pathList (now (listed .entry)) (now (lengths .entry))))) ⌝ }
+{
+    let counts = and_list_counts(before, lengths.len(), listed.len());
+    let filled = paths::and_filled(counts, listed, lengths);
+    let named = paths::and_named(filled, starts.len(), listed, lengths);
+    paths::and_joined(named, starts, ends, listed, lengths)
+}
+
+pub fn list_tests(starts: &[u32], ends: &[u32], listed: &[u32], lengths: &[u32]) -> Verdict
+    ensures { λ r. ⌜ ((n : ℕ) (delays : List ℤ) → r ≡ listTests (design n (now (starts .entry)) (now (ends .entry)) delays) (pathList (now (listed .entry)) (now (lengths .entry)))) ⌝ }
+{
+    and_list_tests(Verdict::Passed, starts, ends, listed, lengths)
+}
+
+// 25.
+pub fn allowed_test(t: u32) -> Verdict
+    ensures { λ r. ⌜ r ≡ allowedTest t ⌝ }
+{
+    unless(25, t <= MAX_ALLOWED_TIME)
+}
+
+// Tests a design: 30, and 10 to 14.
+pub fn test_design(n: u32, starts: &[u32], ends: &[u32], delays: &[i32]) -> Verdict
+    ensures { λ r. ⌜ r ≡ testDesign (design n (now (starts .entry)) (now (ends .entry)) (now (delays .entry))) ⌝ }
+{
+    let sizes = design_sizes(starts, ends, delays);
+    and_design_tests(sizes, n, starts, ends, delays)
+}
+
+// Tests a design and a list of paths: 30, 10 to 14, and 20 to 24.
+pub fn test_list(
+    n: u32,
+    starts: &[u32],
+    ends: &[u32],
+    delays: &[i32],
+    listed: &[u32],
+    lengths: &[u32],
+) -> Verdict
+    ensures { λ r. ⌜ r ≡ testList (design n (now (starts .entry)) (now (ends .entry)) (now (delays .entry))) (pathList (now (listed .entry)) (now (lengths .entry))) ⌝ }
+{
+    let slices = design_sizes(starts, ends, delays);
+    let sizes = and_list_sizes(slices, listed, lengths);
+    let fit = and_design_tests(sizes, n, starts, ends, delays);
+    and_list_tests(fit, starts, ends, listed, lengths)
+}
+
+// Tests a deck: a design, a list of paths and T.
+pub fn test_deck(
+    n: u32,
+    starts: &[u32],
+    ends: &[u32],
+    delays: &[i32],
+    listed: &[u32],
+    lengths: &[u32],
+    t: u32,
+) -> Verdict
+    ensures { λ r. ⌜ r ≡ testDeck (design n (now (starts .entry)) (now (ends .entry)) (now (delays .entry))) (pathList (now (listed .entry)) (now (lengths .entry))) t ⌝ }
+{
+    let fit = test_list(n, starts, ends, delays, listed, lengths);
+    and_unless(fit, 25, t <= MAX_ALLOWED_TIME)
+}
