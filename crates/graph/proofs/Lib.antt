@@ -4,3 +4,4 @@ pub mod Flags
 pub mod Edges
 pub mod Sinks
 pub mod WellFormed
+pub mod Writing

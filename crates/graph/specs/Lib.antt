@@ -1,2 +1,3 @@
--- What the passes of the test 32 answer, in terms of what they are lent. No public contract cites these.
+-- What private functions answer. No public contract cites these.
 pub mod Passes
+pub mod Writing
