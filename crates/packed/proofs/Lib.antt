@@ -1,3 +1,4 @@
 -- The laws of the packed form.
 pub mod Numbers
 pub mod Delays
+pub mod Sizes

@@ -2,6 +2,7 @@
 ghost use mathlib.Core.Path.{_≡_};
 ghost use Prim.Native.Nat.{ℕ, _+_, _≤_};
 ghost use lib.ListN.{length, take, drop};
+ghost use mathlib.Core.List.{flatMap};
 ghost use lib.IntN.{ℤ};
 ghost use Rattle.timing.specs.Numbers.{packed, groupsIn, readNumber, writeAnswer, writtenRoom};
 ghost use Rattle.timing.specs.Delays.{packedDelay, delayOf};
@@ -125,4 +126,33 @@ pub fn unpack_delay(x: u32) -> i32
 {
     let h = (x / 2) as i32;
     if x % 2 == 0 { h } else { -h - 1 }
+}
+
+// How many bytes a number takes.
+pub fn number_size(x: u32) -> usize
+    ensures { λ r. ⌜ r ≡ length (packed x) ⌝ }
+{
+    if x < 128 {
+        return 1;
+    }
+    if x < 16384 {
+        return 2;
+    }
+    if x < 2097152 {
+        return 3;
+    }
+    if x < 268435456 { 4 } else { 5 }
+}
+
+// How many bytes the numbers of a slice take.
+pub fn numbers_size(s: &[u32]) -> usize
+    ensures { λ r. ⌜ r ≡ length (flatMap packed (now (s .entry))) ⌝ }
+{
+    let mut total: usize = 0;
+    let mut k = 0;
+    while k < s.len() {
+        total += number_size(s[k]);
+        k += 1;
+    }
+    total
 }

@@ -1,0 +1,72 @@
+-- The graph has too many copies, or too many edges, or is tested by its edges and its copies.
+use Prim.Native.Nat.{min}
+use native.Mathlib.Omega.{arith}
+use mathlib.Core.Path.{_≡_, sym, _∙_, ap, ap₂}
+use mathlib.Core.Bool.{_&&_}
+use lib.ListN.{length}
+use Rattle.timing.specs.Graphs.{edgesOf}
+use Rattle.graph.proofs.Edges.{length-edges}
+use Rattle.graph.proofs.WellFormed.{too-many-copies, too-many-edges, formed-by}
+use borrow.Author.Needs.{needs}
+use Rattle.graph.proofs.well_formed.Statement.{statement}
+use Rattle.graph.proofs.well_formed.Tie as tie
+
+-- m is the count of the graph's edges
+count-is : (c : tie.After-shorter2) →
+    let a = c .before .before .before .before .before .before .before .before .args in
+    (c .shorter2 .result ≡ length (edgesOf (a .gs .now) (a .ge .now) (a .gn .now)))
+count-is c =
+    let a = c .before .before .before .before .before .before .before .before .args in
+    c .shorter2 .ensures ∙ ap (min (length (a .gs .now))) (c .before .shorter .ensures) ∙ sym (length-edges (a .gs .now) (a .ge .now) (a .gn .now))
+
+shorter-requires : tie.Need-shorter-requires
+shorter-requires c κs = search needs
+
+shorter-requires-2 : tie.Need-shorter-requires-2
+shorter-requires-2 c κs = search needs
+
+returns : tie.Need-returns
+returns c =
+    let a = c .before .before .before .before .before .before .before .before .before .args in
+    sym (too-many-copies (a .n) (a .starts .now) (a .ends .now) (a .nodes .now) (a .gs .now) (a .ge .now) (a .gn .now) (c .if1 .taken))
+
+returns-2 : tie.Need-returns-2
+returns-2 c =
+    let k = c .before .before in
+    let a = k .before .before .before .before .before .before .before .before .args in
+    sym (too-many-edges (a .n) (a .starts .now) (a .ends .now) (a .nodes .now) (a .gs .now) (a .ge .now) (a .gn .now) (omega arith) (omega (arith, count-is k)))
+
+shorter-requires-3 : tie.Need-shorter-requires-3
+shorter-requires-3 c κs = search needs
+
+edges-pass-requires : tie.Need-edges-pass-requires
+edges-pass-requires c κs = search needs
+
+copies-fit-requires : tie.Need-copies-fit-requires
+copies-fit-requires c κs = search needs
+
+both-requires : tie.Need-both-requires
+both-requires c κs = search needs
+
+returns-3 : tie.Need-returns-3
+returns-3 c =
+    let h = c .before .before .before in
+    let k = h .before .before .before in
+    let a = k .before .before .before .before .before .before .before .before .args in
+    c .both .ensures
+    ∙ ap₂ _&&_ (c .before .before .edges-pass .ensures) (c .before .copies-fit .ensures)
+    ∙ formed-by (a .n) (a .starts .now) (a .ends .now) (a .nodes .now) (a .gs .now) (a .ge .now) (a .gn .now) (k .shorter2 .result) (h .shorter3 .result) (count-is k) (h .shorter3 .ensures) (omega arith) (omega arith)
+
+pub well-formed-spec : {M : Type 1} → statement M
+well-formed-spec =
+    tie.close
+    (tie.spec
+    shorter-requires
+    shorter-requires-2
+    returns
+    returns-2
+    shorter-requires-3
+    edges-pass-requires
+    copies-fit-requires
+    both-requires
+    returns-3)

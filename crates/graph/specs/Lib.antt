@@ -1,0 +1,3 @@
+-- What private functions answer. No public contract cites these.
+pub mod Passes
+pub mod Writing

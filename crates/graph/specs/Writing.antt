@@ -1,0 +1,33 @@
+-- Numbers written one after the other, each behind the one before. After a refusal nothing more is written.
+use Prim.Native.Nat.{ℕ}
+use mathlib.Core.Path.{_≡_}
+use mathlib.Core.List.{List, [], _∷_, flatMap}
+use Rattle.timing.specs.declared.Written.{Written}
+use Rattle.timing.specs.declared.Written.the-variants.{End, Refused}
+use Rattle.timing.specs.Graphs.{edgesOf}
+use Rattle.timing.specs.Numbers.{packed, writeAnswer, writtenRoom}
+
+abbrev pub wroteNext : Written → List ℕ → ℕ → Written
+wroteNext (End at) room x = writeAnswer room at (packed x)
+wroteNext (Refused r) room x = Refused r
+
+abbrev pub roomNext : Written → List ℕ → ℕ → List ℕ
+roomNext (End at) room x = writtenRoom room at (packed x)
+roomNext (Refused r) room x = room
+
+abbrev pub wroteAll : Written → List ℕ → List ℕ → Written
+wroteAll w room [] = w
+wroteAll w room (x ∷ xs) = wroteAll (wroteNext w room x) (roomNext w room x) xs
+
+abbrev pub roomAll : Written → List ℕ → List ℕ → List ℕ
+roomAll w room [] = room
+roomAll w room (x ∷ xs) = roomAll (wroteNext w room x) (roomNext w room x) xs
+
+-- numbers xs were written behind w
+pub record Wrote (w : Written) (room xs : List ℕ) (w′ : Written) (room′ : List ℕ) : Type 0 where
+  pub answer : w′ ≡ wroteAll w room xs
+  pub after : room′ ≡ roomAll w room xs
+
+-- start copy, end copy and design edge of each edge
+abbrev pub rowsOf : List ℕ → List ℕ → List ℕ → List ℕ
+rowsOf gs ge gn = flatMap (λ e. e .start ∷ e .end ∷ e .name ∷ []) (edgesOf gs ge gn)

@@ -1,0 +1,306 @@
+// Test 32, well-formed true graphs, in time linear in nodes, edges and copies.
+ghost use mathlib.Core.Path.{_≡_};
+ghost use mathlib.Core.Bool.{Bool, true, false, not, _&&_, _||_};
+ghost use mathlib.Core.List.{List, []};
+ghost use Prim.Native.Nat.{ℕ, _+_, _≤_, _<_, min};
+ghost use lib.Dec.{leb};
+ghost use lib.ListN.{length, getD, set};
+ghost use Rattle.timing.specs.Lists.{allOf, upto};
+ghost use Rattle.timing.specs.Graphs.{design, graph, edge};
+ghost use Rattle.timing.specs.WellFormed.{edgeFits, edgeRises, wellFormed};
+ghost use Rattle.timing.specs.Refusals.{_then_};
+ghost use Rattle.timing.specs.Tests.{nodeCount, graphTest};
+ghost use Rattle.timing.specs.GraphBytes.{packedGraph};
+ghost use Rattle.timing.specs.Calls.{graphSlices, graphOf, writing, roomAfterWriting, graphWriteTests};
+ghost use Rattle.graph.specs.Passes.{Marked, stands, flag, edgePasses, follows, joined, copyPasses};
+use timing::Verdict;
+use timing::Written;
+use timing::number_at;
+
+mod writer;
+
+fn both(a: bool, b: bool) -> bool
+    ensures { λ r. ⌜ r ≡ (a && b) ⌝ }
+{
+    if a { b } else { false }
+}
+
+fn shorter(a: usize, b: usize) -> usize
+    ensures { λ r. ⌜ r ≡ min a b ⌝ }
+{
+    if a <= b { a } else { b }
+}
+
+fn set_flag(flags: &mut [bool], v: usize)
+    ensures { λ r. ⌜ now (flags .exit) ≡ set (now (flags .entry)) v true ⌝ }
+{
+    if v < flags.len() {
+        flags[v] = true;
+    }
+}
+
+fn flag_at(flags: &[bool], v: usize) -> bool
+    ensures { λ r. ⌜ r ≡ flag (now (flags .entry)) v ⌝ }
+{
+    if v < flags.len() { flags[v] } else { false }
+}
+
+// Sets the flags of the first `count` numbers of a list.
+fn mark(list: &[u32], count: usize, flags: &mut [bool])
+    ensures { λ r. ⌜ Marked (now (flags .entry)) (now (list .entry)) count (now (flags .exit)) ⌝ }
+{
+    let mut k = 0;
+    while k < count {
+        set_flag(flags, number_at(list, k) as usize);
+        k += 1;
+    }
+}
+
+fn edge_fits(starts: &[u32], ends: &[u32], nodes: &[u32], s: u32, t: u32, k: u32) -> bool
+    ensures { λ r. ⌜ r ≡ edgeFits (design 0 (now (starts .entry)) (now (ends .entry)) []) (graph (now (nodes .entry)) []) (edge s t k) ⌝ }
+{
+    let there = both((s as usize) < nodes.len(), (t as usize) < nodes.len());
+    let named = both(there, (k as usize) < starts.len());
+    let from = both(
+        named,
+        number_at(nodes, s as usize) == number_at(starts, k as usize),
+    );
+    both(
+        from,
+        number_at(nodes, t as usize) == number_at(ends, k as usize),
+    )
+}
+
+// Edges go by end copy, then by design edge.
+fn edge_rises(t: u32, k: u32, u: u32, l: u32) -> bool
+    ensures { λ r. ⌜ r ≡ edgeRises (edge 0 t k) (edge 0 u l) ⌝ }
+{
+    if t == u {
+        return k < l;
+    }
+    t < u
+}
+
+// Edge i of the first m rises to the next, if there is one.
+fn next_rises(ge: &[u32], gn: &[u32], m: usize, i: usize) -> bool
+    requires { ⌜ i < m ⌝ }
+    ensures { λ r. ⌜ r ≡ (leb m (i + 1) || edgeRises (edge 0 (getD (now (ge .entry)) i 0) (getD (now (gn .entry)) i 0)) (edge 0 (getD (now (ge .entry)) (i + 1) 0) (getD (now (gn .entry)) (i + 1) 0))) ⌝ }
+{
+    if m <= i + 1 {
+        return true;
+    }
+    let t = number_at(ge, i);
+    let k = number_at(gn, i);
+    let u = number_at(ge, i + 1);
+    let l = number_at(gn, i + 1);
+    edge_rises(t, k, u, l)
+}
+
+fn edge_passes(
+    starts: &[u32],
+    ends: &[u32],
+    nodes: &[u32],
+    gs: &[u32],
+    ge: &[u32],
+    gn: &[u32],
+    m: usize,
+    i: usize,
+) -> bool
+    requires { ⌜ i < m ⌝ }
+    ensures { λ r. ⌜ r ≡ edgePasses (now (starts .entry)) (now (ends .entry)) (now (nodes .entry)) (now (gs .entry)) (now (ge .entry)) (now (gn .entry)) m i ⌝ }
+{
+    let s = number_at(gs, i);
+    let t = number_at(ge, i);
+    let k = number_at(gn, i);
+    let fits = edge_fits(starts, ends, nodes, s, t, k);
+    both(fits, next_rises(ge, gn, m, i))
+}
+
+fn edges_pass(
+    starts: &[u32],
+    ends: &[u32],
+    nodes: &[u32],
+    gs: &[u32],
+    ge: &[u32],
+    gn: &[u32],
+    m: usize,
+) -> bool
+    ensures { λ r. ⌜ r ≡ allOf (edgePasses (now (starts .entry)) (now (ends .entry)) (now (nodes .entry)) (now (gs .entry)) (now (ge .entry)) (now (gn .entry)) m) (upto m 0) ⌝ }
+{
+    let mut i = 0;
+    while i < m {
+        if !edge_passes(starts, ends, nodes, gs, ge, gn, m, i) {
+            return false;
+        }
+        i += 1;
+    }
+    true
+}
+
+// Copies go by node, and a sink has one copy.
+fn node_rises(nodes: &[u32], nout: &[bool], c: usize) -> bool
+    requires { ⌜ c < length (now nodes) ⌝ }
+    ensures { λ r. ⌜ r ≡ (leb (length (now (nodes .entry))) (c + 1) || follows (flag (now (nout .entry))) (getD (now (nodes .entry)) c 0) (getD (now (nodes .entry)) (c + 1) 0)) ⌝ }
+{
+    if nodes.len() <= c + 1 {
+        return true;
+    }
+    let v = number_at(nodes, c);
+    let w = number_at(nodes, c + 1);
+    if v == w {
+        return flag_at(nout, v as usize);
+    }
+    v < w
+}
+
+fn has_edge(node: bool, copy: bool) -> bool
+    ensures { λ r. ⌜ r ≡ joined node copy ⌝ }
+{
+    if node { copy } else { true }
+}
+
+fn copy_passes(
+    n: u32,
+    nodes: &[u32],
+    nin: &[bool],
+    nout: &[bool],
+    cin: &[bool],
+    cout: &[bool],
+    c: usize,
+) -> bool
+    requires { ⌜ c < length (now nodes) ⌝ }
+    ensures { λ r. ⌜ r ≡ copyPasses n (now (nodes .entry)) (flag (now (nin .entry))) (flag (now (nout .entry))) (flag (now (cin .entry))) (flag (now (cout .entry))) c ⌝ }
+{
+    let v = number_at(nodes, c);
+    let there = both(v < n, node_rises(nodes, nout, c));
+    let entered = has_edge(flag_at(nin, v as usize), flag_at(cin, c));
+    let left = has_edge(flag_at(nout, v as usize), flag_at(cout, c));
+    both(both(there, entered), left)
+}
+
+fn copies_pass(
+    n: u32,
+    nodes: &[u32],
+    nin: &[bool],
+    nout: &[bool],
+    cin: &[bool],
+    cout: &[bool],
+) -> bool
+    ensures { λ r. ⌜ r ≡ allOf (copyPasses n (now (nodes .entry)) (flag (now (nin .entry))) (flag (now (nout .entry))) (flag (now (cin .entry))) (flag (now (cout .entry)))) (upto (length (now (nodes .entry))) 0) ⌝ }
+{
+    let mut c = 0;
+    while c < nodes.len() {
+        if !copy_passes(n, nodes, nin, nout, cin, cout, c) {
+            return false;
+        }
+        c += 1;
+    }
+    true
+}
+
+// The copies, against the first d edges of the design and the first m of the graph.
+fn copies_fit(
+    n: u32,
+    starts: &[u32],
+    ends: &[u32],
+    d: usize,
+    nodes: &[u32],
+    gs: &[u32],
+    ge: &[u32],
+    m: usize,
+) -> bool
+    requires { ⌜ (n ≤ 4096) × (length (now nodes) ≤ 16384) ⌝ }
+    ensures { λ r. ⌜ r ≡ allOf (copyPasses n (now (nodes .entry)) (stands (now (ends .entry)) d) (stands (now (starts .entry)) d) (stands (now (ge .entry)) m) (stands (now (gs .entry)) m)) (upto (length (now (nodes .entry))) 0) ⌝ }
+{
+    let mut nin = [false; 4096];
+    let mut nout = [false; 4096];
+    let mut cin = [false; 16384];
+    let mut cout = [false; 16384];
+    mark(ends, d, &mut nin);
+    mark(starts, d, &mut nout);
+    mark(ge, m, &mut cin);
+    mark(gs, m, &mut cout);
+    copies_pass(n, nodes, &nin, &nout, &cin, &cout)
+}
+
+fn well_formed(
+    n: u32,
+    starts: &[u32],
+    ends: &[u32],
+    nodes: &[u32],
+    gs: &[u32],
+    ge: &[u32],
+    gn: &[u32],
+) -> bool
+    requires { ⌜ n ≤ 4096 ⌝ }
+    ensures { λ r. ⌜ r ≡ wellFormed (design n (now (starts .entry)) (now (ends .entry)) []) (graphOf (graphSlices (now (nodes .entry)) (now (gs .entry)) (now (ge .entry)) (now (gn .entry)))) ⌝ }
+{
+    let m = shorter(gs.len(), shorter(ge.len(), gn.len()));
+    if timing::MAX_COPIES < nodes.len() {
+        return false;
+    }
+    if timing::MAX_COPY_EDGES < m {
+        return false;
+    }
+    let d = shorter(starts.len(), ends.len());
+    let edges = edges_pass(starts, ends, nodes, gs, ge, gn, m);
+    let copies = copies_fit(n, starts, ends, d, nodes, gs, ge, m);
+    both(edges, copies)
+}
+
+// 10 and 32: the flags of nodes are a local array, which 10 makes large enough. Every call that
+// tests 32 tests 10 before, so that it learns nothing new by it.
+pub fn graph_test(
+    n: u32,
+    starts: &[u32],
+    ends: &[u32],
+    nodes: &[u32],
+    gs: &[u32],
+    ge: &[u32],
+    gn: &[u32],
+) -> Verdict
+    ensures { λ r. ⌜ r ≡ (nodeCount n then graphTest (design n (now (starts .entry)) (now (ends .entry)) []) (graphOf (graphSlices (now (nodes .entry)) (now (gs .entry)) (now (ge .entry)) (now (gn .entry))))) ⌝ }
+{
+    if timing::MAX_NODES < n {
+        return timing::unless(10, false);
+    }
+    timing::unless(32, well_formed(n, starts, ends, nodes, gs, ge, gn))
+}
+
+// The same after other tests.
+pub fn and_graph_test(
+    v: Verdict,
+    n: u32,
+    starts: &[u32],
+    ends: &[u32],
+    nodes: &[u32],
+    gs: &[u32],
+    ge: &[u32],
+    gn: &[u32],
+) -> Verdict
+    ensures { λ r. ⌜ r ≡ (v then nodeCount n then graphTest (design n (now (starts .entry)) (now (ends .entry)) []) (graphOf (graphSlices (now (nodes .entry)) (now (gs .entry)) (now (ge .entry)) (now (gn .entry))))) ⌝ }
+{
+    let Verdict::Passed = v else {
+        return v;
+    };
+    graph_test(n, starts, ends, nodes, gs, ge, gn)
+}
+
+// Writes a packed true graph at the front of the room, or refuses and leaves the room as it is.
+pub fn write_graph(nodes: &[u32], gs: &[u32], ge: &[u32], gn: &[u32], room: &mut [u8]) -> Written
+    ensures { λ r. ⌜ r ≡ writing (graphWriteTests (graphSlices (now (nodes .entry)) (now (gs .entry)) (now (ge .entry)) (now (gn .entry)))) (now (room .entry)) (packedGraph (graphOf (graphSlices (now (nodes .entry)) (now (gs .entry)) (now (ge .entry)) (now (gn .entry))))) ⌝ }
+    ensures { λ r. ⌜ now (room .exit) ≡ roomAfterWriting (graphWriteTests (graphSlices (now (nodes .entry)) (now (gs .entry)) (now (ge .entry)) (now (gn .entry)))) (now (room .entry)) (packedGraph (graphOf (graphSlices (now (nodes .entry)) (now (gs .entry)) (now (ge .entry)) (now (gn .entry))))) ⌝ }
+{
+    let v = writer::write_tests(nodes.len(), gs.len(), ge.len(), gn.len());
+    match v {
+        Verdict::Refused(r) => {
+            return Written::Refused(r);
+        }
+        Verdict::Passed => {}
+    }
+    let size = writer::graph_size(nodes, gs, ge, gn);
+    if room.len() < size {
+        return Written::Refused(timing::refuse(35, 0));
+    }
+    writer::write_all(nodes, gs, ge, gn, room)
+}
