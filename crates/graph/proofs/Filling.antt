@@ -91,6 +91,7 @@ module _ {A : Type 0} (p : Reader A) (thing : ℕ → A) (next : ℕ → ℕ) (h
           let g : a ≡ c = cc in
           (d ∙ ap (λ (l : List A). x ∷ l) (r .0), g ∙ r .1)
       two x b (stopped q) f below = never q f
+
       one : (q : Parsed A) → p at ≡ q → onward q (λ x. repeated k p >>= (λ ys. return (x ∷ ys))) ≡ found xs a
           → ((b : ℕ) (ys : List A) (c : ℕ) → repeated k p b ≡ found ys c → (ys ≡ thingsFrom thing next k b) × (c ≡ placeAfter next k b))
           → (xs ≡ thing at ∷ thingsFrom thing next k (next at)) × (a ≡ placeAfter next k (next at))
@@ -99,7 +100,7 @@ module _ {A : Type 0} (p : Reader A) (thing : ℕ → A) (next : ℕ → ℕ) (h
           rw (sym (h .0), sym (h .1)) (two x b (repeated k p b) f (below b))
       one (stopped r) q f below = never r f
 
-number-here : (s : List ℕ) (at x b : ℕ) → number s at ≡ found x b → (x ≡ valueAt s at) × (b ≡ nextAt s at)
+pub number-here : (s : List ℕ) (at x b : ℕ) → number s at ≡ found x b → (x ≡ valueAt s at) × (b ≡ nextAt s at)
 unfolding valueAt nextAt
 number-here s at x b e = one (readNumber s at) e
   where
@@ -118,15 +119,27 @@ row-here s at x b e = one (number s at) refl e
         let g : b ≡ c = cc in
         (d ∙ ap (λ (y : ℕ). record { first = v; second = w; third = y }) (h .0), g ∙ h .1)
     three v w at₂ (stopped r) q f = never r f
+
     two : (v : ℕ) (at₁ : ℕ) (p : Parsed ℕ) → number s at₁ ≡ p → onward p (λ w. number s >>= (λ u. return {A = Row} (record { first = v; second = w; third = u }))) ≡ found x b
         → (x ≡ record { first = v; second = valueAt s at₁; third = valueAt s (nextAt s at₁) }) × (b ≡ nextAt s (nextAt s at₁))
     two v at₁ (found w c) q f =
         let h = number-here s at₁ w c q in
         rw (sym (h .0), sym (h .1)) (three v w c (number s c) refl f)
     two v at₁ (stopped r) q f = never r f
+
     one : (p : Parsed ℕ) → number s at ≡ p → onward p (λ v. number s >>= (λ w. number s >>= (λ u. return {A = Row} (record { first = v; second = w; third = u })))) ≡ found x b
         → (x ≡ rowAt s at) × (b ≡ rowEnd s at)
     one (found v c) q f =
         let h = number-here s at v c q in
         rw (sym (h .0), sym (h .1)) (two v c (number s c) refl f)
     one (stopped r) q f = never r f
+
+pub numbers-from : (s : List ℕ) (k at : ℕ) (xs : List ℕ) (a : ℕ) → repeated k (number s) at ≡ found xs a → (xs ≡ numbersFrom s k at) × (a ≡ numbersEnd s k at)
+numbers-from s = things-from (number s) (valueAt s) (nextAt s) (number-here s)
+
+pub rows-from : (s : List ℕ) (k at : ℕ) (xs : List Row) (a : ℕ) → repeated k (row s) at ≡ found xs a → (xs ≡ rowsFrom s k at) × (a ≡ placeAfter (rowEnd s) k at)
+rows-from s = things-from (row s) (rowAt s) (rowEnd s) (row-here s)
+
+pub things-length : {A : Type 0} (thing : ℕ → A) (next : ℕ → ℕ) (k at : ℕ) → length (thingsFrom thing next k at) ≡ k
+things-length thing next zero at = refl
+things-length thing next (suc k) at = ap suc (things-length thing next k (next at))

@@ -7,3 +7,4 @@ pub mod WellFormed
 pub mod Writing
 pub mod Looking
 pub mod Filling
+pub mod Made

@@ -143,6 +143,7 @@ repeated-length {A} p (suc k) at xs a e = one (p at) e (λ b. repeated-length p 
         let d : xs ≡ x ∷ ys = cc in
         rw d (ap suc (below ys b refl))
     two x (stopped r) f below = absurd (let z : _≡_ {A = ℕ} 0 1 = cc in omega arith)
+
     one : (q : Parsed A) → onward q (λ x. repeated k p >>= (λ ys. return (x ∷ ys))) ≡ found xs a → ((b : ℕ) (ys : List A) (c : ℕ) → repeated k p b ≡ found ys c → length ys ≡ k) → length xs ≡ suc k
     one (found x b) f below = two x (repeated k p b) f (below b)
     one (stopped r) f below = absurd (let z : _≡_ {A = ℕ} 0 1 = cc in omega arith)
@@ -167,15 +168,18 @@ edges-made s edges at n nodes l = one (readNumber s at)
         → graphAnswer (parsed (onward p (λ u. return (graph nodes (map edgeOfRow rows))))) ≡ madeOf n (onward p (λ u. return m))
     four m rows (found u a) k = rw (length-map rows edgeOfRow, k, l)
     four m rows (stopped r) k = refl
+
     three : (m : ℕ) (p : Parsed (List Row)) → ((rows : List Row) (a : ℕ) → p ≡ found rows a → length rows ≡ m)
         → graphAnswer (parsed (onward p (λ rows. ended s >> return (graph nodes (map edgeOfRow rows))))) ≡ madeOf n (onward p (λ rows. ended s >> return m))
     three m (found rows a) k = four m rows (ended s a) (k rows a refl)
     three m (stopped r) k = refl
+
     two : (m a : ℕ) (v : Verdict)
         → graphAnswer (parsed (onward (tested v a) (λ u. repeated m (row s) >>= (λ rows. ended s >> return (graph nodes (map edgeOfRow rows))))))
         ≡ madeOf n (onward (onward (tested v a) (λ u. return m)) (λ m. repeated m (row s) >>= (λ rows. ended s >> return m)))
     two m a Passed = three m (repeated m (row s) a) (repeated-length (row s) m a)
     two m a (NotPassed r) = refl
+
     one : (r : NumberRead)
         → graphAnswer (parsed (onward (parsedNumber r) (λ m. tested (unless 32 (leb m 65536) then unless 34 (leb m edges)) >> (repeated m (row s) >>= (λ rows. ended s >> return (graph nodes (map edgeOfRow rows)))))))
         ≡ madeOf n (onward (onward (parsedNumber r) (λ m. tested (unless 32 (leb m 65536) then unless 34 (leb m edges)) >> return m)) (λ m. repeated m (row s) >>= (λ rows. ended s >> return m)))
@@ -194,6 +198,7 @@ count-parts s limit full room at n next e = one (readNumber s at) refl e
         let b : a ≡ next = cc in
         (q ∙ rw (d, b), rw d at t)
     two m a (NotPassed r) q t f = absurd (let z : _≡_ {A = ℕ} 0 1 = cc in omega arith)
+
     one : (r : NumberRead) → readNumber s at ≡ r → onward (parsedNumber r) (λ m. tested (unless 32 (leb m limit) then unless full (leb m room)) >> return m) ≡ found n next
         → (readNumber s at ≡ Value n next) × ((unless 32 (leb n limit) then unless full (leb n room)) ≡ Passed)
     one (Value m a) q f = two m a (unless 32 (leb m limit) then unless full (leb m room)) q refl f
@@ -206,6 +211,7 @@ counted {B} s limit full room at r f e = one (readNumber s at) e
     two : (m a : ℕ) (v : Verdict) → onward (tested v a) (λ u. return m) ≡ stopped r → onward (tested v a) (λ u. f m) ≡ stopped r
     two m a Passed q = absurd (let z : _≡_ {A = ℕ} 0 1 = cc in omega arith)
     two m a (NotPassed r′) q = let d : r′ ≡ r = cc in rw d
+
     one : (q : NumberRead) → onward (parsedNumber q) (λ m. tested (unless 32 (leb m limit) then unless full (leb m room)) >> return m) ≡ stopped r
         → onward (parsedNumber q) (λ n. tested (unless 32 (leb n limit) then unless full (leb n room)) >> f n) ≡ stopped r
     one (Value m a) q = two m a (unless 32 (leb m limit) then unless full (leb m room)) q

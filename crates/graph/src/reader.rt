@@ -190,7 +190,15 @@ fn fill_rows(s: &[u8], at: usize, m: usize, gs: &mut [u32], ge: &mut [u32], gn: 
 }
 
 // The room, where the look passed: the copies, and behind the count of edges the rows.
-pub(crate) fn fill(s: &[u8], n: usize, m: usize, nodes: &mut [u32], gs: &mut [u32], ge: &mut [u32], gn: &mut [u32])
+pub(crate) fn fill(
+    s: &[u8],
+    n: usize,
+    m: usize,
+    nodes: &mut [u32],
+    gs: &mut [u32],
+    ge: &mut [u32],
+    gn: &mut [u32],
+)
     requires { ⌜ (n ≤ length (now nodes)) × (m ≤ length (now gs)) × (m ≤ length (now ge)) × (m ≤ length (now gn)) ⌝ }
     ensures { λ r. ⌜ now (nodes .exit) ≡ sets (now (nodes .entry)) 0 (numbersFrom (now (s .entry)) n (nextAt (now (s .entry)) 0)) ⌝ }
     ensures { λ r. ⌜ now (gs .exit) ≡ sets (now (gs .entry)) 0 (map (λ q. q .first) (rowsFrom (now (s .entry)) m (rowsPlace (now (s .entry)) n))) ⌝ }

@@ -1,3 +1,4 @@
+-- 32 passes and the room decides, or 32 refuses.
 use Prim.Native.Nat.{ℕ}
 use native.Mathlib.Omega.{arith}
 use mathlib.Core.Path.{_∙_, ap}
@@ -7,31 +8,22 @@ use Rattle.timing.specs.Refusals.{unless as passedIf}
 use borrow.Author.Needs.{needs}
 use Rattle.graph.proofs.reader.count_test.Statement.{statement}
 use Rattle.graph.proofs.reader.count_test.Tie as tie
-use Rattle.graph.proofs.reader.count_test.Reads as reads
-use Rattle.graph.proofs.reader.count_test.Lts as lts
-use Rattle.graph.proofs.reader.wide.Reads as wide-reads
-use Rattle.timing.proofs.unless.Reads as unless-reads
 
--- src/reader.rt:56:9
 wide-requires : tie.Need-wide-requires
 wide-requires c κs = search needs
 
--- src/reader.rt:58:9
 unless-requires : tie.Need-unless-requires
 unless-requires c κs = search needs
 
--- src/reader.rt:58:9
 returns : tie.Need-returns
 returns c =
     let w = c .before .before in
     let a = w .before .args in
     rw (le-leb (a .n) (a .limit) (omega (arith, w .wide .ensures))) (c .unless .ensures ∙ ap (λ (x : ℕ). passedIf (a .full) (leb x (a .room))) (w .wide .ensures))
 
--- src/reader.rt:60:5
 unless-requires-2 : tie.Need-unless-requires-2
 unless-requires-2 c κs = search needs
 
--- src/reader.rt:53:1
 returns-2 : tie.Need-returns-2
 returns-2 c =
     let w = c .before .before in

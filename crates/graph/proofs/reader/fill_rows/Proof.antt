@@ -56,8 +56,7 @@ returns : tie.Need-returns Inv-loop μ-loop
 returns c =
     let l = c .before in
     let a = l .before .before .before .before .before .args in
-    let h = c .loop-test .left in
-    (
+    let h = c .loop-test .left in (
       column-none (a .s .now) (λ q. q .first) (a .m) (a .at) (a .gs .now) (l .loop .here) (l .loop .i) (l .loop .gs) h (l .loop .inv .1),
       (
         column-none (a .s .now) (λ q. q .second) (a .m) (a .at) (a .ge .now) (l .loop .here) (l .loop .i) (l .loop .ge) h (l .loop .inv .2),

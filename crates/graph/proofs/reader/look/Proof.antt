@@ -1,48 +1,34 @@
+-- One return for each way in which the copies end.
 use mathlib.Core.Path.{sym, _∙_}
 use Rattle.graph.proofs.Looking.{graph-rest, graph-stop, graph-none}
 use borrow.Author.Needs.{needs}
 use Rattle.graph.proofs.reader.look.Statement.{statement}
 use Rattle.graph.proofs.reader.look.Tie as tie
-use Rattle.graph.proofs.reader.look.Reads as reads
-use Rattle.graph.proofs.reader.look.Lts as lts
-use Rattle.graph.proofs.reader.look_count.Reads as look-count-reads
-use Rattle.graph.proofs.reader.look_edges.Reads as look-edges-reads
-use Rattle.graph.proofs.reader.look_numbers.Reads as look-numbers-reads
-use Rattle.graph.proofs.reader.wide.Reads as wide-reads
 
--- src/reader.rt:107:9
 look-count-requires : tie.Need-look-count-requires
 look-count-requires c κs = search needs
 
--- src/reader.rt:109:29
 enum-known-r : tie.Need-enum-known-r
 enum-known-r c = search needs
 
--- src/reader.rt:110:43
 wide-requires : tie.Need-wide-requires
 wide-requires c κs = search needs
 
--- src/reader.rt:110:17
 look-numbers-requires : tie.Need-look-numbers-requires
 look-numbers-requires c κs = search needs
 
--- src/reader.rt:112:28
 enum-known-q : tie.Need-enum-known-q
 enum-known-q c = search needs
 
--- src/reader.rt:112:38
 look-edges-requires : tie.Need-look-edges-requires
 look-edges-requires c κs = search needs
 
--- src/reader.rt:113:33
 enum-known-q-2 : tie.Need-enum-known-q-2
 enum-known-q-2 c = search needs
 
--- src/reader.rt:116:29
 enum-known-r-2 : tie.Need-enum-known-r-2
 enum-known-r-2 c = search needs
 
--- src/reader.rt:104:1
 returns : tie.Need-returns
 returns c =
     let w = c .before .before .before .before in
@@ -53,7 +39,6 @@ returns c =
     c .look-edges .ensures
     ∙ graph-rest (a .s .now) (a .copies) (a .edges) _ _ (sym (n .look-count .ensures) ∙ w .before .before .before .r .given .1) _ (sym l ∙ c .before .before .q .given .1)
 
--- src/reader.rt:104:1
 returns-2 : tie.Need-returns-2
 returns-2 c =
     let w = c .before .before .before in
@@ -63,7 +48,6 @@ returns-2 c =
     let l = rw v at (w .look-numbers .ensures) in
     graph-stop (a .s .now) (a .copies) (a .edges) _ _ (sym (n .look-count .ensures) ∙ w .before .before .before .r .given .1) _ (sym l ∙ c .before .q2 .given .1)
 
--- src/reader.rt:104:1
 returns-3 : tie.Need-returns-3
 returns-3 c =
     let n = c .before .before .before in

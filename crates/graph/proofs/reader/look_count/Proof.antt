@@ -1,38 +1,28 @@
+-- The number is read and passes; or its test refuses; or it is not read.
 use mathlib.Core.Path.{sym, _∙_}
 use Rattle.graph.proofs.Looking.{count-value, count-refused, count-none}
 use borrow.Author.Needs.{needs}
 use Rattle.graph.proofs.reader.look_count.Statement.{statement}
 use Rattle.graph.proofs.reader.look_count.Tie as tie
-use Rattle.graph.proofs.reader.look_count.Reads as reads
-use Rattle.graph.proofs.reader.look_count.Lts as lts
-use Rattle.graph.proofs.reader.count_test.Reads as count-test-reads
-use Rattle.packed.proofs.read_number.Reads as read-number-reads
 
--- src/reader.rt:66:9
 read-number-requires : tie.Need-read-number-requires
 read-number-requires c κs = search needs
 
--- src/reader.rt:68:29
 enum-known-r : tie.Need-enum-known-r
 enum-known-r c = search needs
 
--- src/reader.rt:69:17
 count-test-requires : tie.Need-count-test-requires
 count-test-requires c κs = search needs
 
--- src/reader.rt:71:36
 enum-told : tie.Need-enum-told
 enum-told c = search needs
 
--- src/reader.rt:72:34
 enum-known-v : tie.Need-enum-known-v
 enum-known-v c = search needs
 
--- src/reader.rt:75:29
 enum-known-r-2 : tie.Need-enum-known-r-2
 enum-known-r-2 c = search needs
 
--- src/reader.rt:63:1
 returns : tie.Need-returns
 returns c =
     let t = c .before .before in
@@ -40,7 +30,6 @@ returns c =
     let a = n .before .before .args in
     count-value (a .s .now) (a .limit) (a .full) (a .room) (a .at) _ _ (sym (n .read-number .ensures) ∙ t .before .before .r .given .1) (sym (t .count-test .ensures) ∙ c .enum-told .given .1)
 
--- src/reader.rt:63:1
 returns-2 : tie.Need-returns-2
 returns-2 c =
     let t = c .before .before .before in
@@ -48,7 +37,6 @@ returns-2 c =
     let a = n .before .before .args in
     count-refused (a .s .now) (a .limit) (a .full) (a .room) (a .at) _ _ (sym (n .read-number .ensures) ∙ t .before .before .r .given .1) _ (sym (t .count-test .ensures) ∙ c .before .v .given .1)
 
--- src/reader.rt:63:1
 returns-3 : tie.Need-returns-3
 returns-3 c =
     let n = c .before .before .before in

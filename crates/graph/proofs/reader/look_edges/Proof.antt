@@ -1,40 +1,28 @@
+-- One return for each way in which the edges end.
 use mathlib.Core.Path.{sym, _∙_}
 use Rattle.graph.proofs.Looking.{edges-end, edges-more, edges-stop, edges-none}
 use borrow.Author.Needs.{needs}
 use Rattle.graph.proofs.reader.look_edges.Statement.{statement}
 use Rattle.graph.proofs.reader.look_edges.Tie as tie
-use Rattle.graph.proofs.reader.look_edges.Reads as reads
-use Rattle.graph.proofs.reader.look_edges.Lts as lts
-use Rattle.graph.proofs.reader.look_count.Reads as look-count-reads
-use Rattle.graph.proofs.reader.look_rows.Reads as look-rows-reads
-use Rattle.graph.proofs.reader.wide.Reads as wide-reads
-use Rattle.timing.proofs.refuse.Reads as refuse-reads
 
--- src/reader.rt:83:9
 look-count-requires : tie.Need-look-count-requires
 look-count-requires c κs = search needs
 
--- src/reader.rt:85:29
 enum-known-r : tie.Need-enum-known-r
 enum-known-r c = search needs
 
--- src/reader.rt:86:17
 look-rows-requires : tie.Need-look-rows-requires
 look-rows-requires c κs = search needs
 
--- src/reader.rt:88:28
 enum-known-q : tie.Need-enum-known-q
 enum-known-q c = search needs
 
--- src/reader.rt:91:37
 wide-requires : tie.Need-wide-requires
 wide-requires c κs = search needs
 
--- src/reader.rt:92:36
 wide-requires-2 : tie.Need-wide-requires-2
 wide-requires-2 c κs = search needs
 
--- src/reader.rt:90:25
 returns : tie.Need-returns
 returns c =
     let w = c .before .before .before .before .before .before in
@@ -44,19 +32,15 @@ returns c =
     (edges-end (a .s .now) (a .edges) (a .at) _ _ (sym (n .look-count .ensures) ∙ w .before .before .r .given .1) (a .copies) _
     (sym (w .look-rows .ensures) ∙ c .before .before .before .before .q .given .1) (c .before .before .if1 .taken))
 
--- src/reader.rt:95:40
 refuse-requires : tie.Need-refuse-requires
 refuse-requires c κs = search needs
 
--- src/reader.rt:97:33
 enum-known-q-2 : tie.Need-enum-known-q-2
 enum-known-q-2 c = search needs
 
--- src/reader.rt:100:29
 enum-known-r-2 : tie.Need-enum-known-r-2
 enum-known-r-2 c = search needs
 
--- src/reader.rt:80:1
 returns-2 : tie.Need-returns-2
 returns-2 c =
     let w = c .before .before .before .before .before in
@@ -66,7 +50,6 @@ returns-2 c =
     (edges-more (a .s .now) (a .edges) (a .at) _ _ (sym (n .look-count .ensures) ∙ w .before .before .r .given .1) (a .copies) _
     (sym (w .look-rows .ensures) ∙ c .before .before .before .q .given .1) (c .before .if1 .left))
 
--- src/reader.rt:80:1
 returns-3 : tie.Need-returns-3
 returns-3 c =
     let w = c .before .before .before in
@@ -75,7 +58,6 @@ returns-3 c =
     edges-stop (a .s .now) (a .edges) (a .at) _ _ (sym (n .look-count .ensures) ∙ w .before .before .r .given .1) (a .copies) _
     (sym (w .look-rows .ensures) ∙ c .before .q2 .given .1)
 
--- src/reader.rt:80:1
 returns-4 : tie.Need-returns-4
 returns-4 c =
     let n = c .before .before .before in

@@ -1,3 +1,4 @@
+-- A row is three numbers.
 use Prim.Native.Nat.{ℕ, _*_}
 use mathlib.Core.Path.{_∙_, ap}
 use Rattle.timing.specs.Parsing.{number, repeated}
@@ -6,24 +7,16 @@ use Rattle.graph.proofs.Looking.{rows-numbers}
 use borrow.Author.Needs.{needs}
 use Rattle.graph.proofs.reader.look_rows.Statement.{statement}
 use Rattle.graph.proofs.reader.look_rows.Tie as tie
-use Rattle.graph.proofs.reader.look_rows.Reads as reads
-use Rattle.graph.proofs.reader.look_rows.Lts as lts
-use Rattle.graph.proofs.reader.look_numbers.Reads as look-numbers-reads
-use Rattle.graph.proofs.reader.wide.Reads as wide-reads
 
--- src/reader.rt:49:29
 wide-requires : tie.Need-wide-requires
 wide-requires c κs = search needs
 
--- src/reader.rt:49:25
 mul-look-numbers : tie.Need-mul-look-numbers
 mul-look-numbers c = search needs
 
--- src/reader.rt:49:5
 look-numbers-requires : tie.Need-look-numbers-requires
 look-numbers-requires c κs = search needs
 
--- src/reader.rt:46:1
 returns : tie.Need-returns
 returns c =
     let a = c .before .before .before .args in
