@@ -5,3 +5,6 @@ pub mod Edges
 pub mod Sinks
 pub mod WellFormed
 pub mod Writing
+pub mod Looking
+pub mod Filling
+pub mod Made

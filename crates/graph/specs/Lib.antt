@@ -1,3 +1,4 @@
 -- What private functions answer. No public contract cites these.
 pub mod Passes
 pub mod Writing
+pub mod Reading

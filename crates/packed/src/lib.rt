@@ -149,10 +149,10 @@ pub fn numbers_size(s: &[u32]) -> usize
     ensures { λ r. ⌜ r ≡ length (flatMap packed (now (s .entry))) ⌝ }
 {
     let mut total: usize = 0;
-    let mut k = 0;
-    while k < s.len() {
-        total += number_size(s[k]);
-        k += 1;
+    let mut i = 0;
+    while i < s.len() {
+        total += number_size(s[i]);
+        i += 1;
     }
     total
 }

@@ -12,10 +12,10 @@ use Rattle.packed.proofs.numbers_size.Statement.{statement}
 use Rattle.packed.proofs.numbers_size.Tie as tie
 
 abbrev Inv-loop : tie.InvT-loop
-Inv-loop s total₀ k₀ total k = (k ≤ length s) × (total ≤ 5 * k) × (total + length (flatMap packed (drop k s)) ≡ length (flatMap packed s))
+Inv-loop s total₀ i₀ total i = (i ≤ length s) × (total ≤ 5 * i) × (total + length (flatMap packed (drop i s)) ≡ length (flatMap packed s))
 
 abbrev μ-loop : tie.MeasureT-loop
-μ-loop s total₀ k₀ total k = length s - k
+μ-loop s total₀ i₀ total i = length s - i
 
 loop-holds : tie.Need-loop-holds Inv-loop μ-loop
 loop-holds c = (omega arith, omega arith, omega arith)
@@ -32,10 +32,10 @@ number-size-requires c κs = search needs
 add-total : tie.Need-add-total Inv-loop μ-loop
 add-total c =
     let l = c .before .before .before in
-    omega (arith, c .number-size .ensures, packed-size 4 (getD (l .before .before .args .s .now) (l .loop .k) 0))
+    omega (arith, c .number-size .ensures, packed-size 4 (getD (l .before .before .args .s .now) (l .loop .i) 0))
 
-add-k : tie.Need-add-k Inv-loop μ-loop
-add-k c = omega arith
+add-i : tie.Need-add-i Inv-loop μ-loop
+add-i c = omega arith
 
 loop-less : tie.Need-loop-less Inv-loop μ-loop
 loop-less c = omega arith
@@ -45,14 +45,14 @@ loop-again c =
     let l = c .before .before .before in
     let s = l .before .before .args .s .now in
     let e = c .number-size .ensures in
-    let p = packed-size 4 (getD s (l .loop .k) 0) in
-    let d = size-drop s (l .loop .k) (omega arith) in
+    let p = packed-size 4 (getD s (l .loop .i) 0) in
+    let d = size-drop s (l .loop .i) (omega arith) in
     (omega arith, omega arith, omega arith)
 
 returns : tie.Need-returns Inv-loop μ-loop
 returns c =
     let l = c .before in
-    let d = size-done (l .before .before .args .s .now) (l .loop .k) (omega arith) in
+    let d = size-done (l .before .before .args .s .now) (l .loop .i) (omega arith) in
     omega arith
 
 pub numbers-size-spec : {M : Type 1} → statement M
@@ -66,7 +66,7 @@ numbers-size-spec =
     shared-slice-read-number-size
     number-size-requires
     add-total
-    add-k
+    add-i
     loop-less
     loop-again
     returns)
