@@ -1,0 +1,3 @@
+-- Laws of the deck.
+pub mod Tests
+pub mod Writing
