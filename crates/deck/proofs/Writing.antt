@@ -6,8 +6,8 @@ use mathlib.Core.Path.{_≡_, refl, sym, _∙_, ap, subst}
 use mathlib.Core.Bool.{Bool, true, false, cond}
 use mathlib.Core.List.{List, [], _∷_, _++_, flatMap, append-assoc, map}
 use lib.IntN.{ℤ, pos}
-use lib.ListN.{length, getD, take, drop, set, length-append, length-set, drop-of-length-le}
-use lib.Seq.{sets, sets-eq, length-sets, drop-cons}
+use lib.ListN.{length, getD, take, drop, set, length-append, drop-of-length-le, length-drop, take-append-drop}
+use lib.Seq.{sets, sets-eq, length-sets, drop-cons, drop-drop, length-take-le}
 use borrow.Author.Tests.{le-leb, lt-leb}
 use Rattle.timing.specs.declared.Refusal.{Refusal}
 use Rattle.timing.specs.declared.Written.{Written}
@@ -15,8 +15,11 @@ use Rattle.timing.specs.declared.Written.the-variants.{End, Refused}
 use Rattle.timing.specs.Refusals.{refusal}
 use Rattle.timing.specs.Numbers.{packed, writeAnswer, writtenRoom}
 use Rattle.timing.specs.Delays.{packedDelay}
-use Rattle.timing.specs.Decks.{edgeNumbers, pathNumbers}
-use Rattle.deck.specs.Writing.{bytesOf, size, Wrote, Left}
+use Rattle.timing.specs.Lists.{sum}
+use Rattle.timing.specs.Marks.{cut}
+use Rattle.timing.specs.Decks.{Deck, edgeNumbers, pathNumbers, deckNumbers, packedDeck}
+use Rattle.deck.specs.Writing.{Fit, bytesOf, size, Wrote, Left}
+use Rattle.deck.proofs.Tests.{sum-drop}
 
 -- the packed form of what follows stands behind what is before
 pub bytes-append : (xs ys : List ℕ) → bytesOf (xs ++ ys) ≡ bytesOf xs ++ bytesOf ys
@@ -76,6 +79,20 @@ put-never room at x r h e =
 -- What was written, and what is left.
 pub wrote-length : {r r' : List ℕ} {at next : ℕ} {xs : List ℕ} → Wrote r r' at next xs → length r' ≡ length r
 wrote-length {r} {r'} {at} {next} {xs} w = ap length (w .is) ∙ length-sets r at (bytesOf xs)
+
+-- two runs of numbers, one after the other
+pub fits-first : (room : List ℕ) (at : ℕ) (xs ys : List ℕ) → at + size (xs ++ ys) ≤ length room → at + size xs ≤ length room
+fits-first room at xs ys h = omega (arith, size-append xs ys)
+
+pub fits-second : {r r' : List ℕ} {at next : ℕ} (xs ys : List ℕ) → at + size (xs ++ ys) ≤ length r → Wrote r r' at next xs → next + size ys ≤ length r'
+fits-second xs ys h w = omega (arith, size-append xs ys, w .end, wrote-length w)
+
+pub wrote-both : {r r' r″ : List ℕ} {at mid next : ℕ} (xs ys : List ℕ) → Wrote r r' at mid xs → Wrote r' r″ mid next ys → Wrote r r″ at next (xs ++ ys)
+wrote-both {r} {r'} {r″} {at} {mid} {next} xs ys v w =
+    record {
+      end = omega (arith, size-append xs ys, v .end, w .end);
+      is = w .is ∙ rw (v .is, v .end, ← sets-append r at (bytesOf xs) (bytesOf ys), ← bytes-append xs ys);
+    }
 
 module _ (room₀ : List ℕ) (at₀ : ℕ) (all : List ℕ) where
   pub left-all : at₀ + size all ≤ length room₀ → Left room₀ at₀ all room₀ at₀ all
@@ -139,3 +156,95 @@ pub part-done : (s : List ℕ) (from count k : ℕ) → count ≤ k → take (co
 part-done s from count k h =
     let d : count - k ≡ 0 = omega arith in
     rw d
+
+pub paths-turn : (edges lengths : List ℕ) (from k : ℕ) → k < length lengths → from + sum (drop k lengths) ≡ length edges
+    → flatMap pathNumbers (cut (drop from edges) (drop k lengths))
+    ≡ (getD lengths k 0 ∷ take (getD lengths k 0) (drop from edges)) ++ flatMap pathNumbers (cut (drop (from + getD lengths k 0) edges) (drop (k + 1) lengths))
+unfolding flatMap
+paths-turn edges lengths from k h e =
+    let s = sum-drop lengths k h in
+    let d : length (take (getD lengths k 0) (drop from edges)) ≡ getD lengths k 0 = length-take-le (getD lengths k 0) (drop from edges) (rw (length-drop from edges) (omega arith)) in
+    rw (drop-cons lengths k 0 h, d, drop-drop (getD lengths k 0) from edges, add-one k)
+
+pub paths-done : (edges lengths : List ℕ) (from k : ℕ) → length lengths ≤ k → flatMap pathNumbers (cut (drop from edges) (drop k lengths)) ≡ []
+unfolding flatMap
+paths-done edges lengths from k h = rw (drop-of-length-le lengths h)
+
+-- The size of a deck: each number counted once.
+pub size-edges : (s t : List ℕ) (d : List ℤ) → length t ≡ length s → length d ≡ length s → size (edgeNumbers s t d) ≡ size s + size t + size (map packedDelay d)
+size-edges [] [] [] e f = omega (arith, size-none)
+size-edges [] (y ∷ t) d e f = absurd (omega arith)
+size-edges [] [] (z ∷ d) e f = absurd (omega arith)
+size-edges (x ∷ s) [] d e f = absurd (omega arith)
+size-edges (x ∷ s) (y ∷ t) [] e f = absurd (omega arith)
+size-edges (x ∷ s) (y ∷ t) (z ∷ d) e f =
+    omega (
+      arith,
+      size-cons x (y ∷ packedDelay z ∷ edgeNumbers s t d),
+      size-cons y (packedDelay z ∷ edgeNumbers s t d),
+      size-cons (packedDelay z) (edgeNumbers s t d),
+      size-cons x s,
+      size-cons y t,
+      size-cons (packedDelay z) (map packedDelay d),
+      size-edges s t d (omega arith) (omega arith),
+    )
+
+pub size-paths : (edges lengths : List ℕ) → sum lengths ≡ length edges → size (flatMap pathNumbers (cut edges lengths)) ≡ size lengths + size edges
+unfolding flatMap
+size-paths [] [] e = omega (arith, size-none)
+size-paths (x ∷ edges) [] e = absurd (omega arith)
+size-paths edges (k ∷ lengths) e =
+    let d : length (take k edges) ≡ k = length-take-le k edges (omega arith) in
+    let rest = flatMap pathNumbers (cut (drop k edges) lengths) in
+    let f : size edges ≡ size (take k edges ++ drop k edges) = ap size (sym (take-append-drop k edges)) in
+    rw d
+    (omega (
+      arith,
+      size-cons k (take k edges ++ rest),
+      size-append (take k edges) rest,
+      size-paths (drop k edges) lengths (rw (length-drop k edges) (omega arith)),
+      size-cons k lengths,
+      size-append (take k edges) (drop k edges),
+    ))
+
+length-cut : (edges lengths : List ℕ) → length (cut edges lengths) ≡ length lengths
+length-cut edges [] = refl
+length-cut edges (k ∷ lengths) = ap suc (length-cut (drop k edges) lengths)
+
+abbrev pub designNumbers : Deck → List ℕ
+designNumbers d = d .design .nodes ∷ length (d .design .starts) ∷ edgeNumbers (d .design .starts) (d .design .ends) (d .design .delays)
+
+abbrev pub listNumbers : Deck → List ℕ
+listNumbers d = length (d .list .lengths) ∷ flatMap pathNumbers (cut (d .list .edges) (d .list .lengths))
+
+pub deck-parts : (d : Deck) → deckNumbers d ≡ designNumbers d ++ listNumbers d ++ (d .allowed ∷ [])
+unfolding deckNumbers
+deck-parts d = rw (length-cut (d .list .edges) (d .list .lengths))
+
+pub packed-deck : (d : Deck) → packedDeck d ≡ bytesOf (deckNumbers d)
+unfolding packedDeck bytesOf
+packed-deck d = refl
+
+pub size-deck : (d : Deck) → Fit d → length (packedDeck d)
+    ≡ length (packed (d .design .nodes)) + length (packed (length (d .design .starts))) + length (packed (length (d .list .lengths))) + length (packed (d .allowed))
+    + (size (d .design .starts) + size (d .design .ends) + size (map packedDelay (d .design .delays))) + (size (d .list .lengths) + size (d .list .edges))
+size-deck d f =
+    let D = d .design in
+    let es = edgeNumbers (D .starts) (D .ends) (D .delays) in
+    let ps = flatMap pathNumbers (cut (d .list .edges) (d .list .lengths)) in
+    rw (packed-deck d, deck-parts d)
+    (omega (
+      arith,
+      size-append (designNumbers d ++ listNumbers d) (d .allowed ∷ []),
+      size-append (designNumbers d) (listNumbers d),
+      size-cons (D .nodes) (length (D .starts) ∷ es),
+      size-cons (length (D .starts)) es,
+      size-edges (D .starts) (D .ends) (D .delays) (f .ends) (f .delays),
+      size-cons (length (d .list .lengths)) ps,
+      size-paths (d .list .edges) (d .list .lengths) (f .adds),
+      size-cons (d .allowed) [],
+      size-none,
+    ))
+
+pub deck-fits : (d : Deck) (room : List ℕ) → length (packedDeck d) ≤ length room → 0 + size (designNumbers d ++ listNumbers d ++ (d .allowed ∷ [])) ≤ length room
+deck-fits d room h = rw (← deck-parts d) (omega (arith, ap length (packed-deck d)))

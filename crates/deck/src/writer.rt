@@ -15,7 +15,7 @@ use super::counts::wide;
 
 // How many bytes a number takes.
 fn number_size(x: u32) -> usize
-    ensures { λ r. ⌜ r ≡ length (packed x) ⌝ }
+    ensures { λ r. ⌜ (r ≡ length (packed x)) × (r ≤ 5) ⌝ }
 {
     if x < 128 {
         return 1;
@@ -31,7 +31,7 @@ fn number_size(x: u32) -> usize
 
 fn numbers_size(s: &[u32]) -> usize
     requires { ⌜ length (now s) ≤ 16384 ⌝ }
-    ensures { λ r. ⌜ r ≡ size (now (s .entry)) ⌝ }
+    ensures { λ r. ⌜ (r ≡ size (now (s .entry))) × (r ≤ 81920) ⌝ }
 {
     let mut total: usize = 0;
     let mut k = 0;
@@ -52,7 +52,7 @@ fn delay_number(s: &[i32], k: usize) -> u32
 
 fn delays_size(s: &[i32]) -> usize
     requires { ⌜ length (now s) ≤ 16384 ⌝ }
-    ensures { λ r. ⌜ r ≡ size (map packedDelay (now (s .entry))) ⌝ }
+    ensures { λ r. ⌜ (r ≡ size (map packedDelay (now (s .entry)))) × (r ≤ 81920) ⌝ }
 {
     let mut total: usize = 0;
     let mut k = 0;
@@ -111,4 +111,70 @@ fn put_numbers(room: &mut [u8], at: usize, s: &[u32], from: usize, count: usize)
         k += 1;
     }
     at
+}
+
+fn put_path(room: &mut [u8], at: usize, listed: &[u32], from: usize, count: u32) -> usize
+    requires { ⌜ from + count ≤ length (now listed) ⌝ }
+    requires { ⌜ at + size (count ∷ take count (drop from (now listed))) ≤ length (now room) ⌝ }
+    ensures { λ r. ⌜ Wrote (now (room .entry)) (now (room .exit)) at r (count ∷ take count (drop from (now (listed .entry)))) ⌝ }
+{
+    let at = put(room, at, count);
+    put_numbers(room, at, listed, from, wide(count))
+}
+
+fn put_paths(room: &mut [u8], at: usize, listed: &[u32], lengths: &[u32]) -> usize
+    requires { ⌜ sum (now lengths) ≡ length (now listed) ⌝ }
+    requires { ⌜ at + size (flatMap pathNumbers (cut (now listed) (now lengths))) ≤ length (now room) ⌝ }
+    ensures { λ r. ⌜ Wrote (now (room .entry)) (now (room .exit)) at r (flatMap pathNumbers (cut (now (listed .entry)) (now (lengths .entry)))) ⌝ }
+{
+    let mut at = at;
+    let mut from = 0;
+    let mut k = 0;
+    while k < lengths.len() {
+        let count = lengths[k];
+        at = put_path(room, at, listed, from, count);
+        from += wide(count);
+        k += 1;
+    }
+    at
+}
+
+fn put_design(room: &mut [u8], at: usize, nodes: u32, starts: &[u32], ends: &[u32], delays: &[i32]) -> usize
+    requires { ⌜ (length (now ends) ≡ length (now starts)) × (length (now delays) ≡ length (now starts)) × (length (now starts) ≤ 16384) ⌝ }
+    requires { ⌜ at + size (nodes ∷ length (now starts) ∷ edgeNumbers (now starts) (now ends) (now delays)) ≤ length (now room) ⌝ }
+    ensures { λ r. ⌜ Wrote (now (room .entry)) (now (room .exit)) at r (nodes ∷ length (now (starts .entry)) ∷ edgeNumbers (now (starts .entry)) (now (ends .entry)) (now (delays .entry))) ⌝ }
+{
+    let at = put(room, at, nodes);
+    let at = put(room, at, starts.len() as u32);
+    put_edges(room, at, starts, ends, delays)
+}
+
+fn put_list(room: &mut [u8], at: usize, listed: &[u32], lengths: &[u32]) -> usize
+    requires { ⌜ (sum (now lengths) ≡ length (now listed)) × (length (now lengths) ≤ 1024) ⌝ }
+    requires { ⌜ at + size (length (now lengths) ∷ flatMap pathNumbers (cut (now listed) (now lengths))) ≤ length (now room) ⌝ }
+    ensures { λ r. ⌜ Wrote (now (room .entry)) (now (room .exit)) at r (length (now (lengths .entry)) ∷ flatMap pathNumbers (cut (now (listed .entry)) (now (lengths .entry)))) ⌝ }
+{
+    let at = put(room, at, lengths.len() as u32);
+    put_paths(room, at, listed, lengths)
+}
+
+// How many bytes the deck takes: each number is counted once, in any order.
+pub(crate) fn deck_size(nodes: u32, starts: &[u32], ends: &[u32], delays: &[i32], listed: &[u32], lengths: &[u32], t: u32) -> usize
+    requires { ⌜ Fit (deckOf nodes (now starts) (now ends) (now delays) (now listed) (now lengths) t) ⌝ }
+    ensures { λ r. ⌜ r ≡ length (packedDeck (deckOf nodes (now (starts .entry)) (now (ends .entry)) (now (delays .entry)) (now (listed .entry)) (now (lengths .entry)) t)) ⌝ }
+{
+    let counts = number_size(nodes) + number_size(starts.len() as u32) + number_size(lengths.len() as u32) + number_size(t);
+    let edges = numbers_size(starts) + numbers_size(ends) + delays_size(delays);
+    let paths = numbers_size(lengths) + numbers_size(listed);
+    counts + edges + paths
+}
+
+pub(crate) fn put_deck(nodes: u32, starts: &[u32], ends: &[u32], delays: &[i32], listed: &[u32], lengths: &[u32], t: u32, room: &mut [u8]) -> usize
+    requires { ⌜ Fit (deckOf nodes (now starts) (now ends) (now delays) (now listed) (now lengths) t) ⌝ }
+    requires { ⌜ length (packedDeck (deckOf nodes (now starts) (now ends) (now delays) (now listed) (now lengths) t)) ≤ length (now room) ⌝ }
+    ensures { λ r. ⌜ Wrote (now (room .entry)) (now (room .exit)) 0 r (deckNumbers (deckOf nodes (now (starts .entry)) (now (ends .entry)) (now (delays .entry)) (now (listed .entry)) (now (lengths .entry)) t)) ⌝ }
+{
+    let at = put_design(room, 0, nodes, starts, ends, delays);
+    let at = put_list(room, at, listed, lengths);
+    put(room, at, t)
 }

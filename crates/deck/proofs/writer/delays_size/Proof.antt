@@ -47,7 +47,7 @@ loop-again : tie.Need-loop-again Inv-loop μ-loop
 loop-again c =
     let l = c .before .before .before in
     let s = l .before .args .s .now in
-    let e : c .number-size .result ≡ length (packed (packedDelay (getD s (l .loop .k) (pos 0)))) = c .number-size .ensures ∙ ap (λ (x : ℕ). length (packed x)) (c .before .delay-number .ensures) in
+    let e : c .number-size .result ≡ length (packed (packedDelay (getD s (l .loop .k) (pos 0)))) = c .number-size .ensures .0 ∙ ap (λ (x : ℕ). length (packed x)) (c .before .delay-number .ensures) in
     let p = packed-size 4 (packedDelay (getD s (l .loop .k) (pos 0))) in
     let d = sizes-drop s (l .loop .k) (omega arith) in
     (omega arith, omega arith, omega arith)
@@ -56,7 +56,7 @@ returns : tie.Need-returns Inv-loop μ-loop
 returns c =
     let l = c .before in
     let d = sizes-done (l .before .args .s .now) (l .loop .k) (omega arith) in
-    omega arith
+    (omega arith, omega arith)
 
 pub delays-size-spec : {M : Type 1} → statement M
 delays-size-spec =

@@ -47,7 +47,7 @@ loop-again : tie.Need-loop-again Inv-loop μ-loop
 loop-again c =
     let l = c .before .before .before in
     let s = l .before .before .args .s .now in
-    let e = c .number-size .ensures in
+    let e = c .number-size .ensures .0 in
     let p = packed-size 4 (getD s (l .loop .k) 0) in
     let d = size-drop s (l .loop .k) (omega arith) in
     (omega arith, omega arith, omega arith)
@@ -56,7 +56,7 @@ returns : tie.Need-returns Inv-loop μ-loop
 returns c =
     let l = c .before in
     let d = size-done (l .before .before .args .s .now) (l .loop .k) (omega arith) in
-    omega arith
+    (omega arith, omega arith)
 
 pub numbers-size-spec : {M : Type 1} → statement M
 numbers-size-spec =
