@@ -10,6 +10,9 @@ use lib.ListN.{length, getD, take, drop, set, length-append, drop-of-length-le, 
 use lib.Seq.{sets, sets-eq, length-sets, drop-cons, drop-drop, length-take-le}
 use borrow.Author.Tests.{le-leb, lt-leb}
 use Rattle.timing.specs.declared.Refusal.{Refusal}
+use Rattle.timing.specs.declared.Verdict.{Verdict}
+use Rattle.timing.specs.declared.Verdict.the-variants.{Passed}
+use Rattle.timing.specs.declared.Verdict.the-variants.{Refused as NotPassed}
 use Rattle.timing.specs.declared.Written.{Written}
 use Rattle.timing.specs.declared.Written.the-variants.{End, Refused}
 use Rattle.timing.specs.Refusals.{refusal}
@@ -18,6 +21,7 @@ use Rattle.timing.specs.Delays.{packedDelay}
 use Rattle.timing.specs.Lists.{sum}
 use Rattle.timing.specs.Marks.{cut}
 use Rattle.timing.specs.Decks.{Deck, edgeNumbers, pathNumbers, deckNumbers, packedDeck}
+use Rattle.timing.specs.Calls.{writing, roomAfterWriting}
 use Rattle.deck.specs.Writing.{Fit, bytesOf, size, Wrote, Left}
 use Rattle.deck.proofs.Tests.{sum-drop}
 
@@ -248,3 +252,18 @@ size-deck d f =
 
 pub deck-fits : (d : Deck) (room : List ℕ) → length (packedDeck d) ≤ length room → 0 + size (designNumbers d ++ listNumbers d ++ (d .allowed ∷ [])) ≤ length room
 deck-fits d room h = rw (← deck-parts d) (omega (arith, ap length (packed-deck d)))
+
+-- What the writer answers and leaves, where its tests refuse, where the deck is too long, and where it is written.
+pub write-refused : (v : Verdict) (r : Refusal) (room bs : List ℕ) → v ≡ NotPassed r → (Refused r ≡ writing v room bs) × (room ≡ roomAfterWriting v room bs)
+write-refused v r room bs e = rw e (refl, refl)
+
+pub write-long : (v : Verdict) (q : Refusal) (room bs : List ℕ) → v ≡ Passed → q ≡ refusal 35 0 → length room < length bs → (Refused q ≡ writing v room bs) × (room ≡ roomAfterWriting v room bs)
+write-long v q room bs e f h = let t = too-long room bs h in rw (e, f) (sym (t .0), sym (t .1))
+
+pub write-done : (v : Verdict) (d : Deck) (room room' : List ℕ) (next : ℕ) → v ≡ Passed → length (packedDeck d) ≤ length room → Wrote room room' 0 next (deckNumbers d)
+    → (End next ≡ writing v room (packedDeck d)) × (room' ≡ roomAfterWriting v room (packedDeck d))
+write-done v d room room' next e h w =
+    let l : 0 + length (packedDeck d) ≤ length room = omega arith in
+    let i : room' ≡ sets room 0 (packedDeck d) = rw (packed-deck d) (w .is) in
+    let n : next ≡ 0 + length (packedDeck d) = rw (packed-deck d) (w .end) in
+    rw e (ap End n ∙ sym (answer-fits room 0 (packedDeck d) l), i ∙ sym (written-sets room 0 (packedDeck d) l))

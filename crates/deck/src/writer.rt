@@ -10,8 +10,8 @@ ghost use Rattle.timing.specs.Delays.{packedDelay};
 ghost use Rattle.timing.specs.Marks.{cut};
 ghost use Rattle.timing.specs.Decks.{edgeNumbers, pathNumbers, deckNumbers, packedDeck};
 ghost use Rattle.deck.specs.Writing.{deckOf, Fit, size, Wrote};
-use timing::Written;
 use super::counts::wide;
+use timing::Written;
 
 // How many bytes a number takes.
 fn number_size(x: u32) -> usize
@@ -139,7 +139,14 @@ fn put_paths(room: &mut [u8], at: usize, listed: &[u32], lengths: &[u32]) -> usi
     at
 }
 
-fn put_design(room: &mut [u8], at: usize, nodes: u32, starts: &[u32], ends: &[u32], delays: &[i32]) -> usize
+fn put_design(
+    room: &mut [u8],
+    at: usize,
+    nodes: u32,
+    starts: &[u32],
+    ends: &[u32],
+    delays: &[i32],
+) -> usize
     requires { ⌜ (length (now ends) ≡ length (now starts)) × (length (now delays) ≡ length (now starts)) × (length (now starts) ≤ 16384) ⌝ }
     requires { ⌜ at + size (nodes ∷ length (now starts) ∷ edgeNumbers (now starts) (now ends) (now delays)) ≤ length (now room) ⌝ }
     ensures { λ r. ⌜ Wrote (now (room .entry)) (now (room .exit)) at r (nodes ∷ length (now (starts .entry)) ∷ edgeNumbers (now (starts .entry)) (now (ends .entry)) (now (delays .entry))) ⌝ }
@@ -159,17 +166,37 @@ fn put_list(room: &mut [u8], at: usize, listed: &[u32], lengths: &[u32]) -> usiz
 }
 
 // How many bytes the deck takes: each number is counted once, in any order.
-pub(crate) fn deck_size(nodes: u32, starts: &[u32], ends: &[u32], delays: &[i32], listed: &[u32], lengths: &[u32], t: u32) -> usize
+pub(crate) fn deck_size(
+    nodes: u32,
+    starts: &[u32],
+    ends: &[u32],
+    delays: &[i32],
+    listed: &[u32],
+    lengths: &[u32],
+    t: u32,
+) -> usize
     requires { ⌜ Fit (deckOf nodes (now starts) (now ends) (now delays) (now listed) (now lengths) t) ⌝ }
     ensures { λ r. ⌜ r ≡ length (packedDeck (deckOf nodes (now (starts .entry)) (now (ends .entry)) (now (delays .entry)) (now (listed .entry)) (now (lengths .entry)) t)) ⌝ }
 {
-    let counts = number_size(nodes) + number_size(starts.len() as u32) + number_size(lengths.len() as u32) + number_size(t);
+    let counts = number_size(nodes)
+        + number_size(starts.len() as u32)
+        + number_size(lengths.len() as u32)
+        + number_size(t);
     let edges = numbers_size(starts) + numbers_size(ends) + delays_size(delays);
     let paths = numbers_size(lengths) + numbers_size(listed);
     counts + edges + paths
 }
 
-pub(crate) fn put_deck(nodes: u32, starts: &[u32], ends: &[u32], delays: &[i32], listed: &[u32], lengths: &[u32], t: u32, room: &mut [u8]) -> usize
+pub(crate) fn put_deck(
+    nodes: u32,
+    starts: &[u32],
+    ends: &[u32],
+    delays: &[i32],
+    listed: &[u32],
+    lengths: &[u32],
+    t: u32,
+    room: &mut [u8],
+) -> usize
     requires { ⌜ Fit (deckOf nodes (now starts) (now ends) (now delays) (now listed) (now lengths) t) ⌝ }
     requires { ⌜ length (packedDeck (deckOf nodes (now starts) (now ends) (now delays) (now listed) (now lengths) t)) ≤ length (now room) ⌝ }
     ensures { λ r. ⌜ Wrote (now (room .entry)) (now (room .exit)) 0 r (deckNumbers (deckOf nodes (now (starts .entry)) (now (ends .entry)) (now (delays .entry)) (now (listed .entry)) (now (lengths .entry)) t)) ⌝ }

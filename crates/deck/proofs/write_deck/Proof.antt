@@ -1,3 +1,11 @@
+use native.Mathlib.Omega.{arith}
+use mathlib.Core.Path.{_≡_, refl, sym, _∙_, ap, subst}
+use Rattle.timing.specs.declared.Verdict.the-variants.{Passed}
+use Rattle.timing.specs.Decks.{Deck}
+use Rattle.timing.specs.Calls.{deckWriteTests}
+use Rattle.deck.specs.Writing.{deckOf, Fit}
+use Rattle.deck.proofs.Tests.{fit-of, tests-untimed}
+use Rattle.deck.proofs.Writing.{write-refused, write-long, write-done}
 use borrow.Author.Needs.{needs}
 use Rattle.deck.proofs.write_deck.Statement.{statement}
 use Rattle.deck.proofs.write_deck.Tie as tie
@@ -8,44 +16,50 @@ use Rattle.deck.proofs.writer.deck_size.Reads as deck-size-reads
 use Rattle.deck.proofs.writer.put_deck.Reads as put-deck-reads
 use Rattle.timing.proofs.refuse.Reads as refuse-reads
 
--- src/lib.rt:26:9
+-- the deck that is written, and its tests
+abbrev deckAt : tie.Start → Deck
+deckAt s = let a = s .args in deckOf (a .n) (a .starts .now) (a .ends .now) (a .delays .now) (a .listed .now) (a .lengths .now) (a .t)
+
+tested : (c : tie.After-write-tests) → deckWriteTests (deckAt (c .before .before .before .before .before .before)) ≡ c .write-tests .result
+tested c = sym (tests-untimed (deckAt (c .before .before .before .before .before .before))) ∙ sym (c .write-tests .ensures)
+
 write-tests-requires : tie.Need-write-tests-requires
 write-tests-requires c κs = search needs
 
--- src/lib.rt:28:26
 enum-known-v : tie.Need-enum-known-v
 enum-known-v c = search needs
 
--- src/lib.rt:29:13
 returns : tie.Need-returns
-returns c = ?
+returns c =
+    let w = c .before .before .before in
+    write-refused _ _ _ _ (tested w ∙ c .before .v .given .1)
 
 enum-told : tie.Need-enum-told
 enum-told c = search needs
 
--- src/lib.rt:33:9
 deck-size-requires : tie.Need-deck-size-requires
-deck-size-requires c κs = ?
+deck-size-requires c κs = fit-of (deckAt (c .before .before .before .before .before .before .before .before)) (tested (c .before .before) ∙ c .enum-told .given .1)
 
--- src/lib.rt:35:33
 refuse-requires : tie.Need-refuse-requires
 refuse-requires c κs = search needs
 
--- src/lib.rt:35:9
 returns-2 : tie.Need-returns-2
-returns-2 c = ?
+returns-2 c =
+    let e = c .before .before .before in
+    write-long _ _ _ _ (tested (e .before .before) ∙ e .enum-told .given .1) (c .refuse .ensures) (omega (arith, c .before .before .deck-size .ensures))
 
--- src/lib.rt:37:18
 put-deck-requires : tie.Need-put-deck-requires
-put-deck-requires c κs = ?
+put-deck-requires c κs =
+    let e = c .before .before .before in
+    (fit-of (deckAt (e .before .before .before .before .before .before .before .before)) (tested (e .before .before) ∙ e .enum-told .given .1), omega (arith, c .before .before .deck-size .ensures))
 
--- src/lib.rt:13:1
 same-length : tie.Need-same-length
 same-length c = search needs
 
--- src/lib.rt:13:1
 returns-3 : tie.Need-returns-3
-returns-3 c = ?
+returns-3 c =
+    let e = c .before .before .before .before .before .before in
+    write-done _ (deckAt (e .before .before .before .before .before .before .before .before)) _ _ _ (tested (e .before .before) ∙ e .enum-told .given .1) (omega (arith, c .before .before .before .before .before .deck-size .ensures)) (c .before .before .put-deck .ensures)
 
 pub write-deck-spec : {M : Type 1} → statement M
 write-deck-spec =
