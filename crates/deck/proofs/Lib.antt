@@ -1,3 +1,4 @@
 -- Laws of the deck.
 pub mod Tests
 pub mod Writing
+pub mod Looking

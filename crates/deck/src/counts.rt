@@ -32,7 +32,7 @@ fn adds_up(lengths: &[u32], total: usize) -> bool
 }
 
 // A verdict, and one more test where it passed.
-fn and_unless(v: Verdict, number: u32, fit: bool) -> Verdict
+pub(crate) fn and_unless(v: Verdict, number: u32, fit: bool) -> Verdict
     ensures { λ r. ⌜ r ≡ (v then passedIf number fit) ⌝ }
 {
     let Verdict::Passed = v else {

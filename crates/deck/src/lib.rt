@@ -3,11 +3,19 @@ ghost use mathlib.Core.Path.{_≡_};
 ghost use Rattle.timing.specs.Decks.{packedDeck};
 ghost use Rattle.timing.specs.Calls.{deckWriteTests, writing, roomAfterWriting};
 ghost use Rattle.deck.specs.Writing.{deckOf};
+use timing::Refusal;
 use timing::Verdict;
 use timing::Written;
 
 mod counts;
+mod looker;
 mod writer;
+
+// What a look answers: the place behind what it looked at.
+enum Looked {
+    At(usize),
+    Refused(Refusal),
+}
 
 // Writes a deck at the front of the room. Nothing is written before it is known that all of it fits.
 pub fn write_deck(
