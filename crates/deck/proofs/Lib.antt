@@ -2,3 +2,4 @@
 pub mod Tests
 pub mod Writing
 pub mod Looking
+pub mod Reading

@@ -4,6 +4,7 @@ use Prim.Native.Nat.{ℕ, zero, suc, _+_, _≤_}
 use mathlib.Core.Path.{_≡_}
 use mathlib.Core.List.{List, [], _∷_, _++_, map}
 use lib.Dec.{leb}
+use lib.IntN.{ℤ}
 use lib.ListN.{length}
 use Rattle.timing.specs.declared.Verdict.{Verdict}
 use Rattle.timing.specs.declared.Verdict.the-variants.{Passed}
@@ -105,6 +106,16 @@ abbrev pub rowsFrom : List ℕ → ℕ → ℕ → List Row
 rowsFrom s zero at = []
 rowsFrom s (suc k) at = rowAt s at ∷ rowsFrom s k (rowEnd s at)
 
+-- the starts, ends and delays of k edges
+abbrev pub startsFrom : List ℕ → ℕ → ℕ → List ℕ
+startsFrom s k at = map (λ r. r .first) (rowsFrom s k at)
+
+abbrev pub endsFrom : List ℕ → ℕ → ℕ → List ℕ
+endsFrom s k at = map (λ r. r .second) (rowsFrom s k at)
+
+abbrev pub delaysFrom : List ℕ → ℕ → ℕ → List ℤ
+delaysFrom s k at = map (λ r. delayOf (r .third)) (rowsFrom s k at)
+
 abbrev pub rowsEnd : List ℕ → ℕ → ℕ → ℕ
 rowsEnd s zero at = at
 rowsEnd s (suc k) at = rowsEnd s k (rowEnd s at)
@@ -141,13 +152,11 @@ abbrev pub pathsPlace : List ℕ → ℕ
 pathsPlace s = nextAt s (countPlace s)
 
 unfoldable pub deckFrom : List ℕ → Deck
-deckFrom s =
-    let rows = rowsFrom s (edgeCount s) (edgesPlace s) in
-    record {
-      design = design (valueAt s 0) (map (λ r. r .first) rows) (map (λ r. r .second) rows) (map (λ r. delayOf (r .third)) rows);
-      list = pathList (edgesFrom s (pathCount s) (pathsPlace s)) (lengthsFrom s (pathCount s) (pathsPlace s));
-      allowed = valueAt s (pathsEnd s (pathCount s) (pathsPlace s));
-    }
+deckFrom s = record {
+  design = design (valueAt s 0) (startsFrom s (edgeCount s) (edgesPlace s)) (endsFrom s (edgeCount s) (edgesPlace s)) (delaysFrom s (edgeCount s) (edgesPlace s));
+  list = pathList (edgesFrom s (pathCount s) (pathsPlace s)) (lengthsFrom s (pathCount s) (pathsPlace s));
+  allowed = valueAt s (pathsEnd s (pathCount s) (pathsPlace s));
+}
 
 -- the deck fits the tables
 pub record Fits (s : List ℕ) (tables : Tables) : Type 0 where

@@ -8,6 +8,7 @@ use timing::Verdict;
 use timing::Written;
 
 mod counts;
+mod filler;
 mod looker;
 mod writer;
 
@@ -15,6 +16,18 @@ mod writer;
 enum Looked {
     At(usize),
     Refused(Refusal),
+}
+
+// A number and the place behind it.
+struct Taken {
+    value: u32,
+    next: usize,
+}
+
+// The place behind the paths, and how many edges they list.
+struct Listed {
+    next: usize,
+    edges: usize,
 }
 
 // Writes a deck at the front of the room. Nothing is written before it is known that all of it fits.

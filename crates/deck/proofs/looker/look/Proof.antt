@@ -1,3 +1,7 @@
+use mathlib.Core.Path.{_≡_, refl, sym, _∙_, ap}
+use Rattle.timing.specs.Decks.{Tables}
+use Rattle.deck.specs.Reading.{countIn, edgesIn}
+use Rattle.deck.proofs.Looking.{number-at, number-stop, look-is}
 use borrow.Author.Needs.{needs}
 use Rattle.deck.proofs.looker.look.Statement.{statement}
 use Rattle.deck.proofs.looker.look.Tie as tie
@@ -6,29 +10,37 @@ use Rattle.deck.proofs.looker.look.Lts as lts
 use Rattle.deck.proofs.looker.look_count.Reads as look-count-reads
 use Rattle.deck.proofs.looker.look_edges.Reads as look-edges-reads
 
--- src/looker.rt:163:9
+-- the tables that are lent
+abbrev tablesAt : tie.Start → Tables
+tablesAt s = record { edges = s .args .edges; listed = s .args .listed; paths = s .args .paths }
+
 look-count-requires : tie.Need-look-count-requires
 look-count-requires c κs = search needs
 
--- src/looker.rt:165:39
 enum-known-r : tie.Need-enum-known-r
 enum-known-r c = search needs
 
--- src/looker.rt:165:49
 look-edges-requires : tie.Need-look-edges-requires
 look-edges-requires c κs = search needs
 
--- src/looker.rt:166:29
 enum-known-r-2 : tie.Need-enum-known-r-2
 enum-known-r-2 c = search needs
 
--- src/looker.rt:160:1
 returns : tie.Need-returns
-returns c = ?
+returns c =
+    let r = c .before .before in
+    let st = r .before .before .before .before in
+    let s = st .args .s .now in
+    number-at (countIn s 0 10 4096 4096 0) (λ n. edgesIn s (tablesAt st)) (r .r .given .0 .0) (r .r .given .0 .1 .0) _ (sym (r .before .before .look-count .ensures) ∙ r .r .given .1) (c .look-edges .ensures)
+    ∙ look-is s (tablesAt st)
 
--- src/looker.rt:160:1
 returns-2 : tie.Need-returns-2
-returns-2 c = ?
+returns-2 c =
+    let n = c .before .before .before in
+    let st = n .before .before in
+    let s = st .args .s .now in
+    number-stop (countIn s 0 10 4096 4096 0) (λ n. edgesIn s (tablesAt st)) _ (sym (n .look-count .ensures) ∙ c .before .r2 .given .1)
+    ∙ look-is s (tablesAt st)
 
 pub look-spec : {M : Type 1} → statement M
 look-spec =

@@ -1,3 +1,8 @@
+use mathlib.Core.Path.{_≡_, refl, sym, _∙_, ap}
+use Rattle.timing.specs.Parsing.{Reader, _>>=_, repeated, row}
+use Rattle.timing.specs.Decks.{Tables}
+use Rattle.deck.specs.Reading.{countIn, listIn}
+use Rattle.deck.proofs.Looking.{then-at, then-stop, number-at, number-stop}
 use borrow.Author.Needs.{needs}
 use Rattle.deck.proofs.looker.look_edges.Statement.{statement}
 use Rattle.deck.proofs.looker.look_edges.Tie as tie
@@ -7,45 +12,55 @@ use Rattle.deck.proofs.looker.look_count.Reads as look-count-reads
 use Rattle.deck.proofs.looker.look_list.Reads as look-list-reads
 use Rattle.deck.proofs.looker.look_rows.Reads as look-rows-reads
 
--- src/looker.rt:146:9
+-- the tables that are lent
+abbrev tablesAt : tie.Start → Tables
+tablesAt s = record { edges = s .args .edges; listed = s .args .listed; paths = s .args .paths }
+
 look-count-requires : tie.Need-look-count-requires
 look-count-requires c κs = search needs
 
--- src/looker.rt:148:29
 enum-known-r : tie.Need-enum-known-r
 enum-known-r c = search needs
 
--- src/looker.rt:149:17
 look-rows-requires : tie.Need-look-rows-requires
 look-rows-requires c κs = search needs
 
--- src/looker.rt:151:28
 enum-known-q : tie.Need-enum-known-q
 enum-known-q c = search needs
 
--- src/looker.rt:151:38
 look-list-requires : tie.Need-look-list-requires
 look-list-requires c κs = search needs
 
--- src/looker.rt:152:33
 enum-known-q-2 : tie.Need-enum-known-q-2
 enum-known-q-2 c = search needs
 
--- src/looker.rt:155:29
 enum-known-r-2 : tie.Need-enum-known-r-2
 enum-known-r-2 c = search needs
 
--- src/looker.rt:143:1
 returns : tie.Need-returns
-returns c = ?
+returns c =
+    let n = c .before .before .before .before in
+    let r = n .before .before in
+    let st = r .before .before .before .before in
+    let a = st .args in
+    number-at (countIn (a .s .now) 0 11 16384 (a .edges) (a .at)) (λ m. repeated m (row (a .s .now)) >>= (λ es. listIn (a .s .now) (tablesAt st))) (r .r .given .0 .0) (r .r .given .0 .1 .0) _ (sym (r .before .before .look-count .ensures) ∙ r .r .given .1)
+    (then-at (repeated (r .r .given .0 .0) (row (a .s .now)) (r .r .given .0 .1 .0)) (listIn (a .s .now) (tablesAt st)) _ _ (sym (c .before .before .q .given .1) ∙ n .look-rows .ensures) (c .look-list .ensures))
 
--- src/looker.rt:143:1
 returns-2 : tie.Need-returns-2
-returns-2 c = ?
+returns-2 c =
+    let n = c .before .before .before in
+    let r = n .before .before in
+    let st = r .before .before .before .before in
+    let a = st .args in
+    number-at (countIn (a .s .now) 0 11 16384 (a .edges) (a .at)) (λ m. repeated m (row (a .s .now)) >>= (λ es. listIn (a .s .now) (tablesAt st))) (r .r .given .0 .0) (r .r .given .0 .1 .0) _ (sym (r .before .before .look-count .ensures) ∙ r .r .given .1)
+    (then-stop (repeated (r .r .given .0 .0) (row (a .s .now)) (r .r .given .0 .1 .0)) (listIn (a .s .now) (tablesAt st)) _ (sym (c .before .q2 .given .1) ∙ n .look-rows .ensures))
 
--- src/looker.rt:143:1
 returns-3 : tie.Need-returns-3
-returns-3 c = ?
+returns-3 c =
+    let n = c .before .before .before in
+    let st = n .before .before in
+    let a = st .args in
+    number-stop (countIn (a .s .now) 0 11 16384 (a .edges) (a .at)) (λ m. repeated m (row (a .s .now)) >>= (λ es. listIn (a .s .now) (tablesAt st))) _ (sym (n .look-count .ensures) ∙ c .before .r2 .given .1)
 
 pub look-edges-spec : {M : Type 1} → statement M
 look-edges-spec =
