@@ -162,3 +162,198 @@ module _ (s : List ℕ) (tables : Tables) where
         rw (h .0, ri, li, q, ti),
         record { edges = rw (← mi) ml; paths = rw (← ki) cl; listed = omega arith },
       )
+
+le-table : (test m limit table : ℕ) → (unless test (leb m limit) then unless 36 (leb m table)) ≡ Passed → m ≤ table
+le-table test m limit table e = leb-true m table (unless-passed 36 (leb m table) (then-passed (unless test (leb m limit)) (unless 36 (leb m table)) e .1))
+
+is-any : {A : Type 0} (p : Parsed A) → Is (λ x next. Unit {0}) p
+is-any (found x at) = tt
+is-any (stopped r) = tt
+
+pub is-deck : (s : List ℕ) (tables : Tables) → Is (DeckIs s tables) (readDeck s tables)
+unfolding readDeck
+is-deck s tables =
+    let Q = DeckIs s tables in
+    is-onward (NumberIs s 0) Q (number s 0) _ (is-number s 0)
+    (λ n a h. is-onward (TestIs (unless 10 (leb n 4096)) a) Q (tested (unless 10 (leb n 4096)) a) _ (is-tested (unless 10 (leb n 4096)) a)
+    (λ u a' ta. is-onward (NumberIs s a') Q (number s a') _ (is-number s a')
+    (λ m b g. is-onward (TestIs (unless 11 (leb m 16384) then unless 36 (leb m (tables .edges))) b) Q (tested (unless 11 (leb m 16384) then unless 36 (leb m (tables .edges))) b) _
+    (is-tested (unless 11 (leb m 16384) then unless 36 (leb m (tables .edges))) b)
+    (λ u' b' tb. is-onward (RowsIs s m b') Q (repeated m (row s) b') _ (is-rows s m b')
+    (λ rows c r. is-onward (NumberIs s c) Q (number s c) _ (is-number s c)
+    (λ count p k. is-onward (TestIs (unless 20 (leb count 1024) then unless 36 (leb count (tables .paths))) p) Q (tested (unless 20 (leb count 1024) then unless 36 (leb count (tables .paths))) p) _
+    (is-tested (unless 20 (leb count 1024) then unless 36 (leb count (tables .paths))) p)
+    (λ u″ p' tp. is-onward (PathsIs s (tables .listed) count 0 p') Q (paths s (tables .listed) count 0 p') _ (is-paths s (tables .listed) count 0 p')
+    (λ list t l. is-onward (NumberIs s t) Q (number s t) _ (is-number s t)
+    (λ e f q. is-onward (λ x next. Unit {0}) Q (ended s f) _ (is-any (ended s f))
+    (λ v z w. found-deck s tables n a' m b' count p' t e rows list (h .0, ta .1 ∙ h .1) (g .0, tb .1 ∙ g .1) (le-table 11 m 16384 (tables .edges) (tb .0))
+    c r (k .0, tp .1 ∙ k .1) (le-table 20 count 1024 (tables .paths) (tp .0)) l (q .0)))))))))))
+
+-- what the verdict says of what was read
+pub read-passed : (s : List ℕ) (tables : Tables) → verdictOf (readDeck s tables) ≡ Passed → (parsed (readDeck s tables) ≡ made (deckFrom s)) × Fits s tables
+read-passed s tables e = by (readDeck s tables) e (is-deck s tables)
+  where
+    by : (p : Parsed Deck) → verdictOf p ≡ Passed → Is (DeckIs s tables) p → (parsed p ≡ made (deckFrom s)) × Fits s tables
+    by (found d at) q h = (ap made (h .0), h .1)
+    by (stopped r) q h = absurd (let z : _≡_ {A = ℕ} 0 1 = cc in omega arith)
+
+pub read-refused : (p : Parsed Deck) (r : Refusal) → verdictOf p ≡ NotPassed r → parsed p ≡ refused r
+read-refused (found d at) r e = absurd (let z : _≡_ {A = ℕ} 0 1 = cc in omega arith)
+read-refused (stopped q) r e = let d : q ≡ r = cc in ap refused d
+
+-- Filling: a number at a place.
+pub take-value : (s : List ℕ) (at v next : ℕ) → readNumber s at ≡ Value v next → (v ≡ valueAt s at) × (next ≡ nextAt s at)
+unfolding valueAt nextAt
+take-value s at v next e = rw e (refl, refl)
+
+pub take-none : (s : List ℕ) (at : ℕ) (r : Refusal) → readNumber s at ≡ NotRead r → (0 ≡ valueAt s at) × (at ≡ nextAt s at)
+unfolding valueAt nextAt
+take-none s at r e = rw e (refl, refl)
+
+-- a row, number by number
+pub row-is : (s : List ℕ) (at v a w b x c : ℕ) → (v ≡ valueAt s at) × (a ≡ nextAt s at) → (w ≡ valueAt s a) × (b ≡ nextAt s a) → (x ≡ valueAt s b) × (c ≡ nextAt s b)
+    → (c ≡ rowEnd s at) × (v ≡ rowAt s at .first) × (w ≡ rowAt s at .second) × (x ≡ rowAt s at .third)
+row-is s at v a w b x c h g f = (rw (f .1, g .1, h .1), h .0, rw (g .0, h .1), rw (f .0, g .1, h .1))
+
+-- numbers to a table
+module _ (s : List ℕ) (count i at : ℕ) where
+  pub numbers-step : (l : List ℕ) (from v next : ℕ) → i < count → (v ≡ valueAt s at) × (next ≡ nextAt s at)
+      → (numbersEnd s (count - (i + 1)) next ≡ numbersEnd s (count - i) at)
+      × (sets (set l (from + i) v) (from + (i + 1)) (numbersFrom s (count - (i + 1)) next) ≡ sets l (from + i) (numbersFrom s (count - i) at))
+  numbers-step l from v next h e =
+      let d : count - i ≡ suc (count - (i + 1)) = omega arith in
+      let f : from + (i + 1) ≡ suc (from + i) = omega arith in
+      rw (d, f, e .0, e .1) (refl, refl)
+
+  pub numbers-none : (l : List ℕ) (from : ℕ) → count ≤ i → (numbersEnd s (count - i) at ≡ at) × (sets l (from + i) (numbersFrom s (count - i) at) ≡ l)
+  numbers-none l from h =
+      let d : count - i ≡ 0 = omega arith in
+      rw d (refl, refl)
+
+pub numbers-whole : (s : List ℕ) (count at : ℕ) (l : List ℕ) (from : ℕ)
+    → (numbersEnd s (count - 0) at ≡ numbersEnd s count at) × (sets l (from + 0) (numbersFrom s (count - 0) at) ≡ sets l from (numbersFrom s count at))
+numbers-whole s count at l from =
+    let d : count - 0 ≡ count = omega arith in
+    let f : from + 0 ≡ from = omega arith in
+    rw (d, f) (refl, refl)
+
+-- rows to a table: one of the three, by what it holds of a row
+module _ {A : Type 0} (f : Row → A) (s : List ℕ) (m i at : ℕ) where
+  pub rows-step : (l l' : List A) (next : ℕ) → i < m → next ≡ rowEnd s at → l' ≡ set l i (f (rowAt s at))
+      → sets l' (i + 1) (map f (rowsFrom s (m - (i + 1)) next)) ≡ sets l i (map f (rowsFrom s (m - i) at))
+  rows-step l l' next h e g =
+      let d : m - i ≡ suc (m - (i + 1)) = omega arith in
+      rw (d, e, g, add-one i)
+
+  pub rows-none : (l : List A) → m ≤ i → sets l i (map f (rowsFrom s (m - i) at)) ≡ l
+  rows-none l h =
+      let d : m - i ≡ 0 = omega arith in
+      rw d
+
+pub rows-whole : {A : Type 0} (f : Row → A) (s : List ℕ) (m at : ℕ) (l : List A) → sets l 0 (map f (rowsFrom s (m - 0) at)) ≡ sets l 0 (map f (rowsFrom s m at))
+rows-whole f s m at l =
+    let d : m - 0 ≡ m = omega arith in
+    rw d
+
+pub rows-next : (s : List ℕ) (m i at next : ℕ) → i < m → next ≡ rowEnd s at → rowsEnd s (m - (i + 1)) next ≡ rowsEnd s (m - i) at
+rows-next s m i at next h e =
+    let d : m - i ≡ suc (m - (i + 1)) = omega arith in
+    rw (d, e)
+
+pub rows-last : (s : List ℕ) (m i at : ℕ) → m ≤ i → rowsEnd s (m - i) at ≡ at
+rows-last s m i at h =
+    let d : m - i ≡ 0 = omega arith in
+    rw d
+
+pub rows-start : (s : List ℕ) (m at : ℕ) → rowsEnd s (m - 0) at ≡ rowsEnd s m at
+rows-start s m at =
+    let d : m - 0 ≡ m = omega arith in
+    rw d
+
+-- paths to the two tables
+module _ (s : List ℕ) (count k at : ℕ) (h : k < count) where
+  pub paths-sum : length (edgesFrom s (count - k) at) ≡ valueAt s at + length (edgesFrom s (count - (k + 1)) (pathEnd s at))
+  paths-sum =
+      let d : count - k ≡ suc (count - (k + 1)) = omega arith in
+      rw (d, length-append (numbersFrom s (valueAt s at) (nextAt s at)) (edgesFrom s (count - (k + 1)) (pathEnd s at)), length-numbers s (valueAt s at) (nextAt s at))
+
+  pub paths-next : (next : ℕ) → next ≡ pathEnd s at → pathsEnd s (count - (k + 1)) next ≡ pathsEnd s (count - k) at
+  paths-next next e =
+      let d : count - k ≡ suc (count - (k + 1)) = omega arith in
+      rw (d, e)
+
+  pub edges-step : (l l' : List ℕ) (from n next : ℕ) → n ≡ valueAt s at → next ≡ pathEnd s at → l' ≡ sets l from (numbersFrom s (valueAt s at) (nextAt s at))
+      → sets l' (from + n) (edgesFrom s (count - (k + 1)) next) ≡ sets l from (edgesFrom s (count - k) at)
+  edges-step l l' from n next e g f =
+      let d : count - k ≡ suc (count - (k + 1)) = omega arith in
+      let b : n ≡ length (numbersFrom s (valueAt s at) (nextAt s at)) = e ∙ sym (length-numbers s (valueAt s at) (nextAt s at)) in
+      rw (d, f, g, b) (sym (sets-append l from (numbersFrom s (valueAt s at) (nextAt s at)) (edgesFrom s (count - (k + 1)) (pathEnd s at))))
+
+  pub lengths-step : (l l' : List ℕ) (next : ℕ) → next ≡ pathEnd s at → l' ≡ set l k (valueAt s at)
+      → sets l' (k + 1) (lengthsFrom s (count - (k + 1)) next) ≡ sets l k (lengthsFrom s (count - k) at)
+  lengths-step l l' next e f =
+      let d : count - k ≡ suc (count - (k + 1)) = omega arith in
+      rw (d, f, e, add-one k)
+
+pub paths-whole : (s : List ℕ) (count at : ℕ) (l l' : List ℕ)
+    → (length (edgesFrom s (count - 0) at) ≡ length (edgesFrom s count at)) × (pathsEnd s (count - 0) at ≡ pathsEnd s count at)
+    × (sets l 0 (edgesFrom s (count - 0) at) ≡ sets l 0 (edgesFrom s count at)) × (sets l' 0 (lengthsFrom s (count - 0) at) ≡ sets l' 0 (lengthsFrom s count at))
+paths-whole s count at l l' =
+    let d : count - 0 ≡ count = omega arith in
+    rw d (refl, refl, refl, refl)
+
+pub paths-none : (s : List ℕ) (count k at : ℕ) (l l' : List ℕ) (from : ℕ) → count ≤ k
+    → (length (edgesFrom s (count - k) at) ≡ 0) × (pathsEnd s (count - k) at ≡ at) × (sets l from (edgesFrom s (count - k) at) ≡ l) × (sets l' k (lengthsFrom s (count - k) at) ≡ l')
+paths-none s count k at l l' from h =
+    let d : count - k ≡ 0 = omega arith in
+    rw d (refl, refl, refl, refl)
+
+-- what fits a table from its front on is placed there
+pub sets-placed : {A : Type 0} (l vs : List A) → length vs ≤ length l → sets l 0 vs ≡ placed vs l
+sets-placed l vs h =
+    let d : 0 + length vs ≡ length vs = omega arith in
+    sets-eq vs l 0 (omega arith) ∙ ap (λ (n : ℕ). vs ++ drop n l) d
+
+-- the deck's tables, placed
+module _ (s : List ℕ) (m at : ℕ) (mi : m ≡ edgeCount s) (ai : at ≡ edgesPlace s) where
+  pub starts-placed : (l l' : List ℕ) → m ≤ length l → l' ≡ sets l 0 (startsFrom s m at) → l' ≡ placed (deckFrom s .design .starts) l
+  unfolding deckFrom
+  starts-placed l l' h e =
+      let n : length (startsFrom s m at) ≡ m = length-map (rowsFrom s m at) (λ (r : Row). r .first) ∙ length-rows s m at in
+      e ∙ sets-placed l (startsFrom s m at) (omega arith) ∙ rw (mi, ai)
+
+  pub ends-placed : (l l' : List ℕ) → m ≤ length l → l' ≡ sets l 0 (endsFrom s m at) → l' ≡ placed (deckFrom s .design .ends) l
+  unfolding deckFrom
+  ends-placed l l' h e =
+      let n : length (endsFrom s m at) ≡ m = length-map (rowsFrom s m at) (λ (r : Row). r .second) ∙ length-rows s m at in
+      e ∙ sets-placed l (endsFrom s m at) (omega arith) ∙ rw (mi, ai)
+
+  pub delays-placed : (l l' : List ℤ) → m ≤ length l → l' ≡ sets l 0 (delaysFrom s m at) → l' ≡ placed (deckFrom s .design .delays) l
+  unfolding deckFrom
+  delays-placed l l' h e =
+      let n : length (delaysFrom s m at) ≡ m = length-map (rowsFrom s m at) (λ (r : Row). delayOf (r .third)) ∙ length-rows s m at in
+      e ∙ sets-placed l (delaysFrom s m at) (omega arith) ∙ rw (mi, ai)
+
+  pub count-place : (next : ℕ) → next ≡ rowsEnd s m at → next ≡ countPlace s
+  unfolding countPlace
+  count-place next e = e ∙ rw (mi, ai)
+
+module _ (s : List ℕ) (k at : ℕ) (ki : k ≡ pathCount s) (ai : at ≡ pathsPlace s) where
+  pub listed-placed : (l l' : List ℕ) → length (edgesFrom s k at) ≤ length l → l' ≡ sets l 0 (edgesFrom s k at) → l' ≡ placed (deckFrom s .list .edges) l
+  unfolding deckFrom
+  listed-placed l l' h e = e ∙ sets-placed l (edgesFrom s k at) h ∙ rw (ki, ai)
+
+  pub lengths-placed : (l l' : List ℕ) → k ≤ length l → l' ≡ sets l 0 (lengthsFrom s k at) → l' ≡ placed (deckFrom s .list .lengths) l
+  unfolding deckFrom
+  lengths-placed l l' h e =
+      let n = length-lengths s k at in
+      e ∙ sets-placed l (lengthsFrom s k at) (omega arith) ∙ rw (ki, ai)
+
+  -- and the answer
+  pub answer-is : (nodes edges listed t last : ℕ) → nodes ≡ valueAt s 0 → edges ≡ edgeCount s → listed ≡ length (edgesFrom s k at) → last ≡ pathsEnd s k at → t ≡ valueAt s last
+      → DeckFound nodes edges listed k t ≡ deckAnswer (made (deckFrom s))
+  unfolding deckFrom
+  answer-is nodes edges listed t last e f g h i =
+      let n : length (startsFrom s (edgeCount s) (edgesPlace s)) ≡ edgeCount s = length-map (rowsFrom s (edgeCount s) (edgesPlace s)) (λ (r : Row). r .first) ∙ length-rows s (edgeCount s) (edgesPlace s) in
+      let p : length (lengthsFrom s (pathCount s) (pathsPlace s)) ≡ pathCount s = length-lengths s (pathCount s) (pathsPlace s) in
+      rw (e, f, g, i, h, n, p, ki, ai)

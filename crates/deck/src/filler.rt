@@ -6,7 +6,8 @@ ghost use lib.Seq.{sets};
 ghost use Rattle.timing.specs.Lists.{placed};
 ghost use Rattle.timing.specs.Delays.{delayOf};
 ghost use Rattle.timing.specs.Calls.{deckAnswer, made};
-ghost use Rattle.deck.specs.Reading.{valueAt, nextAt, numbersFrom, numbersEnd, rowAt, rowEnd, startsFrom, endsFrom, delaysFrom, rowsEnd, pathEnd, edgesFrom, lengthsFrom, pathsEnd, deckFrom, Fits};
+ghost use Rattle.deck.specs.Reading.{valueAt, nextAt, numbersFrom, numbersEnd, rowAt, rowEnd, startsFrom, endsFrom, delaysFrom, rowsEnd, pathEnd, edgesFrom, lengthsFrom, pathsEnd, edgesPlace, edgeCount, countPlace, deckFrom, Fits};
+use super::Edges;
 use super::Listed;
 use super::Taken;
 use super::counts::wide;
@@ -102,4 +103,47 @@ fn fill_paths(s: &[u8], at: usize, count: usize, listed: &mut [u32], lengths: &m
         k += 1;
     }
     Listed { next: at, edges: from }
+}
+
+// n, and the edges.
+fn fill_design(s: &[u8], starts: &mut [u32], ends: &mut [u32], delays: &mut [i32]) -> Edges
+    requires { ⌜ (edgeCount (now s) ≤ length (now starts)) × (length (now ends) ≡ length (now starts)) × (length (now delays) ≡ length (now starts)) ⌝ }
+    ensures { λ r. ⌜ (r .nodes ≡ valueAt (now (s .entry)) 0) × (r .count ≡ edgeCount (now (s .entry))) × (r .next ≡ countPlace (now (s .entry))) ⌝ }
+    ensures { λ r. ⌜ (now (starts .exit) ≡ placed (deckFrom (now (s .entry)) .design .starts) (now (starts .entry))) × (now (ends .exit) ≡ placed (deckFrom (now (s .entry)) .design .ends) (now (ends .entry))) × (now (delays .exit) ≡ placed (deckFrom (now (s .entry)) .design .delays) (now (delays .entry))) ⌝ }
+{
+    let n = take(s, 0);
+    let second = n.next;
+    let m = take(s, second);
+    let rows = m.next;
+    let count = m.value;
+    let next = fill_rows(s, rows, wide(count), starts, ends, delays);
+    Edges {
+        nodes: n.value,
+        count,
+        next,
+    }
+}
+
+pub(crate) fn fill(s: &[u8], starts: &mut [u32], ends: &mut [u32], delays: &mut [i32], listed: &mut [u32], lengths: &mut [u32]) -> DeckRead
+    requires { ⌜ Fits (now s) (record { edges = length (now starts); listed = length (now listed); paths = length (now lengths) }) ⌝ }
+    requires { ⌜ (length (now ends) ≡ length (now starts)) × (length (now delays) ≡ length (now starts)) ⌝ }
+    ensures { λ r. ⌜ r ≡ deckAnswer (made (deckFrom (now (s .entry)))) ⌝ }
+    ensures { λ r. ⌜ (now (starts .exit) ≡ placed (deckFrom (now (s .entry)) .design .starts) (now (starts .entry))) × (now (ends .exit) ≡ placed (deckFrom (now (s .entry)) .design .ends) (now (ends .entry))) × (now (delays .exit) ≡ placed (deckFrom (now (s .entry)) .design .delays) (now (delays .entry))) ⌝ }
+    ensures { λ r. ⌜ (now (listed .exit) ≡ placed (deckFrom (now (s .entry)) .list .edges) (now (listed .entry))) × (now (lengths .exit) ≡ placed (deckFrom (now (s .entry)) .list .lengths) (now (lengths .entry))) ⌝ }
+{
+    let d = fill_design(s, starts, ends, delays);
+    let at = d.next;
+    let c = take(s, at);
+    let first = c.next;
+    let count = wide(c.value);
+    let l = fill_paths(s, first, count, listed, lengths);
+    let last = l.next;
+    let t = take(s, last);
+    DeckRead::Deck {
+        nodes: d.nodes,
+        edges: wide(d.count),
+        listed: l.edges,
+        paths: count,
+        allowed: t.value,
+    }
 }
