@@ -114,12 +114,14 @@ path-small s table sum at v next e = one (readNumber s at) e
       where
         never : (r : Refusal) → NotRead r ≡ Value v next → ⊥
         never r q = let z : _≡_ {A = ℕ} 0 1 = cc in omega arith
+
     two : (n a : ℕ) (w : Verdict) → (unless 21 (leb (sum + n) 8192) then unless 36 (leb (sum + n) table)) ≡ w
         → numberOf (onward (onward (tested w a) (λ u. return n)) (λ n. repeated n (number s) >>= (λ p. return n))) ≡ Value v next → sum + v ≤ 8192
     two n a Passed f q =
         let k = kept n (repeated n (number s) a) q in
         omega (arith, count-passed 21 sum n 8192 table f)
     two n a (NotPassed r) f q = absurd (let z : _≡_ {A = ℕ} 0 1 = cc in omega arith)
+
     one : (r : NumberRead) → numberOf (onward (onward (parsedNumber r) (λ n. tested (unless 21 (leb (sum + n) 8192) then unless 36 (leb (sum + n) table)) >> return n)) (λ n. repeated n (number s) >>= (λ p. return n))) ≡ Value v next → sum + v ≤ 8192
     one (Value n a) q = two n a (unless 21 (leb (sum + n) 8192) then unless 36 (leb (sum + n) table)) refl q
     one (NotRead r) q = absurd (let z : _≡_ {A = ℕ} 0 1 = cc in omega arith)
@@ -161,6 +163,7 @@ path-first (Value n next) test edges rest = two (test n)
     three : (q : Parsed (List ℕ)) → looked (onward q (λ p. rest n >>= (λ l. return (pathList (p ++ l .edges) (n ∷ l .lengths))))) ≡ looked (onward (onward q (λ p. return n)) rest)
     three (found p a) = looked-made (rest n a) (λ (l : PathList). pathList (p ++ l .edges) (n ∷ l .lengths))
     three (stopped e) = refl
+
     two : (w : Verdict) → looked (onward (tested w next) (λ u. edges n >>= (λ p. rest n >>= (λ l. return (pathList (p ++ l .edges) (n ∷ l .lengths))))))
         ≡ looked (onward (onward (onward (tested w next) (λ u. return n)) (λ n. edges n >>= (λ p. return n))) rest)
     two Passed = three (edges n next)
@@ -255,6 +258,7 @@ counted {A} {B} s test limit table at v f g e h = one (readNumber s at)
     two : (n a : ℕ) (w : Verdict) → verdictOf (onward (onward (tested w a) (λ u. return n)) f) ≡ verdictOf (onward (tested w a) (λ u. g n))
     two n a Passed = h n a
     two n a (NotPassed r) = refl
+
     one : (r : NumberRead) → verdictOf (onward (onward (parsedNumber r) (λ n. tested (unless test (leb (0 + n) limit) then unless 36 (leb (0 + n) table)) >> return n)) f)
         ≡ verdictOf (onward (parsedNumber r) (λ n. tested (v n) >> g n))
     one (Value n a) = rw (e n) (two n a (v n))

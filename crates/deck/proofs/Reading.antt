@@ -26,7 +26,9 @@ use Rattle.timing.specs.Delays.{delayOf}
 use Rattle.timing.specs.Refusals.{refusal, unless, _then_}
 use Rattle.timing.specs.Parsing.{Parsed, found, stopped, Reader, onward, _>>=_, _>>_, return, tested, parsedNumber, number, repeated, Row, row, ended}
 use Rattle.timing.specs.Decks.{Deck, Tables, paths, deckReader, readDeck}
-use Rattle.timing.specs.Calls.{Outcome, made, refused, parsed, deckAnswer}
+use Rattle.timing.specs.declared.DeckRead.the-variants.{Refused as NoDeck}
+use Rattle.timing.specs.Tests.{sameSizes}
+use Rattle.timing.specs.Calls.{Outcome, made, refused, parsed, filled, deckRead, deckAnswer}
 use Rattle.deck.specs.Reading.{verdictOf, valueOf, nextOf, valueAt, nextAt, numbersFrom, numbersEnd, rowAt, rowEnd, rowsFrom, rowsEnd, startsFrom, endsFrom, delaysFrom, pathEnd, edgesFrom, lengthsFrom, pathsEnd, edgesPlace, edgeCount, countPlace, pathCount, pathsPlace, deckFrom, Fits}
 use Rattle.deck.proofs.Tests.{then-passed, unless-passed}
 use Rattle.deck.proofs.Looking.{count-passed}
@@ -357,3 +359,36 @@ module _ (s : List ℕ) (k at : ℕ) (ki : k ≡ pathCount s) (ai : at ≡ paths
       let n : length (startsFrom s (edgeCount s) (edgesPlace s)) ≡ edgeCount s = length-map (rowsFrom s (edgeCount s) (edgesPlace s)) (λ (r : Row). r .first) ∙ length-rows s (edgeCount s) (edgesPlace s) in
       let p : length (lengthsFrom s (pathCount s) (pathsPlace s)) ≡ pathCount s = length-lengths s (pathCount s) (pathsPlace s) in
       rw (e, f, g, i, h, n, p, ki, ai)
+
+pub fits-paths : (s : List ℕ) (tables : Tables) (k at : ℕ) → k ≡ pathCount s → at ≡ pathsPlace s → Fits s tables → (length (edgesFrom s k at) ≤ tables .listed) × (k ≤ tables .paths)
+fits-paths s tables k at ki ai f = rw (ki, ai) (f .listed, f .paths)
+
+-- The reader as a whole: 30, then a refusal by the look, then the deck.
+module _ (s : List ℕ) (starts ends delays listed lengths : ℕ) where
+  pub read-sizes : (r : Refusal) → sameSizes starts ends delays ≡ NotPassed r → deckRead s starts ends delays listed lengths ≡ refused r
+  unfolding deckRead
+  read-sizes r e = rw e
+
+  pub read-stopped : (r : Refusal) → sameSizes starts ends delays ≡ Passed → verdictOf (readDeck s (record { edges = starts; listed = listed; paths = lengths })) ≡ NotPassed r
+      → deckRead s starts ends delays listed lengths ≡ refused r
+  unfolding deckRead
+  read-stopped r e f = rw e (read-refused (readDeck s (record { edges = starts; listed = listed; paths = lengths })) r f)
+
+  pub read-made : sameSizes starts ends delays ≡ Passed → verdictOf (readDeck s (record { edges = starts; listed = listed; paths = lengths })) ≡ Passed
+      → deckRead s starts ends delays listed lengths ≡ made (deckFrom s)
+  unfolding deckRead
+  read-made e f = rw e (read-passed s (record { edges = starts; listed = listed; paths = lengths }) f .0)
+
+-- the answer and the tables
+module _ (starts ends : List ℕ) (delays : List ℤ) (listed lengths : List ℕ) (o : Outcome Deck) where
+  pub tables-kept : (r : Refusal) → o ≡ refused r
+      → (NoDeck r ≡ deckAnswer o) × ((starts ≡ filled (λ d. d .design .starts) o starts) × ((ends ≡ filled (λ d. d .design .ends) o ends) × ((delays ≡ filled (λ d. d .design .delays) o delays)
+      × ((listed ≡ filled (λ d. d .list .edges) o listed) × (lengths ≡ filled (λ d. d .list .lengths) o lengths)))))
+  tables-kept r e = rw e (refl, (refl, (refl, (refl, (refl, refl)))))
+
+  pub tables-filled : (d : Deck) (answer : DeckRead) (starts' ends' : List ℕ) (delays' : List ℤ) (listed' lengths' : List ℕ) → o ≡ made d → answer ≡ deckAnswer (made d)
+      → (starts' ≡ placed (d .design .starts) starts) × (ends' ≡ placed (d .design .ends) ends) × (delays' ≡ placed (d .design .delays) delays)
+      → (listed' ≡ placed (d .list .edges) listed) × (lengths' ≡ placed (d .list .lengths) lengths)
+      → (answer ≡ deckAnswer o) × ((starts' ≡ filled (λ d. d .design .starts) o starts) × ((ends' ≡ filled (λ d. d .design .ends) o ends) × ((delays' ≡ filled (λ d. d .design .delays) o delays)
+      × ((listed' ≡ filled (λ d. d .list .edges) o listed) × (lengths' ≡ filled (λ d. d .list .lengths) o lengths)))))
+  tables-filled d answer starts' ends' delays' listed' lengths' e a f g = rw e (a, (f .0, (f .1, (f .2, (g .0, g .1)))))

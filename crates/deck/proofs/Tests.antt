@@ -14,7 +14,7 @@ use Rattle.timing.specs.declared.Verdict.{Verdict}
 use Rattle.timing.specs.declared.Verdict.the-variants.{Passed, Refused}
 use Rattle.timing.specs.Lists.{sum}
 use Rattle.timing.specs.Refusals.{refusal, unless, _then_}
-use Rattle.timing.specs.Tests.{designSizes, listSizes, designCounts, listCounts}
+use Rattle.timing.specs.Tests.{sameSizes, designSizes, listSizes, designCounts, listCounts}
 use Rattle.timing.specs.Calls.{deckWriteTests}
 use Rattle.timing.specs.Decks.{Deck}
 use Rattle.deck.specs.Writing.{Fit}
@@ -97,3 +97,8 @@ then-tests d adds r s u e f g h =
 pub tests-untimed : (d : Deck) → deckWriteTests (record { design = d .design; list = d .list; allowed = 0 }) ≡ deckWriteTests d
 unfolding deckWriteTests
 tests-untimed d = refl
+
+pub same-passed : (a b c : ℕ) → sameSizes a b c ≡ Passed → (b ≡ a) × (c ≡ a)
+same-passed a b c e =
+    let s = both (eqb a b) (eqb a c) (unless-passed 30 (eqb a b && eqb a c) e) in
+    (sym (eqb-true a b (s .0)), sym (eqb-true a c (s .1)))

@@ -32,7 +32,14 @@ fn set_delay(delays: &mut [i32], i: usize, x: u32)
 }
 
 // An edge, to index i of its three tables.
-fn fill_row(s: &[u8], at: usize, i: usize, starts: &mut [u32], ends: &mut [u32], delays: &mut [i32]) -> usize
+fn fill_row(
+    s: &[u8],
+    at: usize,
+    i: usize,
+    starts: &mut [u32],
+    ends: &mut [u32],
+    delays: &mut [i32],
+) -> usize
     requires { ⌜ (i < length (now starts)) × (i < length (now ends)) × (i < length (now delays)) ⌝ }
     ensures { λ r. ⌜ (r ≡ rowEnd (now (s .entry)) at) × (now (starts .exit) ≡ set (now (starts .entry)) i (rowAt (now (s .entry)) at .first)) × (now (ends .exit) ≡ set (now (ends .entry)) i (rowAt (now (s .entry)) at .second)) × (now (delays .exit) ≡ set (now (delays .entry)) i (delayOf (rowAt (now (s .entry)) at .third))) ⌝ }
 {
@@ -47,7 +54,14 @@ fn fill_row(s: &[u8], at: usize, i: usize, starts: &mut [u32], ends: &mut [u32],
     d.next
 }
 
-fn fill_rows(s: &[u8], at: usize, m: usize, starts: &mut [u32], ends: &mut [u32], delays: &mut [i32]) -> usize
+fn fill_rows(
+    s: &[u8],
+    at: usize,
+    m: usize,
+    starts: &mut [u32],
+    ends: &mut [u32],
+    delays: &mut [i32],
+) -> usize
     requires { ⌜ (m ≤ length (now starts)) × (m ≤ length (now ends)) × (m ≤ length (now delays)) ⌝ }
     ensures { λ r. ⌜ (r ≡ rowsEnd (now (s .entry)) m at) × (now (starts .exit) ≡ sets (now (starts .entry)) 0 (startsFrom (now (s .entry)) m at)) × (now (ends .exit) ≡ sets (now (ends .entry)) 0 (endsFrom (now (s .entry)) m at)) × (now (delays .exit) ≡ sets (now (delays .entry)) 0 (delaysFrom (now (s .entry)) m at)) ⌝ }
 {
@@ -77,7 +91,14 @@ fn fill_numbers(s: &[u8], at: usize, count: usize, listed: &mut [u32], from: usi
 }
 
 // A path: its length to index k, its edges from an index on.
-fn fill_path(s: &[u8], at: usize, listed: &mut [u32], from: usize, lengths: &mut [u32], k: usize) -> Taken
+fn fill_path(
+    s: &[u8],
+    at: usize,
+    listed: &mut [u32],
+    from: usize,
+    lengths: &mut [u32],
+    k: usize,
+) -> Taken
     requires { ⌜ (from + valueAt (now s) at ≤ length (now listed)) × (k < length (now lengths)) ⌝ }
     ensures { λ r. ⌜ (r .value ≡ valueAt (now (s .entry)) at) × (r .next ≡ pathEnd (now (s .entry)) at) × (now (listed .exit) ≡ sets (now (listed .entry)) from (numbersFrom (now (s .entry)) (valueAt (now (s .entry)) at) (nextAt (now (s .entry)) at))) × (now (lengths .exit) ≡ set (now (lengths .entry)) k (valueAt (now (s .entry)) at)) ⌝ }
 {
@@ -102,7 +123,10 @@ fn fill_paths(s: &[u8], at: usize, count: usize, listed: &mut [u32], lengths: &m
         from += wide(a.value);
         k += 1;
     }
-    Listed { next: at, edges: from }
+    Listed {
+        next: at,
+        edges: from,
+    }
 }
 
 // n, and the edges.
@@ -124,7 +148,14 @@ fn fill_design(s: &[u8], starts: &mut [u32], ends: &mut [u32], delays: &mut [i32
     }
 }
 
-pub(crate) fn fill(s: &[u8], starts: &mut [u32], ends: &mut [u32], delays: &mut [i32], listed: &mut [u32], lengths: &mut [u32]) -> DeckRead
+pub(crate) fn fill(
+    s: &[u8],
+    starts: &mut [u32],
+    ends: &mut [u32],
+    delays: &mut [i32],
+    listed: &mut [u32],
+    lengths: &mut [u32],
+) -> DeckRead
     requires { ⌜ Fits (now s) (record { edges = length (now starts); listed = length (now listed); paths = length (now lengths) }) ⌝ }
     requires { ⌜ (length (now ends) ≡ length (now starts)) × (length (now delays) ≡ length (now starts)) ⌝ }
     ensures { λ r. ⌜ r ≡ deckAnswer (made (deckFrom (now (s .entry)))) ⌝ }

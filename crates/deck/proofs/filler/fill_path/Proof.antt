@@ -41,8 +41,7 @@ returns c =
     let t = w .before in
     let a = t .before .before .before .before .args in
     let v = w .wide .ensures ∙ t .take .ensures .0 in
-    let n = t .take .ensures .1 in
-    (
+    let n = t .take .ensures .1 in (
       t .take .ensures .0,
       f .fill-numbers .ensures .0 ∙ rw (v, n),
       f .fill-numbers .ensures .1 ∙ rw (v, n),

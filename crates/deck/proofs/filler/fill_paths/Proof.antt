@@ -67,8 +67,7 @@ loop-again c =
     let h : l .loop .k < a .count = omega (arith, f .before .before .before .loop-test .taken) in
     let d = paths-sum (a .s .now) (a .count) (l .loop .k) (l .loop .at) h in
     let w = c .wide .ensures ∙ e .0 in
-    let q = ap (λ (n : ℕ). length (edgesFrom (a .s .now) (a .count - (l .loop .k + 1)) n)) (e .1) in
-    (
+    let q = ap (λ (n : ℕ). length (edgesFrom (a .s .now) (a .count - (l .loop .k + 1)) n)) (e .1) in (
       omega arith,
       (ap length (e .2) ∙ length-sets (l .loop .listed) (l .loop .from) (numbersFrom (a .s .now) (valueAt (a .s .now) (l .loop .at)) (nextAt (a .s .now) (l .loop .at))) ∙ i .1 .0, ap length (e .3) ∙ length-set (l .loop .lengths) (l .loop .k) _ ∙ i .1 .1),
       omega (arith, i .2),

@@ -50,8 +50,7 @@ returns c =
     let t2 = t3 .before in
     let t1 = t2 .before in
     let a = t1 .before .before .before .before .args in
-    let r = row-is (a .s .now) (a .at) (t1 .take .result .value) (t1 .take .result .next) (t2 .take2 .result .value) (t2 .take2 .result .next) (t3 .take3 .result .value) (t3 .take3 .result .next) (t1 .take .ensures) (t2 .take2 .ensures) (t3 .take3 .ensures) in
-    (
+    let r = row-is (a .s .now) (a .at) (t1 .take .result .value) (t1 .take .result .next) (t2 .take2 .result .value) (t2 .take2 .result .next) (t3 .take3 .result .value) (t3 .take3 .result .next) (t1 .take .ensures) (t2 .take2 .ensures) (t3 .take3 .ensures) in (
       r .0,
       ap (λ (v : ℕ). set (a .starts .now) (a .i) v) (r .1),
       ap (λ (v : ℕ). set (a .ends .now) (a .i) v) (r .2),

@@ -27,8 +27,7 @@ abbrev μ-loop : tie.MeasureT-loop
 
 loop-holds : tie.Need-loop-holds Inv-loop μ-loop
 loop-holds c =
-    let a = c .before .before .before .args in
-    (
+    let a = c .before .before .before .args in (
       omega arith,
       (refl, refl, refl),
       rows-start (a .s .now) (a .m) (a .at),
@@ -56,8 +55,7 @@ loop-again c =
     let a = l .before .before .before .before .args in
     let e = f .fill-row .ensures in
     let i = l .loop .inv in
-    let h : l .loop .i < a .m = omega (arith, f .before .before .before .before .loop-test .taken) in
-    (
+    let h : l .loop .i < a .m = omega (arith, f .before .before .before .before .loop-test .taken) in (
       omega arith,
       (ap length (e .1) ∙ length-set (l .loop .starts) (l .loop .i) _ ∙ i .1 .0, ap length (e .2) ∙ length-set (l .loop .ends) (l .loop .i) _ ∙ i .1 .1, ap length (e .3) ∙ length-set (l .loop .delays) (l .loop .i) _ ∙ i .1 .2),
       rows-next (a .s .now) (a .m) (l .loop .i) (l .loop .at) _ h (e .0) ∙ i .2,
@@ -80,8 +78,7 @@ returns c =
     let l = c .before in
     let a = l .before .before .before .before .args in
     let i = l .loop .inv in
-    let h : a .m ≤ l .loop .i = omega (arith, c .loop-test .left) in
-    (
+    let h : a .m ≤ l .loop .i = omega (arith, c .loop-test .left) in (
       sym (rows-last (a .s .now) (a .m) (l .loop .i) (l .loop .at) h) ∙ i .2,
       sym (rows-none (λ (r : Row). r .first) (a .s .now) (a .m) (l .loop .i) (l .loop .at) (l .loop .starts) h) ∙ i .3,
       sym (rows-none (λ (r : Row). r .second) (a .s .now) (a .m) (l .loop .i) (l .loop .at) (l .loop .ends) h) ∙ i .4,
