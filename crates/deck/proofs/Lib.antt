@@ -3,3 +3,4 @@ pub mod Tests
 pub mod Writing
 pub mod Looking
 pub mod Reading
+pub mod RoundTrip

@@ -55,10 +55,10 @@ is-number s at = by (readNumber s at)
     by (Value v next) = (refl, refl)
     by (NotRead r) = tt
 
-abbrev TestIs : Verdict → ℕ → Unit {0} → ℕ → Type 0
+abbrev pub TestIs : Verdict → ℕ → Unit {0} → ℕ → Type 0
 TestIs v at u next = (v ≡ Passed) × (next ≡ at)
 
-is-tested : (v : Verdict) (at : ℕ) → Is (TestIs v at) (tested v at)
+pub is-tested : (v : Verdict) (at : ℕ) → Is (TestIs v at) (tested v at)
 is-tested Passed at = (refl, refl)
 is-tested (NotPassed r) at = tt
 
