@@ -1,0 +1,6 @@
+-- Laws of the deck.
+pub mod Tests
+pub mod Writing
+pub mod Looking
+pub mod Reading
+pub mod RoundTrip

@@ -1,0 +1,72 @@
+use Prim.Native.Nat.{_-_, _≤_}
+use native.Mathlib.Omega.{arith}
+use mathlib.Core.Path.{_≡_, refl, sym, _∙_, ap}
+use borrow.Author.Needs.{needs}
+use Rattle.timing.specs.Parsing.{number, repeated}
+use Rattle.deck.specs.Reading.{looked}
+use Rattle.deck.proofs.Looking.{numbers-all, numbers-turn, numbers-stop, numbers-end}
+use Rattle.deck.proofs.looker.look_numbers.Statement.{statement}
+use Rattle.deck.proofs.looker.look_numbers.Tie as tie
+use Rattle.deck.proofs.looker.look_numbers.Reads as reads
+use Rattle.deck.proofs.looker.look_numbers.Lts as lts
+use Rattle.packed.proofs.read_number.Reads as read-number-reads
+
+abbrev Inv-loop : tie.InvT-loop
+Inv-loop s at k at₀ i₀ at' i = (i ≤ k) × (looked (repeated (k - i) (number s) at') ≡ looked (repeated k (number s) at₀))
+
+abbrev μ-loop : tie.MeasureT-loop
+μ-loop s at k at₀ i₀ at' i = k - i
+
+loop-holds : tie.Need-loop-holds Inv-loop μ-loop
+loop-holds c =
+    let a = c .before .args in
+    (omega arith, numbers-all (a .s .now) (a .k) (a .at))
+
+read-number-requires : tie.Need-read-number-requires Inv-loop μ-loop
+read-number-requires c κs = search needs
+
+enum-known-r : tie.Need-enum-known-r Inv-loop μ-loop
+enum-known-r c = search needs
+
+add-i : tie.Need-add-i Inv-loop μ-loop
+add-i c = omega arith
+
+loop-less : tie.Need-loop-less Inv-loop μ-loop
+loop-less c = omega arith
+
+loop-again : tie.Need-loop-again Inv-loop μ-loop
+loop-again c =
+    let l = c .before .before .before .before .before in
+    let a = l .before .before .args in
+    (omega arith, numbers-turn (a .s .now) (a .k) (l .loop .i) (l .loop .at) _ _ (omega arith) (sym (c .before .before .before .read-number .ensures) ∙ c .before .r .given .1) ∙ l .loop .inv .1)
+
+enum-known-r-2 : tie.Need-enum-known-r-2 Inv-loop μ-loop
+enum-known-r-2 c = search needs
+
+returns : tie.Need-returns Inv-loop μ-loop
+returns c =
+    let l = c .before .before .before .before .before in
+    let a = l .before .before .args in
+    numbers-stop (a .s .now) (a .k) (l .loop .i) (l .loop .at) _ (omega arith) (sym (c .before .before .before .read-number .ensures) ∙ c .before .r2 .given .1) ∙ l .loop .inv .1
+
+returns-2 : tie.Need-returns-2 Inv-loop μ-loop
+returns-2 c =
+    let l = c .before in
+    let a = l .before .before .args in
+    numbers-end (a .s .now) (a .k) (l .loop .i) (l .loop .at) (omega arith) ∙ l .loop .inv .1
+
+pub look-numbers-spec : {M : Type 1} → statement M
+look-numbers-spec =
+    tie.close
+    (tie.spec
+    Inv-loop
+    μ-loop
+    loop-holds
+    read-number-requires
+    enum-known-r
+    add-i
+    loop-less
+    loop-again
+    enum-known-r-2
+    returns
+    returns-2)

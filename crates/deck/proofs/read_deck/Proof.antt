@@ -1,0 +1,117 @@
+use mathlib.Core.Path.{_≡_, refl, sym, _∙_, ap}
+use lib.ListN.{length}
+use Rattle.timing.specs.declared.Verdict.the-variants.{Passed}
+use Rattle.timing.specs.Decks.{Tables, Deck}
+use Rattle.timing.specs.Calls.{Outcome, deckRead}
+use Rattle.deck.specs.Reading.{deckFrom}
+use Rattle.deck.proofs.Tests.{same-passed}
+use Rattle.deck.proofs.Reading.{read-sizes, read-stopped, read-made, read-passed, tables-kept, tables-filled}
+use borrow.Author.Needs.{needs}
+use Rattle.deck.proofs.read_deck.Statement.{statement}
+use Rattle.deck.proofs.read_deck.Tie as tie
+use Rattle.deck.proofs.read_deck.Reads as reads
+use Rattle.deck.proofs.read_deck.Lts as lts
+use Rattle.deck.proofs.filler.fill.Reads as fill-reads
+use Rattle.deck.proofs.looker.look.Reads as look-reads
+use Rattle.timing.proofs.same_sizes.Reads as same-sizes-reads
+
+-- the tables, and the outcome
+abbrev tablesAt : tie.Start → Tables
+tablesAt st = record { edges = length (st .args .starts .now); listed = length (st .args .listed .now); paths = length (st .args .lengths .now) }
+
+abbrev outcomeAt : tie.Start → Outcome Deck
+outcomeAt st = let a = st .args in deckRead (a .s .now) (length (a .starts .now)) (length (a .ends .now)) (length (a .delays .now)) (length (a .listed .now)) (length (a .lengths .now))
+
+same-sizes-requires : tie.Need-same-sizes-requires
+same-sizes-requires c κs = search needs
+
+enum-known-sizes : tie.Need-enum-known-sizes
+enum-known-sizes c = search needs
+
+returns : tie.Need-returns
+returns c =
+    let z = c .before .before .before in
+    let st = z .before .before .before .before .before .before in
+    let a = st .args in
+    tables-kept (a .starts .now) (a .ends .now) (a .delays .now) (a .listed .now) (a .lengths .now) (outcomeAt st) _
+    (read-sizes (a .s .now) (length (a .starts .now)) (length (a .ends .now)) (length (a .delays .now)) (length (a .listed .now)) (length (a .lengths .now)) _ (sym (z .same-sizes .ensures) ∙ c .before .sizes .given .1))
+
+enum-told : tie.Need-enum-told
+enum-told c = search needs
+
+look-requires : tie.Need-look-requires
+look-requires c κs = search needs
+
+enum-known-look : tie.Need-enum-known-look
+enum-known-look c = search needs
+
+returns-2 : tie.Need-returns-2
+returns-2 c =
+    let k = c .before .before .before in
+    let z = k .before .before .before in
+    let st = z .before .before .before .before .before .before in
+    let a = st .args in
+    tables-kept (a .starts .now) (a .ends .now) (a .delays .now) (a .listed .now) (a .lengths .now) (outcomeAt st) _
+    (read-stopped (a .s .now) (length (a .starts .now)) (length (a .ends .now)) (length (a .delays .now)) (length (a .listed .now)) (length (a .lengths .now)) _
+    (sym (z .same-sizes .ensures) ∙ k .before .enum-told .given .1) (sym (k .look .ensures) ∙ c .before .look2 .given .1))
+
+enum-told-2 : tie.Need-enum-told-2
+enum-told-2 c = search needs
+
+fill-requires : tie.Need-fill-requires
+fill-requires c κs =
+    let t = c .before .before .before .before .before in
+    let k = t .before .before in
+    let z = k .before .before .before in
+    let st = z .before .before .before .before .before .before in
+    let a = st .args in
+    let q = same-passed (length (a .starts .now)) (length (a .ends .now)) (length (a .delays .now)) (sym (z .same-sizes .ensures) ∙ k .before .enum-told .given .1) in
+    (read-passed (a .s .now) (tablesAt st) (sym (k .look .ensures) ∙ t .enum-told2 .given .1) .1, (q .0, q .1))
+
+same-length : tie.Need-same-length
+same-length c = search needs
+
+same-length-2 : tie.Need-same-length-2
+same-length-2 c = search needs
+
+same-length-3 : tie.Need-same-length-3
+same-length-3 c = search needs
+
+same-length-4 : tie.Need-same-length-4
+same-length-4 c = search needs
+
+same-length-5 : tie.Need-same-length-5
+same-length-5 c = search needs
+
+returns-3 : tie.Need-returns-3
+returns-3 c =
+    let f = c .before .before .before .before .before .before .before .before .before in
+    let t = f .before .before .before .before .before .before in
+    let k = t .before .before in
+    let z = k .before .before .before in
+    let st = z .before .before .before .before .before .before in
+    let a = st .args in
+    let e = f .fill .ensures in
+    tables-filled (a .starts .now) (a .ends .now) (a .delays .now) (a .listed .now) (a .lengths .now) (outcomeAt st) (deckFrom (a .s .now)) _ _ _ _ _ _
+    (read-made (a .s .now) (length (a .starts .now)) (length (a .ends .now)) (length (a .delays .now)) (length (a .listed .now)) (length (a .lengths .now))
+    (sym (z .same-sizes .ensures) ∙ k .before .enum-told .given .1) (sym (k .look .ensures) ∙ t .enum-told2 .given .1)) (e .0) (e .1 .0) (e .1 .1)
+
+pub read-deck-spec : {M : Type 1} → statement M
+read-deck-spec =
+    tie.close
+    (tie.spec
+    same-sizes-requires
+    enum-known-sizes
+    returns
+    enum-told
+    look-requires
+    enum-known-look
+    returns-2
+    enum-told-2
+    fill-requires
+    same-length
+    same-length-2
+    same-length-3
+    same-length-4
+    same-length-5
+    returns-3)

@@ -1,0 +1,165 @@
+-- Reading in two goes. The look: where a reader of `timing` stops, whatever it found. The fill: the numbers that stand at
+-- a place, taken without a test, since the look passed.
+use Prim.Native.Nat.{ℕ, zero, suc, _+_, _≤_}
+use mathlib.Core.Path.{_≡_}
+use mathlib.Core.List.{List, [], _∷_, _++_, map}
+use lib.Dec.{leb}
+use lib.IntN.{ℤ}
+use lib.ListN.{length}
+use Rattle.timing.specs.declared.Verdict.{Verdict}
+use Rattle.timing.specs.declared.Verdict.the-variants.{Passed}
+use Rattle.timing.specs.declared.Verdict.the-variants.{Refused as NotPassed}
+use Rattle.timing.specs.declared.NumberRead.{NumberRead}
+use Rattle.timing.specs.declared.NumberRead.the-variants.{Value}
+use Rattle.timing.specs.declared.NumberRead.the-variants.{Refused as NotRead}
+use Rattle.timing.specs.Graphs.{design}
+use Rattle.timing.specs.Marks.{PathList, pathList}
+use Rattle.timing.specs.Numbers.{readNumber}
+use Rattle.timing.specs.Delays.{delayOf}
+use Rattle.timing.specs.Refusals.{unless, _then_}
+use Rattle.timing.specs.Parsing.{Parsed, found, stopped, Reader, onward, _>>=_, _>>_, return, tested, number, repeated, Row, row, ended}
+use Rattle.timing.specs.Decks.{Deck, Tables, paths}
+use Rattle.deck.specs.declared.Looked.{Looked}
+use Rattle.deck.specs.declared.Looked.the-variants.{At, Refused}
+
+-- where a reader stopped, and whether it did
+abbrev pub looked : {A : Type 0} → Parsed A → Looked
+looked (found x at) = At at
+looked (stopped r) = Refused r
+
+abbrev pub verdictOf : {A : Type 0} → Parsed A → Verdict
+verdictOf (found x at) = Passed
+verdictOf (stopped r) = NotPassed r
+
+abbrev pub numberOf : Parsed ℕ → NumberRead
+numberOf (found x at) = Value x at
+numberOf (stopped r) = NotRead r
+
+-- a count: a number whose sum with what was counted before is at most a limit, and then at most a table
+abbrev pub countIn : List ℕ → ℕ → ℕ → ℕ → ℕ → Reader ℕ
+countIn s sum test limit table = do
+  n ← number s
+  tested (unless test (leb (sum + n) limit) then unless 36 (leb (sum + n) table))
+  return n
+
+-- a path, for its length alone
+abbrev pub pathIn : List ℕ → ℕ → ℕ → Reader ℕ
+pathIn s table sum = do
+  n ← countIn s sum 21 8192 table
+  p ← repeated n (number s)
+  return n
+
+-- the deck from T on, from the list on, from the edges on, and the whole
+abbrev pub tailIn : List ℕ → Reader (Unit {0})
+tailIn s = do
+  t ← number s
+  ended s
+
+abbrev pub listIn : List ℕ → Tables → Reader (Unit {0})
+listIn s tables = do
+  count ← countIn s 0 20 1024 (tables .paths)
+  list ← paths s (tables .listed) count 0
+  tailIn s
+
+abbrev pub edgesIn : List ℕ → Tables → Reader (Unit {0})
+edgesIn s tables = do
+  m ← countIn s 0 11 16384 (tables .edges)
+  edges ← repeated m (row s)
+  listIn s tables
+
+abbrev pub deckIn : List ℕ → Tables → Reader (Unit {0})
+deckIn s tables = do
+  n ← countIn s 0 10 4096 4096
+  edgesIn s tables
+
+-- the number at a place and the place behind it
+abbrev pub valueOf : NumberRead → ℕ
+valueOf (Value v next) = v
+valueOf (NotRead r) = 0
+
+abbrev pub nextOf : ℕ → NumberRead → ℕ
+nextOf at (Value v next) = next
+nextOf at (NotRead r) = at
+
+unfoldable pub valueAt : List ℕ → ℕ → ℕ
+valueAt s at = valueOf (readNumber s at)
+
+unfoldable pub nextAt : List ℕ → ℕ → ℕ
+nextAt s at = nextOf at (readNumber s at)
+
+-- k numbers from a place on, and the place behind them
+abbrev pub numbersFrom : List ℕ → ℕ → ℕ → List ℕ
+numbersFrom s zero at = []
+numbersFrom s (suc k) at = valueAt s at ∷ numbersFrom s k (nextAt s at)
+
+abbrev pub numbersEnd : List ℕ → ℕ → ℕ → ℕ
+numbersEnd s zero at = at
+numbersEnd s (suc k) at = numbersEnd s k (nextAt s at)
+
+abbrev pub rowAt : List ℕ → ℕ → Row
+rowAt s at = record { first = valueAt s at; second = valueAt s (nextAt s at); third = valueAt s (nextAt s (nextAt s at)) }
+
+abbrev pub rowEnd : List ℕ → ℕ → ℕ
+rowEnd s at = nextAt s (nextAt s (nextAt s at))
+
+abbrev pub rowsFrom : List ℕ → ℕ → ℕ → List Row
+rowsFrom s zero at = []
+rowsFrom s (suc k) at = rowAt s at ∷ rowsFrom s k (rowEnd s at)
+
+-- the starts, ends and delays of k edges
+abbrev pub startsFrom : List ℕ → ℕ → ℕ → List ℕ
+startsFrom s k at = map (λ r. r .first) (rowsFrom s k at)
+
+abbrev pub endsFrom : List ℕ → ℕ → ℕ → List ℕ
+endsFrom s k at = map (λ r. r .second) (rowsFrom s k at)
+
+abbrev pub delaysFrom : List ℕ → ℕ → ℕ → List ℤ
+delaysFrom s k at = map (λ r. delayOf (r .third)) (rowsFrom s k at)
+
+abbrev pub rowsEnd : List ℕ → ℕ → ℕ → ℕ
+rowsEnd s zero at = at
+rowsEnd s (suc k) at = rowsEnd s k (rowEnd s at)
+
+abbrev pub pathEnd : List ℕ → ℕ → ℕ
+pathEnd s at = numbersEnd s (valueAt s at) (nextAt s at)
+
+abbrev pub edgesFrom : List ℕ → ℕ → ℕ → List ℕ
+edgesFrom s zero at = []
+edgesFrom s (suc k) at = numbersFrom s (valueAt s at) (nextAt s at) ++ edgesFrom s k (pathEnd s at)
+
+abbrev pub lengthsFrom : List ℕ → ℕ → ℕ → List ℕ
+lengthsFrom s zero at = []
+lengthsFrom s (suc k) at = valueAt s at ∷ lengthsFrom s k (pathEnd s at)
+
+abbrev pub pathsEnd : List ℕ → ℕ → ℕ → ℕ
+pathsEnd s zero at = at
+pathsEnd s (suc k) at = pathsEnd s k (pathEnd s at)
+
+-- where each part of the deck begins, and the deck
+abbrev pub edgesPlace : List ℕ → ℕ
+edgesPlace s = nextAt s (nextAt s 0)
+
+abbrev pub edgeCount : List ℕ → ℕ
+edgeCount s = valueAt s (nextAt s 0)
+
+unfoldable pub countPlace : List ℕ → ℕ
+countPlace s = rowsEnd s (edgeCount s) (edgesPlace s)
+
+abbrev pub pathCount : List ℕ → ℕ
+pathCount s = valueAt s (countPlace s)
+
+abbrev pub pathsPlace : List ℕ → ℕ
+pathsPlace s = nextAt s (countPlace s)
+
+unfoldable pub deckFrom : List ℕ → Deck
+deckFrom s = record {
+  design = design (valueAt s 0) (startsFrom s (edgeCount s) (edgesPlace s)) (endsFrom s (edgeCount s) (edgesPlace s)) (delaysFrom s (edgeCount s) (edgesPlace s));
+  list = pathList (edgesFrom s (pathCount s) (pathsPlace s)) (lengthsFrom s (pathCount s) (pathsPlace s));
+  allowed = valueAt s (pathsEnd s (pathCount s) (pathsPlace s));
+}
+
+-- the deck fits the tables
+pub record Fits (s : List ℕ) (tables : Tables) : Type 0 where
+  pub edges : edgeCount s ≤ tables .edges
+  pub paths : pathCount s ≤ tables .paths
+  pub listed : length (edgesFrom s (pathCount s) (pathsPlace s)) ≤ tables .listed

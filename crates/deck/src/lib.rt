@@ -1,0 +1,101 @@
+// Decks as bytes: the writer fills a lent room, the reader fills lent tables.
+ghost use mathlib.Core.Path.{_≡_};
+ghost use Rattle.timing.specs.Decks.{packedDeck};
+ghost use lib.ListN.{length};
+ghost use Rattle.timing.specs.Calls.{deckWriteTests, writing, roomAfterWriting, filled, deckRead, deckAnswer};
+ghost use Rattle.deck.specs.Writing.{deckOf};
+use timing::DeckRead;
+use timing::Refusal;
+use timing::Verdict;
+use timing::Written;
+
+mod counts;
+mod filler;
+mod looker;
+mod writer;
+
+// What a look answers: the place behind what it looked at.
+enum Looked {
+    At(usize),
+    Refused(Refusal),
+}
+
+// A number and the place behind it.
+struct Taken {
+    value: u32,
+    next: usize,
+}
+
+// The place behind the paths, and how many edges they list.
+struct Listed {
+    next: usize,
+    edges: usize,
+}
+
+// n, the count of edges, and the place behind the edges.
+struct Edges {
+    nodes: u32,
+    count: u32,
+    next: usize,
+}
+
+// Writes a deck at the front of the room. Nothing is written before it is known that all of it fits.
+pub fn write_deck(
+    n: u32,
+    starts: &[u32],
+    ends: &[u32],
+    delays: &[i32],
+    listed: &[u32],
+    lengths: &[u32],
+    t: u32,
+    room: &mut [u8],
+) -> Written
+    ensures { λ r. ⌜ r ≡ writing (deckWriteTests (deckOf n (now (starts .entry)) (now (ends .entry)) (now (delays .entry)) (now (listed .entry)) (now (lengths .entry)) t)) (now (room .entry)) (packedDeck (deckOf n (now (starts .entry)) (now (ends .entry)) (now (delays .entry)) (now (listed .entry)) (now (lengths .entry)) t)) ⌝ }
+    ensures { λ r. ⌜ now (room .exit) ≡ roomAfterWriting (deckWriteTests (deckOf n (now (starts .entry)) (now (ends .entry)) (now (delays .entry)) (now (listed .entry)) (now (lengths .entry)) t)) (now (room .entry)) (packedDeck (deckOf n (now (starts .entry)) (now (ends .entry)) (now (delays .entry)) (now (listed .entry)) (now (lengths .entry)) t)) ⌝ }
+{
+    let v = counts::write_tests(n, starts, ends, delays, listed, lengths);
+    match v {
+        Verdict::Refused(r) => {
+            return Written::Refused(r);
+        }
+        Verdict::Passed => {}
+    }
+    let size = writer::deck_size(n, starts, ends, delays, listed, lengths, t);
+    if room.len() < size {
+        return Written::Refused(timing::refuse(35, 0));
+    }
+    Written::End(writer::put_deck(n, starts, ends, delays, listed, lengths, t, room))
+}
+
+// Reads a deck into the tables. Everything is looked at first, so that a refusal changes no table.
+pub fn read_deck(
+    s: &[u8],
+    starts: &mut [u32],
+    ends: &mut [u32],
+    delays: &mut [i32],
+    listed: &mut [u32],
+    lengths: &mut [u32],
+) -> DeckRead
+    ensures { λ r. ⌜ r ≡ deckAnswer (deckRead (now (s .entry)) (length (now (starts .entry))) (length (now (ends .entry))) (length (now (delays .entry))) (length (now (listed .entry))) (length (now (lengths .entry)))) ⌝ }
+    ensures { λ r. ⌜ now (starts .exit) ≡ filled (λ d. d .design .starts) (deckRead (now (s .entry)) (length (now (starts .entry))) (length (now (ends .entry))) (length (now (delays .entry))) (length (now (listed .entry))) (length (now (lengths .entry)))) (now (starts .entry)) ⌝ }
+    ensures { λ r. ⌜ now (ends .exit) ≡ filled (λ d. d .design .ends) (deckRead (now (s .entry)) (length (now (starts .entry))) (length (now (ends .entry))) (length (now (delays .entry))) (length (now (listed .entry))) (length (now (lengths .entry)))) (now (ends .entry)) ⌝ }
+    ensures { λ r. ⌜ now (delays .exit) ≡ filled (λ d. d .design .delays) (deckRead (now (s .entry)) (length (now (starts .entry))) (length (now (ends .entry))) (length (now (delays .entry))) (length (now (listed .entry))) (length (now (lengths .entry)))) (now (delays .entry)) ⌝ }
+    ensures { λ r. ⌜ now (listed .exit) ≡ filled (λ d. d .list .edges) (deckRead (now (s .entry)) (length (now (starts .entry))) (length (now (ends .entry))) (length (now (delays .entry))) (length (now (listed .entry))) (length (now (lengths .entry)))) (now (listed .entry)) ⌝ }
+    ensures { λ r. ⌜ now (lengths .exit) ≡ filled (λ d. d .list .lengths) (deckRead (now (s .entry)) (length (now (starts .entry))) (length (now (ends .entry))) (length (now (delays .entry))) (length (now (listed .entry))) (length (now (lengths .entry)))) (now (lengths .entry)) ⌝ }
+{
+    let sizes = timing::same_sizes(starts.len(), ends.len(), delays.len());
+    match sizes {
+        Verdict::Refused(r) => {
+            return DeckRead::Refused(r);
+        }
+        Verdict::Passed => {}
+    }
+    let look = looker::look(s, starts.len(), listed.len(), lengths.len());
+    match look {
+        Verdict::Refused(r) => {
+            return DeckRead::Refused(r);
+        }
+        Verdict::Passed => {}
+    }
+    filler::fill(s, starts, ends, delays, listed, lengths)
+}
