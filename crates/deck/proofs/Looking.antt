@@ -1,10 +1,9 @@
 -- How far a reader gets, whatever it finds.
 use Prim.Native.Nat.{ℕ, zero, suc, _+_, _-_, _*_, _≤_, _<_}
 use native.Mathlib.Omega.{arith}
-use native.Mathlib.Numerals.{add-one}
-use mathlib.Core.Path.{_≡_, refl, sym, _∙_, ap, subst}
-use mathlib.Core.Bool.{Bool, true, false, cond}
-use mathlib.Core.List.{List, [], _∷_, _++_, map}
+use mathlib.Core.Path.{_≡_, refl, sym, _∙_}
+use mathlib.Core.Bool.{Bool, true, false}
+use mathlib.Core.List.{List, _∷_, _++_}
 use lib.Dec.{leb}
 use lib.ListN.{length}
 use borrow.Author.Tests.{leb-true, le-leb, lt-leb}
@@ -19,10 +18,9 @@ use Rattle.timing.specs.Marks.{PathList, pathList}
 use Rattle.timing.specs.Numbers.{readNumber}
 use Rattle.timing.specs.Refusals.{refusal, unless, _then_}
 use Rattle.timing.specs.Parsing.{Parsed, found, stopped, Reader, onward, _>>=_, _>>_, return, tested, parsedNumber, number, repeated, Row, row, ended}
-use Rattle.timing.specs.Decks.{Deck, Tables, paths, deckReader, readDeck}
-use Rattle.deck.specs.declared.Looked.{Looked}
+use Rattle.timing.specs.Decks.{Tables, paths, readDeck}
 use Rattle.deck.specs.declared.Looked.the-variants.{At, Refused}
-use Rattle.deck.specs.Reading.{looked, verdictOf, numberOf, countIn, pathIn, tailIn, listIn, edgesIn, deckIn}
+use Rattle.deck.specs.Reading.{looked, verdictOf, numberOf, countIn, pathIn, tailIn, deckIn}
 use Rattle.deck.proofs.Tests.{then-passed, unless-passed}
 
 -- what is made of what was found does not move the place

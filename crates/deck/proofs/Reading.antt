@@ -1,14 +1,13 @@
 -- What a reader found is what stands there; and how the tables are filled with it.
-use Prim.Native.Nat.{ℕ, zero, suc, _+_, _-_, _*_, _≤_, _<_}
+use Prim.Native.Nat.{ℕ, zero, suc, _+_, _-_, _≤_, _<_}
 use native.Mathlib.Omega.{arith}
 use native.Mathlib.Numerals.{add-one}
-use mathlib.Core.Path.{_≡_, refl, sym, _∙_, ap, subst}
-use mathlib.Core.Bool.{Bool, true, false, cond}
-use mathlib.Core.List.{List, [], _∷_, _++_, map, append-assoc}
+use mathlib.Core.Path.{_≡_, refl, sym, _∙_, ap}
+use mathlib.Core.List.{List, _∷_, _++_, map}
 use lib.Dec.{leb}
 use lib.IntN.{ℤ}
-use lib.ListN.{length, set, take, drop, length-append, length-map}
-use lib.Seq.{sets, sets-eq, length-sets}
+use lib.ListN.{length, set, drop, length-append, length-map}
+use lib.Seq.{sets, sets-eq}
 use Rattle.timing.specs.declared.Refusal.{Refusal}
 use Rattle.timing.specs.declared.Verdict.{Verdict}
 use Rattle.timing.specs.declared.Verdict.the-variants.{Passed}
@@ -23,9 +22,9 @@ use Rattle.timing.specs.Graphs.{design}
 use Rattle.timing.specs.Marks.{PathList, pathList}
 use Rattle.timing.specs.Numbers.{readNumber}
 use Rattle.timing.specs.Delays.{delayOf}
-use Rattle.timing.specs.Refusals.{refusal, unless, _then_}
+use Rattle.timing.specs.Refusals.{unless, _then_}
 use Rattle.timing.specs.Parsing.{Parsed, found, stopped, Reader, onward, _>>=_, _>>_, return, tested, parsedNumber, number, repeated, Row, row, ended}
-use Rattle.timing.specs.Decks.{Deck, Tables, paths, deckReader, readDeck}
+use Rattle.timing.specs.Decks.{Deck, Tables, paths, readDeck}
 use Rattle.timing.specs.declared.DeckRead.the-variants.{Refused as NoDeck}
 use Rattle.timing.specs.Tests.{sameSizes}
 use Rattle.timing.specs.Calls.{Outcome, made, refused, parsed, filled, deckRead, deckAnswer}

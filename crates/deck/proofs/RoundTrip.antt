@@ -1,7 +1,7 @@
 -- Reading what was written gives the same deck, and writing what was read gives the same bytes.
 use Prim.Native.Nat.{ℕ, zero, suc, _+_, _-_, _≤_, _<_}
 use native.Mathlib.Omega.{arith}
-use mathlib.Core.Path.{_≡_, refl, sym, _∙_, ap, subst}
+use mathlib.Core.Path.{_≡_, refl, sym, _∙_, ap}
 use mathlib.Core.Bool.{Bool, true, false, cond}
 use mathlib.Core.List.{List, [], _∷_, _++_, map, flatMap, append-assoc, append-nil}
 use lib.Dec.{leb}
@@ -16,18 +16,18 @@ use Rattle.timing.specs.declared.Verdict.the-variants.{Passed}
 use Rattle.timing.specs.Lists.{sum}
 use Rattle.timing.specs.Graphs.{design}
 use Rattle.timing.specs.Marks.{PathList, pathList, cut}
-use Rattle.timing.specs.Numbers.{packedIn, packed, groupsIn, numberAnswer, readNumber}
+use Rattle.timing.specs.Numbers.{packed, groupsIn, numberAnswer, readNumber}
 use Rattle.timing.specs.Delays.{packedDelay, delayOf}
 use Rattle.timing.specs.Refusals.{refusal, unless, _then_}
-use Rattle.timing.specs.Parsing.{Parsed, found, stopped, Reader, onward, _>>=_, _>>_, return, tested, parsedNumber, number, repeated, Row, row, ended}
-use Rattle.timing.specs.Decks.{Deck, Tables, edgeNumbers, pathNumbers, deckNumbers, packedDeck, paths, deckReader, readDeck}
+use Rattle.timing.specs.Parsing.{Parsed, found, stopped, Reader, _>>=_, _>>_, return, tested, parsedNumber, number, repeated, Row, row, ended}
+use Rattle.timing.specs.Decks.{Deck, Tables, edgeNumbers, pathNumbers, deckNumbers, packedDeck, paths, readDeck}
 use Rattle.timing.specs.declared.Verdict.the-variants.{Refused as NotPassed}
 use Rattle.timing.specs.Tests.{sameSizes}
-use Rattle.timing.specs.Calls.{Outcome, made, refused, parsed, guarded, deckRead}
+use Rattle.timing.specs.Calls.{made, parsed, guarded, deckRead}
 use Rattle.packed.proofs.Numbers.{cap-32, Bytes, bytes-drop, read-packed, Back, packed-read}
 use Rattle.packed.proofs.Delays.{delay-packed, packed-delay}
-use Rattle.deck.specs.Writing.{Fit, bytesOf, size}
-use Rattle.deck.proofs.Writing.{bytes-append, bytes-one, designNumbers, listNumbers, deck-parts, packed-deck}
+use Rattle.deck.specs.Writing.{Fit, bytesOf}
+use Rattle.deck.proofs.Writing.{bytes-append, bytes-one, deck-parts, packed-deck}
 use Rattle.deck.proofs.Reading.{Is, is-onward, TestIs, is-tested}
 
 -- numbers that fit 32 bits

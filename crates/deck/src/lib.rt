@@ -1,9 +1,10 @@
 // Decks as bytes: the writer fills a lent room, the reader fills lent tables.
 ghost use mathlib.Core.Path.{_≡_};
+ghost use Rattle.timing.specs.Graphs.{design};
+ghost use Rattle.timing.specs.Marks.{pathList};
 ghost use Rattle.timing.specs.Decks.{packedDeck};
 ghost use lib.ListN.{length};
 ghost use Rattle.timing.specs.Calls.{deckWriteTests, writing, roomAfterWriting, filled, deckRead, deckAnswer};
-ghost use Rattle.deck.specs.Writing.{deckOf};
 use timing::DeckRead;
 use timing::Refusal;
 use timing::Verdict;
@@ -50,8 +51,8 @@ pub fn write_deck(
     t: u32,
     room: &mut [u8],
 ) -> Written
-    ensures { λ r. ⌜ r ≡ writing (deckWriteTests (deckOf n (now (starts .entry)) (now (ends .entry)) (now (delays .entry)) (now (listed .entry)) (now (lengths .entry)) t)) (now (room .entry)) (packedDeck (deckOf n (now (starts .entry)) (now (ends .entry)) (now (delays .entry)) (now (listed .entry)) (now (lengths .entry)) t)) ⌝ }
-    ensures { λ r. ⌜ now (room .exit) ≡ roomAfterWriting (deckWriteTests (deckOf n (now (starts .entry)) (now (ends .entry)) (now (delays .entry)) (now (listed .entry)) (now (lengths .entry)) t)) (now (room .entry)) (packedDeck (deckOf n (now (starts .entry)) (now (ends .entry)) (now (delays .entry)) (now (listed .entry)) (now (lengths .entry)) t)) ⌝ }
+    ensures { λ r. ⌜ r ≡ writing (deckWriteTests (record { design = design n (now (starts .entry)) (now (ends .entry)) (now (delays .entry)); list = pathList (now (listed .entry)) (now (lengths .entry)); allowed = t })) (now (room .entry)) (packedDeck (record { design = design n (now (starts .entry)) (now (ends .entry)) (now (delays .entry)); list = pathList (now (listed .entry)) (now (lengths .entry)); allowed = t })) ⌝ }
+    ensures { λ r. ⌜ now (room .exit) ≡ roomAfterWriting (deckWriteTests (record { design = design n (now (starts .entry)) (now (ends .entry)) (now (delays .entry)); list = pathList (now (listed .entry)) (now (lengths .entry)); allowed = t })) (now (room .entry)) (packedDeck (record { design = design n (now (starts .entry)) (now (ends .entry)) (now (delays .entry)); list = pathList (now (listed .entry)) (now (lengths .entry)); allowed = t })) ⌝ }
 {
     let v = counts::write_tests(n, starts, ends, delays, listed, lengths);
     match v {

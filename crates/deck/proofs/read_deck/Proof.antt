@@ -1,6 +1,6 @@
-use mathlib.Core.Path.{_≡_, refl, sym, _∙_, ap}
+-- 30, then the look, then the fill: a refusal by the first two leaves every table.
+use mathlib.Core.Path.{sym, _∙_}
 use lib.ListN.{length}
-use Rattle.timing.specs.declared.Verdict.the-variants.{Passed}
 use Rattle.timing.specs.Decks.{Tables, Deck}
 use Rattle.timing.specs.Calls.{Outcome, deckRead}
 use Rattle.deck.specs.Reading.{deckFrom}
@@ -9,11 +9,6 @@ use Rattle.deck.proofs.Reading.{read-sizes, read-stopped, read-made, re
 use borrow.Author.Needs.{needs}
 use Rattle.deck.proofs.read_deck.Statement.{statement}
 use Rattle.deck.proofs.read_deck.Tie as tie
-use Rattle.deck.proofs.read_deck.Reads as reads
-use Rattle.deck.proofs.read_deck.Lts as lts
-use Rattle.deck.proofs.filler.fill.Reads as fill-reads
-use Rattle.deck.proofs.looker.look.Reads as look-reads
-use Rattle.timing.proofs.same_sizes.Reads as same-sizes-reads
 
 -- the tables, and the outcome
 abbrev tablesAt : tie.Start → Tables

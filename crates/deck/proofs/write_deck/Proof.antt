@@ -1,20 +1,14 @@
+-- The tests, then the size, then the bytes: each way out is one of three laws.
 use native.Mathlib.Omega.{arith}
-use mathlib.Core.Path.{_≡_, refl, sym, _∙_, ap, subst}
-use Rattle.timing.specs.declared.Verdict.the-variants.{Passed}
+use mathlib.Core.Path.{_≡_, sym, _∙_}
 use Rattle.timing.specs.Decks.{Deck}
 use Rattle.timing.specs.Calls.{deckWriteTests}
-use Rattle.deck.specs.Writing.{deckOf, Fit}
+use Rattle.deck.specs.Writing.{deckOf}
 use Rattle.deck.proofs.Tests.{fit-of, tests-untimed}
 use Rattle.deck.proofs.Writing.{write-refused, write-long, write-done}
 use borrow.Author.Needs.{needs}
 use Rattle.deck.proofs.write_deck.Statement.{statement}
 use Rattle.deck.proofs.write_deck.Tie as tie
-use Rattle.deck.proofs.write_deck.Reads as reads
-use Rattle.deck.proofs.write_deck.Lts as lts
-use Rattle.deck.proofs.counts.write_tests.Reads as write-tests-reads
-use Rattle.deck.proofs.writer.deck_size.Reads as deck-size-reads
-use Rattle.deck.proofs.writer.put_deck.Reads as put-deck-reads
-use Rattle.timing.proofs.refuse.Reads as refuse-reads
 
 -- the deck that is written, and its tests
 abbrev deckAt : tie.Start → Deck

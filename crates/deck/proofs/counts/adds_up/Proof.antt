@@ -3,15 +3,12 @@ use Prim.Native.Nat.{_≤_, _-_}
 use native.Mathlib.Omega.{arith}
 use mathlib.Core.Path.{_≡_, refl, sym, _∙_}
 use lib.Dec.{eqb}
-use lib.ListN.{length, drop, drop-of-length-le}
+use lib.ListN.{length, drop}
 use borrow.Author.Needs.{needs}
 use Rattle.timing.specs.Lists.{sum}
 use Rattle.deck.proofs.Tests.{sum-turn, sum-past, sum-done}
 use Rattle.deck.proofs.counts.adds_up.Statement.{statement}
 use Rattle.deck.proofs.counts.adds_up.Tie as tie
-use Rattle.deck.proofs.counts.adds_up.Reads as reads
-use Rattle.deck.proofs.counts.adds_up.Lts as lts
-use Rattle.deck.proofs.counts.wide.Reads as wide-reads
 
 abbrev Inv-loop : tie.InvT-loop
 Inv-loop lengths total left₀ k₀ left k = (k ≤ length lengths) × (left ≤ total) × (eqb (sum (drop k lengths)) left ≡ eqb (sum lengths) total)

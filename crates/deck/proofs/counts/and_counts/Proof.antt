@@ -1,12 +1,10 @@
+-- Four tests, one after the other, are the two pairs of the definition.
 use lib.Dec.{leb}
 use Rattle.timing.specs.Refusals.{unless}
 use Rattle.deck.proofs.Tests.{then-counts}
 use borrow.Author.Needs.{needs}
 use Rattle.deck.proofs.counts.and_counts.Statement.{statement}
 use Rattle.deck.proofs.counts.and_counts.Tie as tie
-use Rattle.deck.proofs.counts.and_counts.Reads as reads
-use Rattle.deck.proofs.counts.and_counts.Lts as lts
-use Rattle.deck.proofs.counts.and_unless.Reads as and-unless-reads
 
 and-unless-requires : tie.Need-and-unless-requires
 and-unless-requires c κs = search needs

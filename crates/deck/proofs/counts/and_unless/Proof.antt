@@ -1,26 +1,20 @@
+-- A refusal is passed on; else the test decides.
 use borrow.Author.Needs.{needs}
 use Rattle.deck.proofs.counts.and_unless.Statement.{statement}
 use Rattle.deck.proofs.counts.and_unless.Tie as tie
-use Rattle.deck.proofs.counts.and_unless.Reads as reads
-use Rattle.deck.proofs.counts.and_unless.Lts as lts
-use Rattle.timing.proofs.unless.Reads as unless-reads
 
 enum-told : tie.Need-enum-told
 enum-told c = search needs
 
--- src/counts.rt:42:9
 enum-told-2 : tie.Need-enum-told-2
 enum-told-2 c = search needs
 
--- src/counts.rt:42:9
 returns : tie.Need-returns
 returns c = search needs
 
--- src/counts.rt:44:5
 unless-requires : tie.Need-unless-requires
 unless-requires c κs = search needs
 
--- src/counts.rt:38:1
 returns-2 : tie.Need-returns-2
 returns-2 c = rw (c .before .enum-told .given .1) (c .unless .ensures)
 

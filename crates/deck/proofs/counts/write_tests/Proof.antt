@@ -1,14 +1,9 @@
+-- The three steps are the tests of a deck that is written.
 use Rattle.deck.specs.Writing.{deckOf}
 use Rattle.deck.proofs.Tests.{then-tests}
 use borrow.Author.Needs.{needs}
 use Rattle.deck.proofs.counts.write_tests.Statement.{statement}
 use Rattle.deck.proofs.counts.write_tests.Tie as tie
-use Rattle.deck.proofs.counts.write_tests.Reads as reads
-use Rattle.deck.proofs.counts.write_tests.Lts as lts
-use Rattle.deck.proofs.counts.adds_up.Reads as adds-up-reads
-use Rattle.deck.proofs.counts.and_counts.Reads as and-counts-reads
-use Rattle.deck.proofs.counts.and_unless.Reads as and-unless-reads
-use Rattle.timing.proofs.same_sizes.Reads as same-sizes-reads
 
 same-sizes-requires : tie.Need-same-sizes-requires
 same-sizes-requires c κs = search needs

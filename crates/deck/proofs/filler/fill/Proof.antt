@@ -1,6 +1,6 @@
+-- The design, the list and T are the deck that stands there.
 use Prim.Native.Nat.{ℕ}
-use native.Mathlib.Omega.{arith}
-use mathlib.Core.Path.{_≡_, refl, sym, _∙_, ap}
+use mathlib.Core.Path.{_≡_, _∙_, ap}
 use lib.ListN.{length}
 use Rattle.timing.specs.Decks.{Tables}
 use Rattle.deck.specs.Reading.{valueAt, nextAt, pathCount, pathsPlace}
@@ -8,12 +8,6 @@ use Rattle.deck.proofs.Reading.{fits-paths, listed-placed, lengths-plac
 use borrow.Author.Needs.{needs}
 use Rattle.deck.proofs.filler.fill.Statement.{statement}
 use Rattle.deck.proofs.filler.fill.Tie as tie
-use Rattle.deck.proofs.filler.fill.Reads as reads
-use Rattle.deck.proofs.filler.fill.Lts as lts
-use Rattle.deck.proofs.counts.wide.Reads as wide-reads
-use Rattle.deck.proofs.filler.fill_design.Reads as fill-design-reads
-use Rattle.deck.proofs.filler.fill_paths.Reads as fill-paths-reads
-use Rattle.deck.proofs.filler.take.Reads as take-reads
 
 -- the tables, the count of paths and their place
 abbrev tablesAt : tie.Start → Tables

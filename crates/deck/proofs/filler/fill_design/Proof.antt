@@ -1,16 +1,12 @@
+-- n, m, then the rows, which are the deck's first three tables.
 use Prim.Native.Nat.{ℕ}
 use native.Mathlib.Omega.{arith}
-use mathlib.Core.Path.{_≡_, refl, sym, _∙_, ap}
+use mathlib.Core.Path.{_≡_, sym, _∙_, ap}
 use Rattle.deck.specs.Reading.{valueAt, nextAt, edgeCount, edgesPlace}
 use Rattle.deck.proofs.Reading.{starts-placed, ends-placed, delays-placed, count-place}
 use borrow.Author.Needs.{needs}
 use Rattle.deck.proofs.filler.fill_design.Statement.{statement}
 use Rattle.deck.proofs.filler.fill_design.Tie as tie
-use Rattle.deck.proofs.filler.fill_design.Reads as reads
-use Rattle.deck.proofs.filler.fill_design.Lts as lts
-use Rattle.deck.proofs.counts.wide.Reads as wide-reads
-use Rattle.deck.proofs.filler.fill_rows.Reads as fill-rows-reads
-use Rattle.deck.proofs.filler.take.Reads as take-reads
 
 -- the count of edges and their place
 count-is : (c : tie.After-wide) → c .wide .result ≡ edgeCount (c .before .before .before .before .before .before .args .s .now)

@@ -1,6 +1,7 @@
+-- The numbers from i on, stored from `from + i` on, give the table that storing all gives.
 use Prim.Native.Nat.{_+_, _-_, _≤_}
 use native.Mathlib.Omega.{arith}
-use mathlib.Core.Path.{_≡_, refl, sym, _∙_, ap}
+use mathlib.Core.Path.{_≡_, refl, sym, _∙_}
 use lib.ListN.{length, length-set}
 use lib.Seq.{sets}
 use borrow.Author.Needs.{needs}
@@ -8,9 +9,6 @@ use Rattle.deck.specs.Reading.{numbersFrom, numbersEnd}
 use Rattle.deck.proofs.Reading.{numbers-step, numbers-none, numbers-whole}
 use Rattle.deck.proofs.filler.fill_numbers.Statement.{statement}
 use Rattle.deck.proofs.filler.fill_numbers.Tie as tie
-use Rattle.deck.proofs.filler.fill_numbers.Reads as reads
-use Rattle.deck.proofs.filler.fill_numbers.Lts as lts
-use Rattle.deck.proofs.filler.take.Reads as take-reads
 
 abbrev Inv-loop : tie.InvT-loop
 Inv-loop s at count listed₀ from at₀ i₀ listed at' i = (i ≤ count) × (length listed ≡ length listed₀) × (numbersEnd s (count - i) at' ≡ numbersEnd s count at₀) × (sets listed (from + i) (numbersFrom s (count - i) at') ≡ sets listed₀ from (numbersFrom s count at₀))

@@ -1,17 +1,11 @@
-use Prim.Native.Nat.{ℕ, _+_, _≤_}
+-- The length, then as many edges.
+use Prim.Native.Nat.{ℕ}
 use native.Mathlib.Omega.{arith}
-use mathlib.Core.Path.{_≡_, refl, sym, _∙_, ap}
+use mathlib.Core.Path.{_∙_, ap}
 use lib.ListN.{set}
-use lib.Seq.{sets}
-use Rattle.deck.specs.Reading.{numbersFrom, numbersEnd}
 use borrow.Author.Needs.{needs}
 use Rattle.deck.proofs.filler.fill_path.Statement.{statement}
 use Rattle.deck.proofs.filler.fill_path.Tie as tie
-use Rattle.deck.proofs.filler.fill_path.Reads as reads
-use Rattle.deck.proofs.filler.fill_path.Lts as lts
-use Rattle.deck.proofs.counts.wide.Reads as wide-reads
-use Rattle.deck.proofs.filler.fill_numbers.Reads as fill-numbers-reads
-use Rattle.deck.proofs.filler.take.Reads as take-reads
 
 take-requires : tie.Need-take-requires
 take-requires c κs = search needs

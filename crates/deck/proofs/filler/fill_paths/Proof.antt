@@ -1,3 +1,4 @@
+-- The paths from k on, stored from k and `from` on, give the tables that storing all gives.
 use Prim.Native.Nat.{ℕ, _+_, _-_, _≤_, _<_}
 use native.Mathlib.Omega.{arith}
 use mathlib.Core.Path.{_≡_, refl, sym, _∙_, ap}
@@ -8,10 +9,6 @@ use Rattle.deck.specs.Reading.{valueAt, nextAt, numbersFrom, edgesFrom, 
 use Rattle.deck.proofs.Reading.{paths-sum, paths-next, edges-step, lengths-step, paths-whole, paths-none}
 use Rattle.deck.proofs.filler.fill_paths.Statement.{statement}
 use Rattle.deck.proofs.filler.fill_paths.Tie as tie
-use Rattle.deck.proofs.filler.fill_paths.Reads as reads
-use Rattle.deck.proofs.filler.fill_paths.Lts as lts
-use Rattle.deck.proofs.counts.wide.Reads as wide-reads
-use Rattle.deck.proofs.filler.fill_path.Reads as fill-path-reads
 
 abbrev Inv-loop : tie.InvT-loop
 Inv-loop s at count listed₀ lengths₀ at₀ from₀ k₀ listed lengths at' from k =

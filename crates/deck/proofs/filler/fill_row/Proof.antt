@@ -1,15 +1,12 @@
+-- Three numbers, to three tables.
 use Prim.Native.Nat.{ℕ}
-use mathlib.Core.Path.{_≡_, refl, sym, _∙_, ap}
+use mathlib.Core.Path.{_∙_, ap}
 use lib.ListN.{set}
 use Rattle.timing.specs.Delays.{delayOf}
 use Rattle.deck.proofs.Reading.{row-is}
 use borrow.Author.Needs.{needs}
 use Rattle.deck.proofs.filler.fill_row.Statement.{statement}
 use Rattle.deck.proofs.filler.fill_row.Tie as tie
-use Rattle.deck.proofs.filler.fill_row.Reads as reads
-use Rattle.deck.proofs.filler.fill_row.Lts as lts
-use Rattle.deck.proofs.filler.set_delay.Reads as set-delay-reads
-use Rattle.deck.proofs.filler.take.Reads as take-reads
 
 take-requires : tie.Need-take-requires
 take-requires c κs = search needs

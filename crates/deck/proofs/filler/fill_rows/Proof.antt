@@ -1,20 +1,15 @@
-use Prim.Native.Nat.{ℕ, _+_, _-_, _≤_, _<_}
+-- The rows from i on, stored from i on, give the tables that storing all gives.
+use Prim.Native.Nat.{_-_, _≤_, _<_}
 use native.Mathlib.Omega.{arith}
 use mathlib.Core.Path.{_≡_, refl, sym, _∙_, ap}
-use mathlib.Core.List.{List}
-use lib.IntN.{ℤ}
-use lib.ListN.{length, set, length-set}
+use lib.ListN.{length, length-set}
 use lib.Seq.{sets}
-use borrow.Author.Needs.{needs}
 use Rattle.timing.specs.Delays.{delayOf}
 use Rattle.timing.specs.Parsing.{Row}
 use Rattle.deck.specs.Reading.{rowsEnd, startsFrom, endsFrom, delaysFrom}
 use Rattle.deck.proofs.Reading.{rows-step, rows-none, rows-whole, rows-next, rows-last, rows-start}
 use Rattle.deck.proofs.filler.fill_rows.Statement.{statement}
 use Rattle.deck.proofs.filler.fill_rows.Tie as tie
-use Rattle.deck.proofs.filler.fill_rows.Reads as reads
-use Rattle.deck.proofs.filler.fill_rows.Lts as lts
-use Rattle.deck.proofs.filler.fill_row.Reads as fill-row-reads
 
 abbrev Inv-loop : tie.InvT-loop
 Inv-loop s at m starts₀ ends₀ delays₀ at₀ i₀ starts ends delays at' i =

@@ -1,4 +1,5 @@
-use mathlib.Core.Path.{_≡_, refl, sym, _∙_, ap}
+-- The delay as it is stored is the delay.
+use mathlib.Core.Path.{_∙_, ap}
 use lib.IntN.{ℤ}
 use lib.ListN.{set}
 use mir.Syntax.{w32}
@@ -6,9 +7,6 @@ use mir.Facts.{toZ-ofZ}
 use borrow.Author.Needs.{needs}
 use Rattle.deck.proofs.filler.set_delay.Statement.{statement}
 use Rattle.deck.proofs.filler.set_delay.Tie as tie
-use Rattle.deck.proofs.filler.set_delay.Reads as reads
-use Rattle.deck.proofs.filler.set_delay.Lts as lts
-use Rattle.packed.proofs.unpack_delay.Reads as unpack-delay-reads
 
 unpack-delay-requires : tie.Need-unpack-delay-requires
 unpack-delay-requires c κs = search needs

@@ -1,11 +1,9 @@
-use mathlib.Core.Path.{_≡_, refl, sym, _∙_, ap}
+-- The number that stands there.
+use mathlib.Core.Path.{sym, _∙_}
 use Rattle.deck.proofs.Reading.{take-value, take-none}
 use borrow.Author.Needs.{needs}
 use Rattle.deck.proofs.filler.take.Statement.{statement}
 use Rattle.deck.proofs.filler.take.Tie as tie
-use Rattle.deck.proofs.filler.take.Reads as reads
-use Rattle.deck.proofs.filler.take.Lts as lts
-use Rattle.packed.proofs.read_number.Reads as read-number-reads
 
 read-number-requires : tie.Need-read-number-requires
 read-number-requires c κs = search needs

@@ -1,14 +1,11 @@
-use mathlib.Core.Path.{_≡_, refl, sym, _∙_, ap}
+-- n, then the edges: the verdict of the reader itself.
+use mathlib.Core.Path.{sym, _∙_}
 use Rattle.timing.specs.Decks.{Tables}
 use Rattle.deck.specs.Reading.{countIn, edgesIn}
 use Rattle.deck.proofs.Looking.{number-at, number-stop, look-is}
 use borrow.Author.Needs.{needs}
 use Rattle.deck.proofs.looker.look.Statement.{statement}
 use Rattle.deck.proofs.looker.look.Tie as tie
-use Rattle.deck.proofs.looker.look.Reads as reads
-use Rattle.deck.proofs.looker.look.Lts as lts
-use Rattle.deck.proofs.looker.look_count.Reads as look-count-reads
-use Rattle.deck.proofs.looker.look_edges.Reads as look-edges-reads
 
 -- the tables that are lent
 abbrev tablesAt : tie.Start → Tables

@@ -1,15 +1,10 @@
-use mathlib.Core.Path.{_≡_, refl, sym, _∙_, ap}
+-- The answer follows from what was read and from the two tests.
+use mathlib.Core.Path.{sym, _∙_}
 use Rattle.timing.specs.declared.Verdict.the-variants.{Passed, Refused}
 use Rattle.deck.proofs.Looking.{count-is, count-none}
 use borrow.Author.Needs.{needs}
 use Rattle.deck.proofs.looker.look_count.Statement.{statement}
 use Rattle.deck.proofs.looker.look_count.Tie as tie
-use Rattle.deck.proofs.looker.look_count.Reads as reads
-use Rattle.deck.proofs.looker.look_count.Lts as lts
-use Rattle.deck.proofs.counts.and_unless.Reads as and-unless-reads
-use Rattle.deck.proofs.looker.added.Reads as added-reads
-use Rattle.packed.proofs.read_number.Reads as read-number-reads
-use Rattle.timing.proofs.unless.Reads as unless-reads
 
 read-number-requires : tie.Need-read-number-requires
 read-number-requires c κs = search needs

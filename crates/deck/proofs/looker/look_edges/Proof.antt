@@ -1,16 +1,12 @@
-use mathlib.Core.Path.{_≡_, refl, sym, _∙_, ap}
-use Rattle.timing.specs.Parsing.{Reader, _>>=_, repeated, row}
+-- The count, the rows, the list.
+use mathlib.Core.Path.{sym, _∙_}
+use Rattle.timing.specs.Parsing.{_>>=_, repeated, row}
 use Rattle.timing.specs.Decks.{Tables}
 use Rattle.deck.specs.Reading.{countIn, listIn}
 use Rattle.deck.proofs.Looking.{then-at, then-stop, number-at, number-stop}
 use borrow.Author.Needs.{needs}
 use Rattle.deck.proofs.looker.look_edges.Statement.{statement}
 use Rattle.deck.proofs.looker.look_edges.Tie as tie
-use Rattle.deck.proofs.looker.look_edges.Reads as reads
-use Rattle.deck.proofs.looker.look_edges.Lts as lts
-use Rattle.deck.proofs.looker.look_count.Reads as look-count-reads
-use Rattle.deck.proofs.looker.look_list.Reads as look-list-reads
-use Rattle.deck.proofs.looker.look_rows.Reads as look-rows-reads
 
 -- the tables that are lent
 abbrev tablesAt : tie.Start → Tables

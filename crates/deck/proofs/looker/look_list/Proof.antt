@@ -1,5 +1,6 @@
+-- The count, the paths, the tail.
 use Prim.Native.Nat.{ℕ}
-use mathlib.Core.Path.{_≡_, refl, sym, _∙_, ap}
+use mathlib.Core.Path.{_≡_, sym, _∙_, ap}
 use Rattle.timing.specs.Parsing.{_>>=_}
 use Rattle.timing.specs.Decks.{paths}
 use Rattle.deck.specs.Reading.{looked, countIn, tailIn}
@@ -7,12 +8,6 @@ use Rattle.deck.proofs.Looking.{then-at, then-stop, number-at, number-s
 use borrow.Author.Needs.{needs}
 use Rattle.deck.proofs.looker.look_list.Statement.{statement}
 use Rattle.deck.proofs.looker.look_list.Tie as tie
-use Rattle.deck.proofs.looker.look_list.Reads as reads
-use Rattle.deck.proofs.looker.look_list.Lts as lts
-use Rattle.deck.proofs.counts.wide.Reads as wide-reads
-use Rattle.deck.proofs.looker.look_count.Reads as look-count-reads
-use Rattle.deck.proofs.looker.look_paths.Reads as look-paths-reads
-use Rattle.deck.proofs.looker.look_tail.Reads as look-tail-reads
 
 -- the place behind the paths, or the refusal there
 listed : (c : tie.After-look-paths) → let r = c .before .before .before in let a = r .before .before .before .before .args in

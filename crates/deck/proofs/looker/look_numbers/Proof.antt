@@ -1,15 +1,13 @@
+-- What is left to look at from here on ends where the whole does.
 use Prim.Native.Nat.{_-_, _≤_}
 use native.Mathlib.Omega.{arith}
-use mathlib.Core.Path.{_≡_, refl, sym, _∙_, ap}
+use mathlib.Core.Path.{_≡_, sym, _∙_}
 use borrow.Author.Needs.{needs}
 use Rattle.timing.specs.Parsing.{number, repeated}
 use Rattle.deck.specs.Reading.{looked}
 use Rattle.deck.proofs.Looking.{numbers-all, numbers-turn, numbers-stop, numbers-end}
 use Rattle.deck.proofs.looker.look_numbers.Statement.{statement}
 use Rattle.deck.proofs.looker.look_numbers.Tie as tie
-use Rattle.deck.proofs.looker.look_numbers.Reads as reads
-use Rattle.deck.proofs.looker.look_numbers.Lts as lts
-use Rattle.packed.proofs.read_number.Reads as read-number-reads
 
 abbrev Inv-loop : tie.InvT-loop
 Inv-loop s at k at₀ i₀ at' i = (i ≤ k) × (looked (repeated (k - i) (number s) at') ≡ looked (repeated k (number s) at₀))

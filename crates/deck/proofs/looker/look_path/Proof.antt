@@ -1,16 +1,12 @@
+-- The length with its tests, then as many numbers.
 use Prim.Native.Nat.{ℕ}
-use mathlib.Core.Path.{_≡_, refl, sym, _∙_, ap}
+use mathlib.Core.Path.{_≡_, sym, _∙_, ap}
 use Rattle.timing.specs.Parsing.{number, repeated}
 use Rattle.deck.specs.Reading.{looked}
 use Rattle.deck.proofs.Looking.{path-at, path-stop, path-none, path-is}
 use borrow.Author.Needs.{needs}
 use Rattle.deck.proofs.looker.look_path.Statement.{statement}
 use Rattle.deck.proofs.looker.look_path.Tie as tie
-use Rattle.deck.proofs.looker.look_path.Reads as reads
-use Rattle.deck.proofs.looker.look_path.Lts as lts
-use Rattle.deck.proofs.counts.wide.Reads as wide-reads
-use Rattle.deck.proofs.looker.look_count.Reads as look-count-reads
-use Rattle.deck.proofs.looker.look_numbers.Reads as look-numbers-reads
 
 -- the place behind the path's edges, or the refusal there
 edges : (c : tie.After-look-numbers) → let r = c .before .before .before in

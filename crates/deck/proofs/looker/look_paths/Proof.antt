@@ -1,16 +1,13 @@
+-- The paths that are left, from here on with this sum, end where all do.
 use Prim.Native.Nat.{_-_, _≤_}
 use native.Mathlib.Omega.{arith}
-use mathlib.Core.Path.{_≡_, refl, sym, _∙_, ap}
+use mathlib.Core.Path.{_≡_, sym, _∙_}
 use borrow.Author.Needs.{needs}
 use Rattle.timing.specs.Decks.{paths}
 use Rattle.deck.specs.Reading.{looked}
 use Rattle.deck.proofs.Looking.{path-small, paths-all, paths-turn, paths-stop, paths-end}
 use Rattle.deck.proofs.looker.look_paths.Statement.{statement}
 use Rattle.deck.proofs.looker.look_paths.Tie as tie
-use Rattle.deck.proofs.looker.look_paths.Reads as reads
-use Rattle.deck.proofs.looker.look_paths.Lts as lts
-use Rattle.deck.proofs.looker.added.Reads as added-reads
-use Rattle.deck.proofs.looker.look_path.Reads as look-path-reads
 
 abbrev Inv-loop : tie.InvT-loop
 Inv-loop s at count table at₀ sum₀ k₀ at' sum k = (k ≤ count) × (sum ≤ 8192) × (looked (paths s table (count - k) sum at') ≡ looked (paths s table count 0 at₀))

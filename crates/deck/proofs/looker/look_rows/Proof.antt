@@ -1,15 +1,12 @@
+-- A row is three numbers.
 use Prim.Native.Nat.{ℕ, _*_}
-use mathlib.Core.Path.{_≡_, refl, sym, _∙_, ap}
+use mathlib.Core.Path.{_∙_, ap}
 use Rattle.timing.specs.Parsing.{number, repeated}
 use Rattle.deck.specs.Reading.{looked}
 use Rattle.deck.proofs.Looking.{rows-numbers}
 use borrow.Author.Needs.{needs}
 use Rattle.deck.proofs.looker.look_rows.Statement.{statement}
 use Rattle.deck.proofs.looker.look_rows.Tie as tie
-use Rattle.deck.proofs.looker.look_rows.Reads as reads
-use Rattle.deck.proofs.looker.look_rows.Lts as lts
-use Rattle.deck.proofs.counts.wide.Reads as wide-reads
-use Rattle.deck.proofs.looker.look_numbers.Reads as look-numbers-reads
 
 wide-requires : tie.Need-wide-requires
 wide-requires c κs = search needs

@@ -1,13 +1,9 @@
-use native.Mathlib.Omega.{arith}
-use mathlib.Core.Path.{_≡_, refl, sym, _∙_, ap}
+-- T, then the end of the bytes.
+use mathlib.Core.Path.{sym, _∙_}
 use Rattle.deck.proofs.Looking.{tail-end, tail-more, tail-stop}
 use borrow.Author.Needs.{needs}
 use Rattle.deck.proofs.looker.look_tail.Statement.{statement}
 use Rattle.deck.proofs.looker.look_tail.Tie as tie
-use Rattle.deck.proofs.looker.look_tail.Reads as reads
-use Rattle.deck.proofs.looker.look_tail.Lts as lts
-use Rattle.packed.proofs.read_number.Reads as read-number-reads
-use Rattle.timing.proofs.refuse.Reads as refuse-reads
 
 read-number-requires : tie.Need-read-number-requires
 read-number-requires c κs = search needs

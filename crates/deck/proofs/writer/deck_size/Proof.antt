@@ -1,15 +1,10 @@
-use mathlib.Core.Path.{_≡_, refl, sym, _∙_, ap, subst}
+-- Each number is counted once.
 use Rattle.deck.specs.Writing.{deckOf}
 use Rattle.deck.proofs.Writing.{size-deck}
 use native.Mathlib.Omega.{arith}
 use borrow.Author.Needs.{needs}
 use Rattle.deck.proofs.writer.deck_size.Statement.{statement}
 use Rattle.deck.proofs.writer.deck_size.Tie as tie
-use Rattle.deck.proofs.writer.deck_size.Reads as reads
-use Rattle.deck.proofs.writer.deck_size.Lts as lts
-use Rattle.deck.proofs.writer.delays_size.Reads as delays-size-reads
-use Rattle.deck.proofs.writer.number_size.Reads as number-size-reads
-use Rattle.deck.proofs.writer.numbers_size.Reads as numbers-size-reads
 
 number-size-requires : tie.Need-number-size-requires
 number-size-requires c κs = search needs

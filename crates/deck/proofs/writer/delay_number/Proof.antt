@@ -1,15 +1,13 @@
+-- The delay as it is read back is the delay.
 use lib.IntN.{pos}
 use lib.ListN.{getD}
 use mir.Syntax.{w32}
-use mathlib.Core.Path.{_≡_, refl, sym, _∙_, ap}
+use mathlib.Core.Path.{_∙_, ap}
 use mir.Facts.{toZ-ofZ}
 use Rattle.timing.specs.Delays.{packedDelay}
 use borrow.Author.Needs.{needs}
 use Rattle.deck.proofs.writer.delay_number.Statement.{statement}
 use Rattle.deck.proofs.writer.delay_number.Tie as tie
-use Rattle.deck.proofs.writer.delay_number.Reads as reads
-use Rattle.deck.proofs.writer.delay_number.Lts as lts
-use Rattle.packed.proofs.pack_delay.Reads as pack-delay-reads
 
 mul-pack-delay : tie.Need-mul-pack-delay
 mul-pack-delay c = search needs

@@ -1,9 +1,10 @@
+-- The total so far and the size of the delays from k on are the size of all.
 use Prim.Native.Nat.{ℕ}
 use Rattle.timing.specs.Numbers.{packed}
 use lib.IntN.{pos}
 use Prim.Native.Nat.{_+_, _-_, _*_, _≤_}
 use native.Mathlib.Omega.{arith}
-use mathlib.Core.Path.{_≡_, refl, sym, _∙_, ap}
+use mathlib.Core.Path.{_≡_, _∙_, ap}
 use mathlib.Core.List.{map}
 use lib.ListN.{length, getD, drop}
 use borrow.Author.Needs.{needs}
@@ -13,9 +14,6 @@ use Rattle.deck.proofs.Writing.{sizes-drop, sizes-done}
 use Rattle.packed.proofs.Numbers.{packed-size}
 use Rattle.deck.proofs.writer.delays_size.Statement.{statement}
 use Rattle.deck.proofs.writer.delays_size.Tie as tie
-use Rattle.deck.proofs.writer.delays_size.Reads as reads
-use Rattle.deck.proofs.writer.delays_size.Lts as lts
-use Rattle.deck.proofs.writer.number_size.Reads as number-size-reads
 
 abbrev Inv-loop : tie.InvT-loop
 Inv-loop s total₀ k₀ total k = (k ≤ length s) × (total ≤ 5 * k) × (total + size (map packedDelay (drop k s)) ≡ size (map packedDelay s))

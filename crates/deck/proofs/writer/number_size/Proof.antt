@@ -1,11 +1,10 @@
+-- A number takes a byte more from 128, 128^2, 128^3 and 128^4 on.
 use native.Mathlib.Omega.{arith}
 use Prim.Native.Nat.{_/_}
 use Rattle.timing.specs.Numbers.{packedIn}
 use borrow.Author.Tests.{lt-ltb, le-ltb}
 use Rattle.deck.proofs.writer.number_size.Statement.{statement}
 use Rattle.deck.proofs.writer.number_size.Tie as tie
-use Rattle.deck.proofs.writer.number_size.Reads as reads
-use Rattle.deck.proofs.writer.number_size.Lts as lts
 
 returns : tie.Need-returns
 unfolding packedIn

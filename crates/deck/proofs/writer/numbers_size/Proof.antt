@@ -1,18 +1,14 @@
+-- The total so far and the size of the numbers from k on are the size of all.
 use Prim.Native.Nat.{_+_, _-_, _*_, _≤_}
 use native.Mathlib.Omega.{arith}
-use mathlib.Core.Path.{_≡_, refl, sym, _∙_, ap}
-use mathlib.Core.List.{map}
+use mathlib.Core.Path.{_≡_}
 use lib.ListN.{length, getD, drop}
 use borrow.Author.Needs.{needs}
-use Rattle.timing.specs.Delays.{packedDelay}
 use Rattle.deck.specs.Writing.{size}
 use Rattle.deck.proofs.Writing.{size-drop, size-done}
 use Rattle.packed.proofs.Numbers.{packed-size}
 use Rattle.deck.proofs.writer.numbers_size.Statement.{statement}
 use Rattle.deck.proofs.writer.numbers_size.Tie as tie
-use Rattle.deck.proofs.writer.numbers_size.Reads as reads
-use Rattle.deck.proofs.writer.numbers_size.Lts as lts
-use Rattle.deck.proofs.writer.number_size.Reads as number-size-reads
 
 abbrev Inv-loop : tie.InvT-loop
 Inv-loop s total₀ k₀ total k = (k ≤ length s) × (total ≤ 5 * k) × (total + size (drop k s) ≡ size s)

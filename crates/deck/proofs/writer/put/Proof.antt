@@ -1,18 +1,9 @@
+-- The number fits, so that it is written.
 use Rattle.deck.proofs.Writing.{put-one, put-never}
-use Prim.Native.Nat.{ℕ, _+_, _≤_}
-use mathlib.Core.Path.{_≡_, refl, sym, _∙_, ap, subst}
-use mathlib.Core.List.{[], _∷_}
-use lib.ListN.{length}
-use Rattle.timing.specs.declared.Written.the-variants.{End, Refused}
-use Rattle.timing.specs.Numbers.{packed}
-use Rattle.deck.specs.Writing.{size}
-use Rattle.deck.proofs.Writing.{bytes-one, written-sets, answer-fits}
+use mathlib.Core.Path.{sym, _∙_}
 use borrow.Author.Needs.{needs}
 use Rattle.deck.proofs.writer.put.Statement.{statement}
 use Rattle.deck.proofs.writer.put.Tie as tie
-use Rattle.deck.proofs.writer.put.Reads as reads
-use Rattle.deck.proofs.writer.put.Lts as lts
-use Rattle.packed.proofs.write_number.Reads as write-number-reads
 
 write-number-requires : tie.Need-write-number-requires
 write-number-requires c κs = search needs

@@ -1,15 +1,11 @@
+-- The design, the list, then T.
 use mathlib.Core.List.{[], _∷_, _++_}
 use Rattle.timing.specs.Decks.{Deck}
-use Rattle.deck.specs.Writing.{deckOf, Wrote}
+use Rattle.deck.specs.Writing.{deckOf}
 use Rattle.deck.proofs.Writing.{designNumbers, listNumbers, deck-parts, deck-fits, fits-first, fits-second, wrote-both}
 use borrow.Author.Needs.{needs}
 use Rattle.deck.proofs.writer.put_deck.Statement.{statement}
 use Rattle.deck.proofs.writer.put_deck.Tie as tie
-use Rattle.deck.proofs.writer.put_deck.Reads as reads
-use Rattle.deck.proofs.writer.put_deck.Lts as lts
-use Rattle.deck.proofs.writer.put.Reads as put-reads
-use Rattle.deck.proofs.writer.put_design.Reads as put-design-reads
-use Rattle.deck.proofs.writer.put_list.Reads as put-list-reads
 
 -- the deck that is written
 abbrev deckAt : tie.Start → Deck

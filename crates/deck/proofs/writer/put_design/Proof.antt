@@ -1,15 +1,11 @@
-use native.Mathlib.Omega.{arith}
-use mathlib.Core.List.{[], _∷_, _++_}
+-- n, m, then the edges.
+use mathlib.Core.List.{[], _∷_}
 use lib.ListN.{length}
 use Rattle.timing.specs.Decks.{edgeNumbers}
 use Rattle.deck.proofs.Writing.{fits-first, fits-second, wrote-both}
 use borrow.Author.Needs.{needs}
 use Rattle.deck.proofs.writer.put_design.Statement.{statement}
 use Rattle.deck.proofs.writer.put_design.Tie as tie
-use Rattle.deck.proofs.writer.put_design.Reads as reads
-use Rattle.deck.proofs.writer.put_design.Lts as lts
-use Rattle.deck.proofs.writer.put.Reads as put-reads
-use Rattle.deck.proofs.writer.put_edges.Reads as put-edges-reads
 
 put-requires : tie.Need-put-requires
 put-requires c κs =

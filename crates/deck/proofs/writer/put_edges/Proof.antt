@@ -1,6 +1,6 @@
+-- The numbers of the edges from k on are left to be written.
 use Prim.Native.Nat.{_+_, _-_, _≤_}
 use native.Mathlib.Omega.{arith}
-use mathlib.Core.Path.{_≡_, refl, sym, _∙_, ap, subst}
 use mathlib.Core.List.{[], _∷_, _++_}
 use lib.IntN.{pos}
 use lib.ListN.{length, getD, drop}
@@ -11,10 +11,6 @@ use Rattle.deck.specs.Writing.{Left}
 use Rattle.deck.proofs.Writing.{left-all, left-fits, left-turn, left-none, edges-turn, edges-done}
 use Rattle.deck.proofs.writer.put_edges.Statement.{statement}
 use Rattle.deck.proofs.writer.put_edges.Tie as tie
-use Rattle.deck.proofs.writer.put_edges.Reads as reads
-use Rattle.deck.proofs.writer.put_edges.Lts as lts
-use Rattle.deck.proofs.writer.delay_number.Reads as delay-number-reads
-use Rattle.deck.proofs.writer.put_row.Reads as put-row-reads
 
 abbrev Inv-loop : tie.InvT-loop
 Inv-loop room₀ at starts ends delays at₀ k₀ room at' k = (k ≤ length starts) × Left room₀ at₀ (edgeNumbers starts ends delays) room at' (edgeNumbers (drop k starts) (drop k ends) (drop k delays))

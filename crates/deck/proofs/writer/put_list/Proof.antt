@@ -1,4 +1,5 @@
-use mathlib.Core.List.{[], _∷_, _++_, flatMap}
+-- The count, then the paths.
+use mathlib.Core.List.{[], _∷_, flatMap}
 use lib.ListN.{length}
 use Rattle.timing.specs.Marks.{cut}
 use Rattle.timing.specs.Decks.{pathNumbers}
@@ -6,10 +7,6 @@ use Rattle.deck.proofs.Writing.{fits-first, fits-second, wrote-both}
 use borrow.Author.Needs.{needs}
 use Rattle.deck.proofs.writer.put_list.Statement.{statement}
 use Rattle.deck.proofs.writer.put_list.Tie as tie
-use Rattle.deck.proofs.writer.put_list.Reads as reads
-use Rattle.deck.proofs.writer.put_list.Lts as lts
-use Rattle.deck.proofs.writer.put.Reads as put-reads
-use Rattle.deck.proofs.writer.put_paths.Reads as put-paths-reads
 
 cast-put : tie.Need-cast-put
 cast-put c = search needs

@@ -1,16 +1,13 @@
+-- The numbers from k on are left to be written.
 use Prim.Native.Nat.{_+_, _-_, _≤_}
 use native.Mathlib.Omega.{arith}
-use mathlib.Core.Path.{_≡_, refl, sym, _∙_, ap, subst}
 use mathlib.Core.List.{[], _∷_, _++_}
-use lib.ListN.{length, getD, drop, take}
+use lib.ListN.{getD, drop, take}
 use borrow.Author.Needs.{needs}
 use Rattle.deck.specs.Writing.{Left}
 use Rattle.deck.proofs.Writing.{left-all, left-fits, left-turn, left-none, part-all, part-turn, part-done}
 use Rattle.deck.proofs.writer.put_numbers.Statement.{statement}
 use Rattle.deck.proofs.writer.put_numbers.Tie as tie
-use Rattle.deck.proofs.writer.put_numbers.Reads as reads
-use Rattle.deck.proofs.writer.put_numbers.Lts as lts
-use Rattle.deck.proofs.writer.put.Reads as put-reads
 
 abbrev Inv-loop : tie.InvT-loop
 Inv-loop room₀ at s from count at₀ k₀ room at' k = (k ≤ count) × Left room₀ at₀ (take count (drop from s)) room at' (take (count - k) (drop (from + k) s))

@@ -1,16 +1,10 @@
-use Prim.Native.Nat.{_+_, _≤_}
-use mathlib.Core.Path.{_≡_, refl, sym, _∙_, ap, subst}
-use mathlib.Core.List.{[], _∷_, _++_}
+-- The length, then the edges.
+use mathlib.Core.List.{[], _∷_}
 use lib.ListN.{take, drop}
 use Rattle.deck.proofs.Writing.{fits-first, fits-second, wrote-both}
 use borrow.Author.Needs.{needs}
 use Rattle.deck.proofs.writer.put_path.Statement.{statement}
 use Rattle.deck.proofs.writer.put_path.Tie as tie
-use Rattle.deck.proofs.writer.put_path.Reads as reads
-use Rattle.deck.proofs.writer.put_path.Lts as lts
-use Rattle.deck.proofs.counts.wide.Reads as wide-reads
-use Rattle.deck.proofs.writer.put.Reads as put-reads
-use Rattle.deck.proofs.writer.put_numbers.Reads as put-numbers-reads
 
 put-requires : tie.Need-put-requires
 put-requires c κs =

@@ -1,7 +1,8 @@
+-- The numbers of the paths from k on, whose edges begin at `from`, are left to be written.
 use Prim.Native.Nat.{_+_, _-_, _≤_}
 use native.Mathlib.Omega.{arith}
-use mathlib.Core.Path.{_≡_, refl, sym, _∙_, ap, subst}
-use mathlib.Core.List.{[], _∷_, _++_, flatMap}
+use mathlib.Core.Path.{_≡_}
+use mathlib.Core.List.{_∷_, _++_, flatMap}
 use lib.ListN.{length, getD, drop, take}
 use borrow.Author.Needs.{needs}
 use Rattle.timing.specs.Lists.{sum}
@@ -12,10 +13,6 @@ use Rattle.deck.proofs.Tests.{sum-drop}
 use Rattle.deck.proofs.Writing.{left-all, left-fits, left-turn, left-none, paths-turn, paths-done}
 use Rattle.deck.proofs.writer.put_paths.Statement.{statement}
 use Rattle.deck.proofs.writer.put_paths.Tie as tie
-use Rattle.deck.proofs.writer.put_paths.Reads as reads
-use Rattle.deck.proofs.writer.put_paths.Lts as lts
-use Rattle.deck.proofs.counts.wide.Reads as wide-reads
-use Rattle.deck.proofs.writer.put_path.Reads as put-path-reads
 
 abbrev Inv-loop : tie.InvT-loop
 Inv-loop room₀ at listed lengths at₀ from₀ k₀ room at' from k = (k ≤ length lengths) × (from + sum (drop k lengths) ≡ length listed) × Left room₀ at₀ (flatMap pathNumbers (cut listed lengths)) room at' (flatMap pathNumbers (cut (drop from listed) (drop k lengths)))

@@ -1,12 +1,10 @@
+-- Three numbers, one after the other.
 use mathlib.Core.List.{[], _∷_}
 use Rattle.deck.specs.Writing.{Left}
 use Rattle.deck.proofs.Writing.{left-all, left-fits, left-turn, left-none}
 use borrow.Author.Needs.{needs}
 use Rattle.deck.proofs.writer.put_row.Statement.{statement}
 use Rattle.deck.proofs.writer.put_row.Tie as tie
-use Rattle.deck.proofs.writer.put_row.Reads as reads
-use Rattle.deck.proofs.writer.put_row.Lts as lts
-use Rattle.deck.proofs.writer.put.Reads as put-reads
 
 -- after the first number, and after the second, what is left
 left1 : (c : tie.After-put) → let a = c .before .before .before .args in Left (a .room .now) (a .at) (a .start ∷ a .end ∷ a .delay ∷ []) (c .put .last .0) (c .put .result) (a .end ∷ a .delay ∷ [])
