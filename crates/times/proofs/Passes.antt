@@ -1,0 +1,343 @@
+-- The passes over the edges come to the times of the definitions. Edges stand by end copy and rise: where an edge is met,
+-- every edge into its start stands before it, and every edge out of its end after it.
+use Prim.Native.Nat.{ℕ, suc, _+_, _-_, _≤_, _<_}
+use native.Mathlib.Omega.{arith}
+use native.Mathlib.Decide.{decLt}
+use native.Mathlib.Numerals.{add-one}
+use mathlib.Core.Path.{_≡_, refl, sym, _∙_, ap, ap₂, subst}
+use mathlib.Core.Logic.{⊎-elim}
+use mathlib.Core.Bool.{Bool, true, false, cond}
+use mathlib.Core.List.{List, [], _∷_, _++_, map, List·Memᴰ, List·Memᴰ·not-nil, List·Memᴰ·cases-cons, List·Memᴰ·append-cases, Memᴰ·append-left, Memᴰ·map}
+use lib.Dec.{T, eqb, leb, leb→le, le→leb}
+use lib.IntN.{ℤ, pos, negsuc, natAbs, _+ℤ_, _-ℤ_}
+use lib.ListN.{length, getD, take, drop, take-append-drop, drop-of-length-le, List·getD-eq-default}
+use lib.Seq.{take-suc, drop-cons, take-all}
+use lib.Signed.{ltZ}
+use borrow.Author.Tests.{eq-eqb, ne-eqb}
+use Rattle.timing.specs.Lists.{keep, upto}
+use Rattle.timing.specs.Graphs.{Edge, edge, Graph, edgesIn, edgesOut, startsAt, endsAt}
+use Rattle.timing.specs.Times.{larger, smaller, largest, smallest, arrivalAt, requiredAt, slackAt}
+use Rattle.timing.specs.Calls.{GraphSlices, graphOf}
+use Rattle.timing.proofs.Ints.{up, sub-parts, abs-is, eq-parts, ltZ-false}
+use Rattle.theorems.proofs.Sorting.{Sorted}
+use Rattle.theorems.proofs.Counting.{next-sorted}
+use Rattle.theorems.proofs.Lists.{getD-mem}
+use Rattle.theorems.proofs.Runs.{Rising}
+use Rattle.theorems.proofs.Extremes.{AtMost, AtLeast, Some, nil-or-some, larges, smalls}
+use Rattle.theorems.proofs.Times.{Levels, copy-levels, arrival-size, required-size, arrival-source, arrival-edges, required-end, required-edges}
+use Rattle.times.specs.Passes.{noArrival, noRequired, timeOr, Step, raised, lowered, delayOf, edgeAt, Fit, Small}
+use Rattle.times.proofs.Elements.{size-each, at-each, set-each, each-same}
+use Rattle.times.proofs.Lists.{nil-is, keep-front, keep-back, keep-yes, keep-no, later, earlier, length-edges, getD-edges, best-snoc, best-cons, best-low, best-high}
+
+-- a time that is there
+or-there : (none first z : ℤ) → (z ≡ none → ⊥) → timeOr none first z ≡ z
+or-there none first z f = go (ltZ z none) refl (ltZ none z) refl
+  where
+    go : (a : Bool) → ltZ z none ≡ a → (b : Bool) → ltZ none z ≡ b → cond a z (cond b z first) ≡ z
+    go true p b q = refl
+    go false p true q = refl
+    go false p false q = absurd (f (eq-parts z none (omega (arith, ltZ-false z none p, ltZ-false none z q))))
+
+-- no time comes near the numbers that stand for none
+far-below : (z : ℤ) → natAbs z ≤ 20000000000 → AtMost noArrival z
+far-below z h = omega (arith, abs-is z)
+
+far-above : (z : ℤ) → natAbs z ≤ 20000000000 → AtLeast noRequired z
+far-above z h = omega (arith, abs-is z)
+
+not-below : (z : ℤ) → natAbs z ≤ 20000000000 → z ≡ noArrival → ⊥
+not-below z h e = omega (arith, ap natAbs e)
+
+not-above : (z : ℤ) → natAbs z ≤ 20000000000 → z ≡ noRequired → ⊥
+not-above z h e = omega (arith, ap natAbs e)
+
+near : (t z : ℤ) → natAbs z ≤ natAbs t + natAbs (t -ℤ z)
+near t (pos n) = omega (arith, sub-parts t (pos n), abs-is t, abs-is (t -ℤ pos n))
+near t (negsuc n) = omega (arith, sub-parts t (negsuc n), abs-is t, abs-is (t -ℤ negsuc n))
+
+-- a member of a front part
+mem-take : {A : Type 0} (k : ℕ) (l : List A) (y : A) → List·Memᴰ y (take k l) → List·Memᴰ y l
+mem-take k l y m = subst (λ (x : List _). List·Memᴰ y x) (take-append-drop k l) (Memᴰ·append-left (drop k l) m)
+
+small-each : (f : ℕ → ℤ) (n : ℕ) → ((c : ℕ) → c < n → natAbs (f c) ≤ 20000000000) → Small (map f (upto n 0))
+small-each f n h = record { bound = λ c. go c (decLt c n) }
+  where
+    go : (c : ℕ) → Dec (c < n) → natAbs (getD (map f (upto n 0)) c (pos 0)) ≤ 20000000000
+    go c (yes k) = rw (at-each f n c k) (h c k)
+    go c (no k) =
+        let past : length (map f (upto n 0)) ≤ c = omega (arith, size-each f n) in
+        rw (List·getD-eq-default (map f (upto n 0)) (pos 0) past) (omega arith)
+
+-- the order of edges
+abbrev noLater : Edge → Edge → Bool
+noLater e f = leb (e .end) (f .end)
+
+-- what an edge gives its end for arrival, and its start for required time
+module _ (delays : List ℤ) (S : GraphSlices) where
+  unfoldable pub overIn : Edge → ℤ
+  overIn e = arrivalAt (delayOf delays) (pos 0) (graphOf S) (e .start) +ℤ delayOf delays (e .name)
+
+  unfoldable pub overOut : ℕ → Edge → ℤ
+  overOut t e = requiredAt (delayOf delays) (pos t) (graphOf S) (e .end) -ℤ delayOf delays (e .name)
+
+  -- the arrival at copy c after the first k edges, and its required time after the edges from k on
+  abbrev pub arrivalAfter : ℕ → ℕ → ℤ
+  arrivalAfter k c = largest (noArrival ∷ map overIn (keep (λ e. eqb (e .end) c) (take k (graphOf S .edges))))
+
+  abbrev pub requiredFrom : ℕ → ℕ → ℕ → ℤ
+  requiredFrom t k c = smallest (map (overOut t) (keep (λ e. eqb (e .start) c) (drop k (graphOf S .edges))) ++ (noRequired ∷ []))
+
+module _ (delays : List ℤ) (S : GraphSlices) (F : Fit delays S) where
+  abbrev G : Graph
+  G = graphOf S
+
+  abbrev d : ℕ → ℤ
+  d = delayOf delays
+
+  abbrev n : ℕ
+  n = length (S .nodes)
+
+  rising : Rising (graphOf S)
+  rising = record { up = F .up; inside = F .inside }
+
+  levels : Levels d (graphOf S) 1000000 (λ c. c) (n - 1)
+  levels = copy-levels d (graphOf S) 1000000 rising (F .slow)
+
+  sorted : Sorted noLater (graphOf S .edges)
+  sorted = next-sorted noLater (λ x y z p q. le→leb (x .end) (z .end) (omega (arith, leb→le (x .end) (y .end) p, leb→le (y .end) (z .end) q))) (graphOf S .edges) (F .order)
+
+  pub edges-size : length (graphOf S .edges) ≡ length (S .starts)
+  edges-size = length-edges (S .starts) (S .ends) (S .names) (F .ends) (F .names)
+
+  -- edge k
+  module _ (k : ℕ) (h : k < length (S .starts)) where
+    edge-is : getD (graphOf S .edges) k (edge 0 0 0) ≡ edgeAt S k
+    edge-is = getD-edges (S .starts) (S .ends) (S .names) k (edge 0 0 0) (F .ends) (F .names) h
+
+    inner : k < length (graphOf S .edges)
+    inner = omega (arith, edges-size)
+
+    edge-in : List·Memᴰ (edgeAt S k) (graphOf S .edges)
+    edge-in = subst (λ (e : Edge). List·Memᴰ e (graphOf S .edges)) edge-is (getD-mem (graphOf S .edges) k (edge 0 0 0) inner)
+
+    pub end-in : getD (S .ends) k 0 < n
+    end-in = F .inside (edgeAt S k) edge-in
+
+    pub start-in : getD (S .starts) k 0 < n
+    start-in = omega (arith, F .up (edgeAt S k) edge-in, end-in)
+
+    pub delay-small : natAbs (d (getD (S .names) k 0)) ≤ 1000000
+    delay-small = F .slow (edgeAt S k) edge-in
+
+    front : take (k + 1) (graphOf S .edges) ≡ take k (graphOf S .edges) ++ (edgeAt S k ∷ [])
+    front = rw (add-one k) (take-suc (graphOf S .edges) k (edge 0 0 0) inner ∙ ap (λ (e : Edge). take k (graphOf S .edges) ++ (e ∷ [])) edge-is)
+
+    back : drop k (graphOf S .edges) ≡ edgeAt S k ∷ drop (k + 1) (graphOf S .edges)
+    back = rw (add-one k) (drop-cons (graphOf S .edges) k (edge 0 0 0) inner ∙ ap (λ (e : Edge). e ∷ drop (suc k) (graphOf S .edges)) edge-is)
+
+    -- every edge into its start stands before it
+    into-start : keep (λ e. eqb (e .end) (edgeAt S k .start)) (take k (graphOf S .edges)) ≡ edgesIn (graphOf S) (edgeAt S k .start)
+    unfolding edgesIn
+    into-start =
+        sym
+        (ap (keep p) (sym (take-append-drop k (graphOf S .edges)))
+        ∙ keep-front p (take k (graphOf S .edges)) (drop k (graphOf S .edges)) (λ y m. ne-eqb (y .end) (edgeAt S k .start) (λ q. omega (arith, after y m, F .up (edgeAt S k) edge-in))))
+      where
+        p : Edge → Bool
+        p e = eqb (e .end) (edgeAt S k .start)
+
+        after : (y : Edge) → List·Memᴰ y (drop k (graphOf S .edges)) → edgeAt S k .end ≤ y .end
+        after y m =
+            ⊎-elim
+            (λ (q : y ≡ edgeAt S k). rw q (omega arith))
+            (λ r. leb→le (edgeAt S k .end) (y .end) (subst (λ (e : Edge). T (noLater e y)) edge-is (later noLater (graphOf S .edges) k (edge 0 0 0) sorted inner y (subst (λ (i : ℕ). List·Memᴰ y (drop i (graphOf S .edges))) (add-one k) r))))
+            (List·Memᴰ·cases-cons (subst (λ (l : List Edge). List·Memᴰ y l) back m))
+
+    -- every edge out of its end stands after it
+    out-of-end : keep (λ e. eqb (e .start) (edgeAt S k .end)) (drop (k + 1) (graphOf S .edges)) ≡ edgesOut (graphOf S) (edgeAt S k .end)
+    unfolding edgesOut
+    out-of-end =
+        sym
+        (ap (keep p) (sym (take-append-drop (k + 1) (graphOf S .edges)))
+        ∙ keep-back p (take (k + 1) (graphOf S .edges)) (drop (k + 1) (graphOf S .edges)) (λ y m. ne-eqb (y .start) (edgeAt S k .end) (λ q. omega (arith, until y m .0, until y m .1))))
+      where
+        p : Edge → Bool
+        p e = eqb (e .start) (edgeAt S k .end)
+
+        until : (y : Edge) → List·Memᴰ y (take (k + 1) (graphOf S .edges)) → (y .end ≤ edgeAt S k .end) × (y .start < y .end)
+        until y m =
+            ⊎-elim
+            (λ (r : List·Memᴰ y (take k (graphOf S .edges))). (leb→le (y .end) (edgeAt S k .end) (subst (λ (e : Edge). T (noLater y e)) edge-is (earlier noLater (graphOf S .edges) k (edge 0 0 0) sorted inner y r)), F .up y (mem-take k (graphOf S .edges) y r)))
+            (λ (r : List·Memᴰ y (edgeAt S k ∷ [])). ⊎-elim (λ (q : y ≡ edgeAt S k). rw q (omega arith, F .up (edgeAt S k) edge-in)) (λ z. absurd (List·Memᴰ·not-nil z)) (List·Memᴰ·cases-cons r))
+            (List·Memᴰ·append-cases (take k (graphOf S .edges)) (subst (λ (l : List Edge). List·Memᴰ y l) front m))
+
+  -- arrivals
+  abbrev inSum : Edge → ℤ
+  inSum = overIn delays S
+
+  abbrev reached : ℕ → ℕ → ℤ
+  reached = arrivalAfter delays S
+
+  arrival-small : (c : ℕ) → c < n → natAbs (arrivalAt d (pos 0) (graphOf S) c) ≤ 20000000000
+  arrival-small c h = omega (arith, arrival-size d (pos 0) (graphOf S) rising 1000000 (λ c. c) (n - 1) levels c h, F .copies)
+
+  settled-arrival : (c : ℕ) → c < n → timeOr noArrival (pos 0) (largest (noArrival ∷ map inSum (edgesIn (graphOf S) c))) ≡ arrivalAt d (pos 0) (graphOf S) c
+  unfolding overIn
+  settled-arrival c h = ⊎-elim none some (nil-or-some (edgesIn (graphOf S) c))
+    where
+      A : ℤ
+      A = arrivalAt d (pos 0) (graphOf S) c
+
+      none : T (startsAt (graphOf S) c) → timeOr noArrival (pos 0) (largest (noArrival ∷ map inSum (edgesIn (graphOf S) c))) ≡ arrivalAt d (pos 0) (graphOf S) c
+      none s =
+          ap (λ (l : List Edge). timeOr noArrival (pos 0) (largest (noArrival ∷ map inSum l))) (nil-is (edgesIn (graphOf S) c) s)
+          ∙ sym (arrival-source d (pos 0) (graphOf S) rising c h s)
+
+      some : Some (edgesIn (graphOf S) c) → timeOr noArrival (pos 0) (largest (noArrival ∷ map inSum (edgesIn (graphOf S) c))) ≡ arrivalAt d (pos 0) (graphOf S) c
+      some s =
+          let e = arrival-edges d (pos 0) (graphOf S) rising c h s in
+          let l = subst (AtMost noArrival) e (far-below (arrivalAt d (pos 0) (graphOf S) c) (arrival-small c h)) in
+          ap (timeOr noArrival (pos 0)) (best-low larges noArrival (map inSum (edgesIn (graphOf S) c)) (inSum (s .0), Memᴰ·map inSum (s .1)) l ∙ sym e)
+          ∙ or-there noArrival (pos 0) (arrivalAt d (pos 0) (graphOf S) c) (not-below (arrivalAt d (pos 0) (graphOf S) c) (arrival-small c h))
+
+  -- what the pass finds at the start of edge k
+  found-arrival : (k : ℕ) (h : k < length (S .starts)) → timeOr noArrival (pos 0) (getD (map (reached k) (upto n 0)) (getD (S .starts) k 0) (pos 0)) ≡ arrivalAt d (pos 0) (graphOf S) (getD (S .starts) k 0)
+  found-arrival k h =
+      ap (timeOr noArrival (pos 0))
+      (at-each (reached k) n (getD (S .starts) k 0) (start-in k h) ∙ ap (λ (l : List Edge). largest (noArrival ∷ map inSum l)) (into-start k h))
+      ∙ settled-arrival (getD (S .starts) k 0) (start-in k h)
+
+  pub raises-in : (k : ℕ) → k < length (S .starts)
+      → Step (timeOr noArrival (pos 0)) (map (reached k) (upto n 0)) (getD (S .starts) k 0) (getD (S .ends) k 0) (d (getD (S .names) k 0))
+  raises-in k h = record {
+    from-in = omega (arith, start-in k h, size-each (reached k) n);
+    to-in = omega (arith, end-in k h, size-each (reached k) n);
+    time = rw (found-arrival k h) (arrival-small (getD (S .starts) k 0) (start-in k h));
+    delay = delay-small k h;
+  }
+
+  pub raised-next : (k : ℕ) → k < length (S .starts)
+      → raised (map (reached k) (upto n 0)) (getD (S .starts) k 0) (getD (S .ends) k 0) (d (getD (S .names) k 0)) ≡ map (reached (k + 1)) (upto n 0)
+  unfolding raised overIn
+  raised-next k h =
+      set-each (reached k) (reached (k + 1)) n (getD (S .ends) k 0) _ (end-in k h)
+      (ap₂ larger (at-each (reached k) n (getD (S .ends) k 0) (end-in k h)) (ap (λ (z : ℤ). z +ℤ d (getD (S .names) k 0)) (found-arrival k h))
+      ∙ sym (best-snoc larges inSum noArrival (keep (at (getD (S .ends) k 0)) (take k (graphOf S .edges))) (edgeAt S k))
+      ∙ ap (λ (l : List Edge). largest (noArrival ∷ map inSum l))
+      (sym (ap (keep (at (getD (S .ends) k 0))) (front k h) ∙ keep-yes (at (getD (S .ends) k 0)) (take k (graphOf S .edges)) (edgeAt S k) (eq-eqb (getD (S .ends) k 0) (getD (S .ends) k 0) refl))))
+      (λ c f. ap (λ (l : List Edge). largest (noArrival ∷ map inSum l))
+      (sym (ap (keep (at c)) (front k h) ∙ keep-no (at c) (take k (graphOf S .edges)) (edgeAt S k) (ne-eqb (getD (S .ends) k 0) c (λ q. f (sym q))))))
+    where
+      at : ℕ → Edge → Bool
+      at c e = eqb (e .end) c
+
+  -- after the last edge
+  pub arrivals-settled : (k : ℕ) → length (S .starts) ≤ k
+      → map (λ c. timeOr noArrival (pos 0) (getD (map (reached k) (upto n 0)) c (pos 0))) (upto n 0) ≡ map (arrivalAt d (pos 0) (graphOf S)) (upto n 0)
+  unfolding edgesIn
+  arrivals-settled k h =
+      each-same (λ c. timeOr noArrival (pos 0) (getD (map (reached k) (upto n 0)) c (pos 0))) (arrivalAt d (pos 0) (graphOf S)) n
+      (λ c l.
+      ap (timeOr noArrival (pos 0))
+      (at-each (reached k) n c l
+      ∙ ap (λ (es : List Edge). largest (noArrival ∷ map inSum (keep (λ e. eqb (e .end) c) es))) (take-all k (graphOf S .edges) (omega (arith, edges-size))))
+      ∙ settled-arrival c l)
+
+  pub arrivals-small : Small (map (arrivalAt d (pos 0) (graphOf S)) (upto n 0))
+  arrivals-small = small-each (arrivalAt d (pos 0) (graphOf S)) n arrival-small
+
+  -- required times
+  module _ (t : ℕ) (small : t ≤ 1000000000) where
+    abbrev outSum : Edge → ℤ
+    outSum = overOut delays S t
+
+    abbrev left : ℕ → ℕ → ℤ
+    left = requiredFrom delays S t
+
+    required-small : (c : ℕ) → c < n → natAbs (requiredAt d (pos t) (graphOf S) c) ≤ 20000000000
+    required-small c h =
+        omega (
+          arith,
+          required-size d (pos t) (graphOf S) rising 1000000 (λ c. c) (n - 1) levels c h,
+          near (pos t) (requiredAt d (pos t) (graphOf S) c),
+          F .copies,
+        )
+
+    pub requireds-small : Small (map (requiredAt d (pos t) (graphOf S)) (upto n 0))
+    requireds-small = small-each (requiredAt d (pos t) (graphOf S)) n required-small
+
+    settled-required : (c : ℕ) → c < n → timeOr noRequired (pos t) (smallest (map outSum (edgesOut (graphOf S) c) ++ (noRequired ∷ []))) ≡ requiredAt d (pos t) (graphOf S) c
+    unfolding overOut
+    settled-required c h = ⊎-elim none some (nil-or-some (edgesOut (graphOf S) c))
+      where
+        none : T (endsAt (graphOf S) c) → timeOr noRequired (pos t) (smallest (map outSum (edgesOut (graphOf S) c) ++ (noRequired ∷ []))) ≡ requiredAt d (pos t) (graphOf S) c
+        none s =
+            ap (λ (l : List Edge). timeOr noRequired (pos t) (smallest (map outSum l ++ (noRequired ∷ [])))) (nil-is (edgesOut (graphOf S) c) s)
+            ∙ sym (required-end d (pos t) (graphOf S) rising c h s)
+
+        some : Some (edgesOut (graphOf S) c) → timeOr noRequired (pos t) (smallest (map outSum (edgesOut (graphOf S) c) ++ (noRequired ∷ []))) ≡ requiredAt d (pos t) (graphOf S) c
+        some s =
+            let e = required-edges d (pos t) (graphOf S) rising c h s in
+            let l = subst (AtLeast noRequired) e (far-above (requiredAt d (pos t) (graphOf S) c) (required-small c h)) in
+            ap (timeOr noRequired (pos t)) (best-high smalls noRequired (map outSum (edgesOut (graphOf S) c)) (outSum (s .0), Memᴰ·map outSum (s .1)) l ∙ sym e)
+            ∙ or-there noRequired (pos t) (requiredAt d (pos t) (graphOf S) c) (not-above (requiredAt d (pos t) (graphOf S) c) (required-small c h))
+
+    -- what the pass finds at the end of edge k
+    found-required : (k : ℕ) (h : k < length (S .starts)) → timeOr noRequired (pos t) (getD (map (left (k + 1)) (upto n 0)) (getD (S .ends) k 0) (pos 0)) ≡ requiredAt d (pos t) (graphOf S) (getD (S .ends) k 0)
+    found-required k h =
+        ap (timeOr noRequired (pos t))
+        (at-each (left (k + 1)) n (getD (S .ends) k 0) (end-in k h) ∙ ap (λ (l : List Edge). smallest (map outSum l ++ (noRequired ∷ []))) (out-of-end k h))
+        ∙ settled-required (getD (S .ends) k 0) (end-in k h)
+
+    pub lowers-in : (k : ℕ) → k < length (S .starts)
+        → Step (timeOr noRequired (pos t)) (map (left (k + 1)) (upto n 0)) (getD (S .ends) k 0) (getD (S .starts) k 0) (d (getD (S .names) k 0))
+    lowers-in k h = record {
+      from-in = omega (arith, end-in k h, size-each (left (k + 1)) n);
+      to-in = omega (arith, start-in k h, size-each (left (k + 1)) n);
+      time = rw (found-required k h) (required-small (getD (S .ends) k 0) (end-in k h));
+      delay = delay-small k h;
+    }
+
+    pub lowered-next : (k : ℕ) → k < length (S .starts)
+        → lowered (pos t) (map (left (k + 1)) (upto n 0)) (getD (S .starts) k 0) (getD (S .ends) k 0) (d (getD (S .names) k 0)) ≡ map (left k) (upto n 0)
+    unfolding lowered overOut
+    lowered-next k h =
+        set-each (left (k + 1)) (left k) n (getD (S .starts) k 0) _ (start-in k h)
+        (ap₂ smaller (ap (λ (z : ℤ). z -ℤ d (getD (S .names) k 0)) (found-required k h)) (at-each (left (k + 1)) n (getD (S .starts) k 0) (start-in k h))
+        ∙ sym (best-cons smalls (outSum (edgeAt S k)) (map outSum (keep (at (getD (S .starts) k 0)) (drop (k + 1) (graphOf S .edges)))) noRequired)
+        ∙ ap (λ (l : List Edge). smallest (map outSum l ++ (noRequired ∷ [])))
+        (sym (ap (keep (at (getD (S .starts) k 0))) (back k h) ∙ ap (λ (b : Bool). cond b (edgeAt S k ∷ keep (at (getD (S .starts) k 0)) (drop (k + 1) (graphOf S .edges))) (keep (at (getD (S .starts) k 0)) (drop (k + 1) (graphOf S .edges)))) (eq-eqb (getD (S .starts) k 0) (getD (S .starts) k 0) refl))))
+        (λ c f. ap (λ (l : List Edge). smallest (map outSum l ++ (noRequired ∷ [])))
+        (sym (ap (keep (at c)) (back k h) ∙ ap (λ (b : Bool). cond b (edgeAt S k ∷ keep (at c) (drop (k + 1) (graphOf S .edges))) (keep (at c) (drop (k + 1) (graphOf S .edges)))) (ne-eqb (getD (S .starts) k 0) c (λ q. f (sym q))))))
+      where
+        at : ℕ → Edge → Bool
+        at c e = eqb (e .start) c
+
+    -- before the first edge, and after the last
+    pub left-none : (k : ℕ) → length (S .starts) ≤ k → map (λ (c : ℕ). noRequired) (upto n 0) ≡ map (left k) (upto n 0)
+    left-none k h =
+        each-same (λ c. noRequired) (left k) n
+        (λ c l. sym (ap (λ (es : List Edge). smallest (map outSum (keep (λ e. eqb (e .start) c) es) ++ (noRequired ∷ []))) (drop-of-length-le (graphOf S .edges) {i = k} (omega (arith, edges-size)))))
+
+    pub requireds-settled : map (λ c. timeOr noRequired (pos t) (getD (map (left 0) (upto n 0)) c (pos 0))) (upto n 0) ≡ map (requiredAt d (pos t) (graphOf S)) (upto n 0)
+    unfolding edgesOut
+    requireds-settled =
+        each-same (λ c. timeOr noRequired (pos t) (getD (map (left 0) (upto n 0)) c (pos 0))) (requiredAt d (pos t) (graphOf S)) n
+        (λ c l. ap (timeOr noRequired (pos t)) (at-each (left 0) n c l) ∙ settled-required c l)
+
+-- arrival does not ask T; slack is of the other two
+module _ (delays : List ℤ) (S : GraphSlices) (t : ℕ) where
+  pub arrivals-any : map (arrivalAt (delayOf delays) (pos 0) (graphOf S)) (upto (length (S .nodes)) 0) ≡ map (arrivalAt (delayOf delays) (pos t) (graphOf S)) (upto (length (S .nodes)) 0)
+  unfolding arrivalAt
+  arrivals-any = refl
+
+  pub slacks-are : (ats rts : List ℤ) (m : ℕ) → ats ≡ map (arrivalAt (delayOf delays) (pos 0) (graphOf S)) (upto (length (S .nodes)) 0)
+      → rts ≡ map (requiredAt (delayOf delays) (pos t) (graphOf S)) (upto (length (S .nodes)) 0) → m ≡ length (S .nodes)
+      → map (λ c. getD rts c (pos 0) -ℤ getD ats c (pos 0)) (upto m 0) ≡ map (slackAt (delayOf delays) (pos t) (graphOf S)) (upto (length (S .nodes)) 0)
+  unfolding slackAt
+  slacks-are ats rts m e f q =
+      ap (λ (i : ℕ). map (λ c. getD rts c (pos 0) -ℤ getD ats c (pos 0)) (upto i 0)) q
+      ∙ each-same (λ c. getD rts c (pos 0) -ℤ getD ats c (pos 0)) (slackAt (delayOf delays) (pos t) (graphOf S)) (length (S .nodes))
+      (λ c h. ap₂ _-ℤ_
+      (ap (λ (l : List ℤ). getD l c (pos 0)) f ∙ at-each (requiredAt (delayOf delays) (pos t) (graphOf S)) (length (S .nodes)) c h)
+      (ap (λ (l : List ℤ). getD l c (pos 0)) (e ∙ arrivals-any) ∙ at-each (arrivalAt (delayOf delays) (pos t) (graphOf S)) (length (S .nodes)) c h))
