@@ -94,3 +94,56 @@ module _ (s : List ℕ) (bytes : Bytes s) where
     where
       R : List ℕ
       R = flatMap packed (rowNumbers (map edgeOfRow rows))
+
+  -- a graph that was read takes just the bytes that it was read from
+  pub packed-graph-read : (copies edges : ℕ) (G : Graph) (z : ℕ) → readGraph s copies edges ≡ found G z → packedGraph G ≡ s
+  unfolding readGraph packedGraph graphNumbers flatMap
+  packed-graph-read copies edges G z e = one (number s 0) refl e
+    where
+      six : (n a : ℕ) (nodes : List ℕ) (b m c : ℕ) (rows : List Row) (d : ℕ) → number s 0 ≡ found n a → repeated n (number s) a ≡ found nodes b
+          → number s b ≡ found m c → repeated m (row s) c ≡ found rows d → (t : Bool) → leb (length s) d ≡ t
+          → onward (cond t (found (tt {0}) d) (stopped (refusal 3 d))) (λ u. return (graph nodes (map edgeOfRow rows))) ≡ found G z → packedGraph G ≡ s
+      six n a nodes b m c rows d p q r t true k f =
+          let g : G ≡ graph nodes (map edgeOfRow rows) = cc in
+          let ln = repeated-length (number s) n a nodes b q in
+          let lm = length-map rows edgeOfRow ∙ repeated-length (row s) m c rows d t in
+          let none : drop d s ≡ [] = drop-of-length-le s (leb-true (length s) d k) in
+          let e₁ = number-forth 0 n a p in
+          let e₂ = things-forth (number s) packed number-forth n a nodes b q in
+          let e₃ = number-forth b m c r in
+          let e₄ = things-forth (row s) rowBytes row-forth m c rows d t in
+          let R = flatMap packed (rowNumbers (map edgeOfRow rows)) in
+          let last : drop c s ≡ R = e₄ ∙ rw none (append-nil (flatMap rowBytes rows)) ∙ rows-bytes rows in
+          let A = flatMap packed nodes in
+          rw (g, ln, lm)
+          (bytes-append (n ∷ nodes) (m ∷ rowNumbers (map edgeOfRow rows)) ∙ append-assoc (packed n) A (packed m ++ R)
+          ∙ sym (e₁ ∙ ap (λ (l : List ℕ). packed n ++ l) (e₂ ∙ ap (λ (l : List ℕ). A ++ l) (e₃ ∙ ap (λ (l : List ℕ). packed m ++ l) last))))
+      six n a nodes b m c rows d p q r t false k f = never (refusal 3 d) f
+
+      five : (n a : ℕ) (nodes : List ℕ) (b m c : ℕ) → number s 0 ≡ found n a → repeated n (number s) a ≡ found nodes b → number s b ≡ found m c
+          → (x : Parsed (List Row)) → repeated m (row s) c ≡ x → onward x (λ rows. ended s >> return (graph nodes (map edgeOfRow rows))) ≡ found G z → packedGraph G ≡ s
+      five n a nodes b m c p q r (found rows d) t f = six n a nodes b m c rows d p q r t (leb (length s) d) refl f
+      five n a nodes b m c p q r (stopped x) t f = never x f
+
+      four : (n a : ℕ) (nodes : List ℕ) (b m c : ℕ) → number s 0 ≡ found n a → repeated n (number s) a ≡ found nodes b → number s b ≡ found m c
+          → (v : Verdict) → onward (tested v c) (λ u. repeated m (row s) >>= (λ rows. ended s >> return (graph nodes (map edgeOfRow rows)))) ≡ found G z → packedGraph G ≡ s
+      four n a nodes b m c p q r Passed f = five n a nodes b m c p q r (repeated m (row s) c) refl f
+      four n a nodes b m c p q r (NotPassed x) f = never x f
+
+      three : (n a : ℕ) (nodes : List ℕ) (b : ℕ) → number s 0 ≡ found n a → repeated n (number s) a ≡ found nodes b → (x : Parsed ℕ) → number s b ≡ x
+          → onward x (λ m. tested (unless 32 (leb m 65536) then unless 34 (leb m edges)) >> (repeated m (row s) >>= (λ rows. ended s >> return (graph nodes (map edgeOfRow rows))))) ≡ found G z → packedGraph G ≡ s
+      three n a nodes b p q (found m c) r f = four n a nodes b m c p q r (unless 32 (leb m 65536) then unless 34 (leb m edges)) f
+      three n a nodes b p q (stopped x) r f = never x f
+
+      two′ : (n a : ℕ) → number s 0 ≡ found n a → (x : Parsed (List ℕ)) → repeated n (number s) a ≡ x → onward x (edgesReader s edges) ≡ found G z → packedGraph G ≡ s
+      two′ n a p (found nodes b) q f = three n a nodes b p q (number s b) refl f
+      two′ n a p (stopped x) q f = never x f
+
+      two : (n a : ℕ) → number s 0 ≡ found n a → (v : Verdict) → onward (tested v a) (λ u. repeated n (number s) >>= edgesReader s edges) ≡ found G z → packedGraph G ≡ s
+      two n a p Passed f = two′ n a p (repeated n (number s) a) refl f
+      two n a p (NotPassed x) f = never x f
+
+      one : (x : Parsed ℕ) → number s 0 ≡ x
+          → onward x (λ n. tested (unless 32 (leb n 16384) then unless 33 (leb n copies)) >> (repeated n (number s) >>= edgesReader s edges)) ≡ found G z → packedGraph G ≡ s
+      one (found n a) p f = two n a p (unless 32 (leb n 16384) then unless 33 (leb n copies)) f
+      one (stopped x) p f = never x f
