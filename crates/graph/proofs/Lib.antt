@@ -8,3 +8,5 @@ pub mod Writing
 pub mod Looking
 pub mod Filling
 pub mod Made
+pub mod RoundTrip
+pub mod Back
