@@ -1,10 +1,8 @@
--- Laws of the tables, of positions and of one step against an edge.
 -- Laws of the tables, of positions, of slots, of the passes over them and of what they find.
 pub mod Region
 pub mod ChainLaws
 pub mod LinkLaws
 pub mod PositionLaws
--- Laws of the tables, of positions and of slots.
 pub mod SlotLaws
 pub mod RestLaws
 pub mod KeyLaws
@@ -28,6 +26,7 @@ pub mod CopyLaws
 pub mod ShowLaws
 pub mod ShowTables
 pub mod ShowSteps
+pub mod ShownReadyLaws
 pub mod RoomLaws
 pub mod FilledLaws
 pub mod WrittenLaws
