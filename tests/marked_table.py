@@ -237,7 +237,6 @@ abbrev pub All : List Fact → Type 0
 All [] = Unit {0}
 All (f ∷ fs) = Holds f × All fs
 
-pub abbrev-marker
 """
 
 
@@ -250,7 +249,7 @@ def table():
             proofs.append("(refl, refl)" if f[0] == "c" else "refl")
     lines.append("    ∷ []")
     proof = "".join("(%s, " % p for p in proofs) + "tt" + ")" * len(proofs)
-    return HEADER.replace("pub abbrev-marker\n", "") + """abbrev pub marked : List Fact
+    return HEADER + """abbrev pub marked : List Fact
 marked =
 """ + "\n".join(lines) + """
 

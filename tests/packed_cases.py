@@ -6,11 +6,10 @@ python3 tests/packed_cases.py --check   says whether the two files are what it w
 
 Numbers are handled here as strings of binary digits, which nothing in the library does.
 """
-import pathlib
 import random
-import sys
 
-CRATE = pathlib.Path(__file__).resolve().parent.parent / "crates" / "packed_cases"
+import expected
+
 TOP = 4294967295
 BOUNDARIES = sorted({b + d for b in (0, 128, 16384, 2**21, 2**28, 2**31, TOP) for d in (-1, 0, 1) if 0 <= b + d <= TOP})
 
@@ -101,15 +100,9 @@ def cases():
 
 def main():
     made = list(cases())
-    files = {"stdin": b"".join(r for r, _ in made), "stdout": "".join(line + "\n" for _, line in made).encode()}
-    assert len(files["stdin"]) <= 65536
-    for name, content in files.items():
-        path = CRATE / name
-        if sys.argv[1:] == ["--check"]:
-            if path.read_bytes() != content:
-                sys.exit("%s is not what tests/packed_cases.py makes" % path)
-        else:
-            path.write_bytes(content)
+    stdin = b"".join(r for r, _ in made)
+    assert len(stdin) <= expected.BUFFER
+    expected.keep("packed_cases", stdin, "".join(line + "\n" for _, line in made).encode())
     print("packed_cases: %d cases" % len(made))
 
 

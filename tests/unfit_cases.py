@@ -10,14 +10,12 @@ together; then the graphs, with seven slices each (crates/unfit_cases/src/main.r
 """
 import copy
 import itertools
-import pathlib
 import random
-import sys
 
+import expected
 import walker
 from decks import WIDE_ROOM, random_design, random_paths
 
-CRATE = pathlib.Path(__file__).resolve().parent.parent / "crates" / "unfit_cases"
 TOP = 4294967295
 MANY_WORDS = 10 ** 9
 TABLES = (16400, 16400, 16400, 8200, 1040)      # the program's
@@ -360,16 +358,9 @@ def main():
     assert set(GRAPH_NUMBERS) <= {number for _, number in found}
     halves = [walker.write_number(len(decks)) + b"".join(packed(deck) for deck in decks),
               walker.write_number(len(graphs)) + b"".join(given.packed() for given in graphs)]
-    assert all(len(half) <= 65536 for half in halves), [len(half) for half in halves]
-    files = {"stdin": halves[0].ljust(65536, b"\0") + halves[1],
-             "stdout": ("".join(line(refusal) for refusal in answers) + "".join(text for text, _ in found)).encode()}
-    for name, content in files.items():
-        path = CRATE / name
-        if sys.argv[1:] == ["--check"]:
-            if path.read_bytes() != content:
-                sys.exit("%s is not what tests/unfit_cases.py makes" % path)
-        else:
-            path.write_bytes(content)
+    assert all(len(half) <= expected.BUFFER for half in halves), [len(half) for half in halves]
+    expected.keep("unfit_cases", halves[0].ljust(expected.BUFFER, b"\0") + halves[1],
+                  ("".join(line(refusal) for refusal in answers) + "".join(text for text, _ in found)).encode())
     print("unfit_cases: %d decks, %d graphs" % (len(decks), len(graphs)))
 
 
