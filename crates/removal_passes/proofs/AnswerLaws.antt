@@ -5,21 +5,20 @@ use mathlib.Core.Path.{_≡_, refl, sym, ap, _∙_, subst}
 use mathlib.Core.Bool.{Bool, true, false}
 use mathlib.Core.List.{List, [], _∷_, map}
 use lib.Dec.{T, leb, leb→le}
-use lib.ListN.{length, take, replicate, length-map}
+use lib.ListN.{length, take, replicate}
 use Rattle.timing.specs.declared.Refusal.{Refusal}
 use Rattle.timing.specs.declared.Verdict.{Verdict}
 use Rattle.timing.specs.declared.Verdict.the-variants.{Passed, Refused}
 use Rattle.timing.specs.declared.GraphMade.{GraphMade}
 use Rattle.timing.specs.declared.GraphMade.the-variants.{Counts}
 use Rattle.timing.specs.declared.GraphMade.the-variants.{Refused as NoGraph}
-use Rattle.timing.specs.Lists.{upto}
-use Rattle.timing.specs.Graphs.{Design, Graph, edgesOf, edgesIn}
+use Rattle.timing.specs.Graphs.{Design, Graph, edgesIn}
 use Rattle.timing.specs.Marks.{PathList, pathsOf, pathList}
 use Rattle.timing.specs.TrueGraphs.{trueGraph}
 use Rattle.timing.specs.Refusals.{refusal, unless, _then_}
 use Rattle.timing.specs.Tests.{candidates, scratchTest, Room, roomTests}
 use Rattle.timing.specs.Calls.{Outcome, outcome, graphSlices, roomOf, scratchAfter}
-use Rattle.theorems.proofs.Lists.{holds, length-upto}
+use Rattle.theorems.proofs.Lists.{holds}
 use Rattle.theorems.proofs.Refusals.{then-passed, unless-passed}
 use Rattle.theorems.proofs.Tested.{ListFits}
 use Rattle.removal_passes.specs.declared.rows.Layout.{Layout}
@@ -29,7 +28,7 @@ use Rattle.removal_passes.specs.Search.{ofStarts, ofNodes}
 use Rattle.removal_passes.specs.Build.{Given}
 use Rattle.removal_passes.specs.Counts.{ListCountable, CopiesCountable}
 use Rattle.removal_passes.specs.Remove.{Worked, Workable, WorkableIn, AllFound, Found, Answered, roomOutcome, RoomAnswered, removalOutcome, Removed, SearchRemoved, AllRemoved}
-use Rattle.removal_passes.proofs.IntoLaws.{edgeAt, edges-map}
+use Rattle.removal_passes.proofs.IntoLaws.{length-edges}
 use Rattle.removal_passes.proofs.BuildLaws.{candidates-slices}
 use Rattle.removal_passes.proofs.CountLaws.{list-countable, copies-countable}
 
@@ -101,10 +100,6 @@ module _ (starts flat lengths nodes gs ge gn room from to via s : List ℕ) wher
 
 -- 31, from the count of candidates
 module _ (starts flat lengths nodes gs ge gn : List ℕ) where
-  edges-length : (D : Design) (L : PathList) (G : Graph) → Given D L G starts flat lengths nodes gs ge gn → length (G .edges) ≡ length gs
-  edges-length D L G g =
-      ap length (g .edges ∙ edges-map gs ge gn (g .ends) (g .names)) ∙ length-map (upto (length gs) 0) (edgeAt gs ge gn) ∙ length-upto (length gs) 0
-
   pub work-countable : Workable starts flat lengths nodes gs ge gn → ListCountable starts flat lengths × CopiesCountable nodes
   work-countable x =
       let w = x .worked in (
@@ -126,7 +121,7 @@ module _ (starts flat lengths nodes gs ge gn : List ℕ) where
     unfolding scratchTest
     scratch-is s D L G w =
         let g = w .given in
-        λ i. unless 31 (leb (16 * (count-is D L G g i + length (sym (g .list) i .edges) + sym (edges-length D L G g) i)) (length s))
+        λ i. unless 31 (leb (16 * (count-is D L G g i + length (sym (g .list) i .edges) + sym (ap length (g .edges) ∙ length-edges gs ge gn (g .ends) (g .names)) i)) (length s))
 
     module _ (room from to via s : List ℕ) where
       pub removed-refused : leb (16 * (count + length flat + length gs)) (length s) ≡ false

@@ -7,11 +7,11 @@ use mathlib.Core.Logic.{_⊎_, inl, inr, ⊎-elim}
 use mathlib.Core.Bool.{Bool, true, false, cond, _&&_}
 use mathlib.Core.List.{List, [], _∷_, map, List·Memᴰ, List·Memᴰ·not-nil, List·Memᴰ·cases-cons}
 use lib.Dec.{T, eqb, ltb, eqb→eq, eqb-refl, ltb→lt, lt→ltb}
-use lib.ListN.{length}
+use lib.ListN.{length, length-map}
 use Rattle.timing.specs.Lists.{keep, eachNext, upto}
 use Rattle.timing.specs.Graphs.{Design, designGraph, Edge, edge, edgesOf, Graph, graph, edgesIn, edgesOut}
 use Rattle.timing.specs.WellFormed.{edgeRises}
-use Rattle.theorems.proofs.Lists.{and-intro, and-left, and-right, or-cases, or-left, or-right, of-keep}
+use Rattle.theorems.proofs.Lists.{and-intro, and-left, and-right, or-cases, or-left, or-right, of-keep, length-upto}
 use Rattle.theorems.proofs.Counting.{next-sorted}
 use Rattle.theorems.proofs.Sorting.{Sorted}
 use Rattle.theorems.proofs.Runs.{mem-in}
@@ -110,6 +110,10 @@ edges-map (s ∷ starts) (t ∷ ends) (k ∷ names) p q =
     ap (λ (l : List Edge). edge s t k ∷ l)
     (edges-map starts ends names (omega arith) (omega arith)
     ∙ sym (map-upto (edgeAt (s ∷ starts) (t ∷ ends) (k ∷ names)) (length starts) 0))
+
+pub length-edges : (starts ends names : List ℕ) → length ends ≡ length starts → length names ≡ length starts → length (edgesOf starts ends names) ≡ length starts
+length-edges starts ends names p q =
+    ap length (edges-map starts ends names p q) ∙ length-map (upto (length starts) 0) (edgeAt starts ends names) ∙ length-upto (length starts) 0
 
 keep-map : {A B : Type 0} (p : B → Bool) (f : A → B) (l : List A) → keep p (map f l) ≡ map f (keep (λ x. p (f x)) l)
 keep-map p f [] = refl

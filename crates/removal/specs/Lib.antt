@@ -1,0 +1,2 @@
+-- What the functions inside a removal ask and give.
+pub mod Numbered
