@@ -1,0 +1,2 @@
+-- Every refusal and every count fits one number of 64 bits.
+pub mod Small

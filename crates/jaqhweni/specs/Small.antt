@@ -1,0 +1,19 @@
+-- Refusals and counts that fit one number of 64 bits.
+use Prim.Native.Nat.{ℕ, _≤_}
+use Rattle.timing.specs.declared.Refusal.{Refusal}
+use Rattle.timing.specs.declared.Verdict.{Verdict}
+use Rattle.timing.specs.declared.Verdict.the-variants.{Passed, Refused}
+use Rattle.timing.specs.declared.GraphMade.{GraphMade}
+use Rattle.timing.specs.declared.GraphMade.the-variants.{Counts}
+use Rattle.timing.specs.declared.GraphMade.the-variants.{Refused as NoGraph}
+
+abbrev pub SmallRefusal : Refusal → Type 0
+SmallRefusal r = (r .number ≤ 36) × (r .place ≤ 65536)
+
+abbrev pub Small : Verdict → Type 0
+Small Passed = Unit {0}
+Small (Refused r) = SmallRefusal r
+
+abbrev pub SmallGraph : GraphMade → Type 0
+SmallGraph (Counts copies edges) = (copies ≤ 16384) × (edges ≤ 65536)
+SmallGraph (NoGraph r) = SmallRefusal r
