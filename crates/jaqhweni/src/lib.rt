@@ -8,6 +8,9 @@ ghost use Rattle.timing.specs.Graphs.{design};
 ghost use Rattle.timing.specs.Calls.{graphSlices, lentRemoval, removeFromDesign, removeFromGraph, graphAnswer, nodesAfter, startsAfter, endsAfter, namesAfter, scratchAfter, testTimes, arrivalsAfter, requiredsAfter, slacksAfter};
 ghost use Rattle.jaqhweni.specs.Numbers.{refusalNumber, graphNumber, verdictNumber};
 ghost use Rattle.jaqhweni.specs.Small.{SmallRefusal, SmallGraph, Small};
+
+mod true_graph;
+
 use timing::GraphMade;
 use timing::Refusal;
 use timing::Verdict;
