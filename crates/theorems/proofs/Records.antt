@@ -1,0 +1,176 @@
+-- The record of a node after a removal, over what the calls answer: a removal makes a graph, `times` fills the times of its
+-- copies, `node_record` looks at them. Each contract equates its call with a definition of `timing/specs/Calls`; here these
+-- definitions follow one another. Whatever a removal makes stands for the graph worked on and the list, and T4 holds of
+-- whatever stands.
+use Prim.Native.Nat.{ℕ}
+use mathlib.Core.Path.{_≡_, refl, sym, ap, _∙_, subst}
+use mathlib.Core.Bool.{Bool, true, false, _&&_}
+use mathlib.Core.List.{List, [], _∷_, _++_, map, List·Memᴰ}
+use mathlib.Core.Option.{none, some}
+use lib.Dec.{T, eqb, eqb-refl}
+use lib.IntN.{ℤ, pos}
+use lib.ListN.{length, take, drop, length-map}
+use Rattle.timing.specs.declared.Verdict.{Verdict}
+use Rattle.timing.specs.declared.Verdict.the-variants.{Passed}
+use Rattle.timing.specs.declared.NodeTimes.{NodeTimes}
+use Rattle.timing.specs.declared.NodeAnswer.{NodeAnswer}
+use Rattle.timing.specs.declared.NodeAnswer.the-variants.{Record}
+use Rattle.timing.specs.Lists.{placed, upto}
+use Rattle.timing.specs.Graphs.{Design, edgeDelay, Edge, Graph}
+use Rattle.timing.specs.Marks.{pathsOf}
+use Rattle.timing.specs.TrueGraphs.{trueGraph}
+use Rattle.timing.specs.Times.{arrivalAt, requiredAt, slackAt, nodeRecord}
+use Rattle.timing.specs.WellFormed.{wellFormed}
+use Rattle.timing.specs.Refusals.{unless}
+use Rattle.timing.specs.Tests.{sameSizes, nodeCount, designSizes, designCounts, designTests, listSizes, listTests, graphTest, roomSizes}
+use Rattle.timing.specs.Calls.{GraphSlices, graphSlices, graphOf, slicesOf, graphSizes, made, Removal, removeFromDesign, removeFromGraph, nodesAfter, startsAfter, endsAfter, namesAfter, testTimes, arrivalsAfter, requiredsAfter, slacksAfter, recordOf}
+use Rattle.timing.specs.Series.{heldAfter, wholeAfter}
+use Rattle.theorems.proofs.Lists.{holds, length-upto, getD-mem}
+use Rattle.theorems.proofs.Refusals.{then-passed, unless-passed}
+use Rattle.theorems.proofs.Stands.{Stands, true-stands, passes-inside}
+use Rattle.theorems.proofs.Legal.{Legal, fits-legal, wellFormed-legal}
+use Rattle.theorems.proofs.Nodes.{nodeTimesAt}
+use Rattle.theorems.proofs.Demand2Times.{PassesNode, PassesAt, PathTimes, record-below, design-record}
+use Rattle.theorems.proofs.Series.{graph-slices, Held, outcome-made, removed-held, series-held}
+
+-- A caller lends on the front of each room, as long as the removal answered: it holds the graph that was made.
+take-front : {A : Type 0} (xs rest : List A) → take (length xs) (xs ++ rest) ≡ xs
+take-front [] rest = refl
+take-front {A} (x ∷ xs) rest = ap (λ (l : List A). x ∷ l) (take-front xs rest)
+
+pub front-made : (H : Graph) (room : GraphSlices)
+    → graphSlices
+    (take (length (H .nodes)) (nodesAfter (made H) (room .nodes)))
+    (take (length (H .edges)) (startsAfter (made H) (room .starts)))
+    (take (length (H .edges)) (endsAfter (made H) (room .ends)))
+    (take (length (H .edges)) (namesAfter (made H) (room .names)))
+    ≡ slicesOf H
+front-made H room =
+    λ i.
+    graphSlices (take-front (H .nodes) (drop (length (H .nodes)) (room .nodes)) i) (edges (λ e. e .start) (room .starts) i) (edges (λ e. e .end) (room .ends) i) (edges (λ e. e .name) (room .names) i)
+  where
+    edges : (f : Edge → ℕ) (room : List ℕ) → take (length (H .edges)) (placed (map f (H .edges)) room) ≡ map f (H .edges)
+    edges f room =
+        ap (λ (k : ℕ). take k (placed (map f (H .edges)) room)) (sym (length-map (H .edges) f))
+        ∙ take-front (map f (H .edges)) (drop (length (map f (H .edges))) room)
+
+-- What `node_record` answers of node v, from the copies of H and what `times` leaves in the three slices that it is lent.
+abbrev pub recordAfter : Design → Graph → ℕ → List ℤ → List ℤ → List ℤ → ℕ → NodeAnswer
+recordAfter D H t ats rts sts v =
+    let S = slicesOf H in
+    let tested = testTimes D S t (length ats) (length rts) (length sts) in
+    recordOf (D .nodes) (H .nodes) (arrivalsAfter D S t tested ats) (requiredsAfter D S t tested rts) (slacksAfter D S t tested sts) v
+
+-- That answer is the record of the paths P: none exactly if there is no such path, and otherwise their three times.
+pub record RecordOfPaths (D : Design) (H : Graph) (t : ℕ) (ats rts sts : List ℤ) (v : ℕ) (P : List Edge → List Edge → Type 0) : Type 0 where
+  pub times : NodeTimes
+  pub answer : recordAfter D H t ats rts sts v ≡ Record (record { node = v; times = times })
+  pub paths : PathTimes (edgeDelay D) (pos t) P times
+
+-- the tests of `node_record` pass on slices that `times` filled
+same-sizes : (n a b : ℕ) → a ≡ n → b ≡ n → sameSizes n a b ≡ Passed
+same-sizes n a b p q = rw (p, q) (go (eqb n n) (eqb-refl n))
+  where
+    go : (b : Bool) → T b → unless 30 (b && b) ≡ Passed
+    go true h = refl
+    go false h = absurd h
+
+count-passed : (D : Design) → designTests D ≡ Passed → nodeCount (D .nodes) ≡ Passed
+unfolding designTests
+count-passed D e = then-passed (nodeCount (D .nodes)) _ (then-passed (designCounts D) _ e .0) .0
+
+times-count : (D : Design) (S : GraphSlices) (t a r s : ℕ) → testTimes D S t a r s ≡ Passed → nodeCount (D .nodes) ≡ Passed
+unfolding testTimes
+times-count D S t a r s e =
+    let n = length (S .nodes) in
+    let e₁ = then-passed (designSizes D) _ e in
+    let e₂ = then-passed (graphSizes S) _ (e₁ .1) in
+    let e₃ = then-passed (sameSizes n a r) _ (e₂ .1) in
+    let e₄ = then-passed (sameSizes n n s) _ (e₃ .1) in
+    count-passed D (then-passed (designTests D) _ (e₄ .1) .0)
+
+record-passed : (n : ℕ) (nodes : List ℕ) (ats rts sts : List ℤ) (v : ℕ) → length ats ≡ length nodes → length rts ≡ length nodes → length sts ≡ length nodes
+    → nodeCount n ≡ Passed → recordOf n nodes ats rts sts v ≡ Record (nodeRecord n nodes ats rts sts v)
+unfolding recordOf
+record-passed n nodes ats rts sts v p q r c =
+    rw (same-sizes (length nodes) (length ats) (length rts) p q, same-sizes (length nodes) (length nodes) (length sts) refl r, c)
+
+-- an earlier graph that a removal works on is legal
+further-legal : (D : Design) (S : GraphSlices) (r : Removal) (H : Graph) → removeFromGraph D S r ≡ made H
+    → Legal D (graphOf S) × (trueGraph (graphOf S) (pathsOf (r .list)) ≡ H)
+unfolding removeFromGraph
+further-legal D S r H e =
+    let o = outcome-made _ (trueGraph (graphOf S) (pathsOf (r .list))) H e in
+    let t₁ = then-passed (designSizes D) _ (o .0) in
+    let t₂ = then-passed (listSizes (r .list)) _ (t₁ .1) in
+    let t₃ = then-passed (graphSizes S) _ (t₂ .1) in
+    let t₄ = then-passed (roomSizes (r .room)) _ (t₃ .1) in
+    let t₅ = then-passed (designTests D) _ (t₄ .1) in
+    let t₆ = then-passed (listTests D (r .list)) _ (t₅ .1) in
+    let t₇ = then-passed (graphTest D (graphOf S)) _ (t₆ .1) in
+    let w = wellFormed D (graphOf S) in
+    (wellFormed-legal D (graphOf S) (t₁ .0) (t₅ .0) (holds w (unless-passed 32 w (t₇ .0))), o .1)
+
+-- what the slices hold where `times` passes: a time of each copy
+module _ (D : Design) (H : Graph) (t : ℕ) (ats rts sts : List ℤ) (tested : testTimes D (slicesOf H) t (length ats) (length rts) (length sts) ≡ Passed) where
+  arrivals-filled : arrivalsAfter D (slicesOf H) t (testTimes D (slicesOf H) t (length ats) (length rts) (length sts)) ats
+      ≡ map (arrivalAt (edgeDelay D) (pos t) H) (upto (length (H .nodes)) 0)
+  unfolding arrivalsAfter
+  arrivals-filled =
+      ap (λ (w : Verdict). arrivalsAfter D (slicesOf H) t w ats) tested
+      ∙ ap (λ (G : Graph). map (arrivalAt (edgeDelay D) (pos t) G) (upto (length (H .nodes)) 0)) (graph-slices H)
+
+  requireds-filled : requiredsAfter D (slicesOf H) t (testTimes D (slicesOf H) t (length ats) (length rts) (length sts)) rts
+      ≡ map (requiredAt (edgeDelay D) (pos t) H) (upto (length (H .nodes)) 0)
+  unfolding requiredsAfter
+  requireds-filled =
+      ap (λ (w : Verdict). requiredsAfter D (slicesOf H) t w rts) tested
+      ∙ ap (λ (G : Graph). map (requiredAt (edgeDelay D) (pos t) G) (upto (length (H .nodes)) 0)) (graph-slices H)
+
+  slacks-filled : slacksAfter D (slicesOf H) t (testTimes D (slicesOf H) t (length ats) (length rts) (length sts)) sts
+      ≡ map (slackAt (edgeDelay D) (pos t) H) (upto (length (H .nodes)) 0)
+  unfolding slacksAfter
+  slacks-filled =
+      ap (λ (w : Verdict). slacksAfter D (slicesOf H) t w sts) tested
+      ∙ ap (λ (G : Graph). map (slackAt (edgeDelay D) (pos t) G) (upto (length (H .nodes)) 0)) (graph-slices H)
+
+  each : (f : ℕ → ℤ) → length (map f (upto (length (H .nodes)) 0)) ≡ length (H .nodes)
+  each f = length-map (upto (length (H .nodes)) 0) f ∙ length-upto (length (H .nodes)) 0
+
+  pub record-after : (v : ℕ) → recordAfter D H t ats rts sts v ≡ Record (record { node = v; times = nodeTimesAt (edgeDelay D) (pos t) H (D .nodes) v })
+  record-after v =
+      (λ i. recordOf (D .nodes) (H .nodes) (arrivals-filled i) (requireds-filled i) (slacks-filled i) v)
+      ∙ record-passed (D .nodes) (H .nodes) _ _ _ v (each (arrivalAt (edgeDelay D) (pos t) H)) (each (requiredAt (edgeDelay D) (pos t) H)) (each (slackAt (edgeDelay D) (pos t) H))
+      (times-count D (slicesOf H) t (length ats) (length rts) (length sts) tested)
+
+  held-record : (L : List (List ℕ)) → Held D L H → (v : ℕ) → RecordOfPaths D H t ats rts sts v (PassesAt D L v)
+  held-record L held v = record {
+    times = nodeTimesAt (edgeDelay D) (pos t) H (D .nodes) v;
+    answer = record-after v;
+    paths = design-record D H L (fits-legal D (held .fit) .rising) (held .stands) v (edgeDelay D) (pos t);
+  }
+
+  -- After a removal from the design, the record of any node is that of the design's permitted complete paths through it.
+  pub removed-record : (r : Removal) → removeFromDesign D r ≡ made H → (v : ℕ) → RecordOfPaths D H t ats rts sts v (PassesAt D (pathsOf (r .list)) v)
+  removed-record r e = held-record (pathsOf (r .list)) (removed-held D r H e)
+
+  -- After a series, the record of any node is that of the design's complete paths through it that the whole list permits.
+  pub series-record : (rs : List Removal) → heldAfter D none rs ≡ some H
+      → (L : List (List ℕ)) × (wholeAfter D none rs ≡ some L) × ((v : ℕ) → RecordOfPaths D H t ats rts sts v (PassesAt D L v))
+  series-record rs e = let h = series-held D rs H e in (h .0, h .1, held-record (h .0) (h .2))
+
+  -- After a removal from any earlier graph, however it was made: of that graph's permitted complete paths through a copy of
+  -- the node.
+  pub further-record : (S : GraphSlices) (r : Removal) → removeFromGraph D S r ≡ made H
+      → (v : ℕ) → RecordOfPaths D H t ats rts sts v (PassesNode (graphOf S) (pathsOf (r .list)) v)
+  further-record S r e v =
+      let l = further-legal D S r H e in
+      let K = pathsOf (r .list) in
+      record {
+        times = nodeTimesAt (edgeDelay D) (pos t) H (D .nodes) v;
+        answer = record-after v;
+        paths =
+            record-below (graphOf S) H K (l .0 .rising) (subst (Stands (graphOf S) K) (l .1) (true-stands (graphOf S) K (l .0 .rising)))
+            v (edgeDelay D) (pos t) (D .nodes)
+            (λ p q (c, n, s, h). l .0 .below v (subst (λ (x : ℕ). List·Memᴰ x (S .nodes)) n (getD-mem (S .nodes) c 0 (passes-inside (l .0 .rising) s))));
+      }
