@@ -2,14 +2,16 @@
 -- copies, `node_record` looks at them. Each contract equates its call with a definition of `timing/specs/Calls`; here these
 -- definitions follow one another. Whatever a removal makes stands for the graph worked on and the list, and T4 holds of
 -- whatever stands.
-use Prim.Native.Nat.{ℕ}
+use Prim.Native.Nat.{ℕ, _<_}
 use mathlib.Core.Path.{_≡_, refl, sym, ap, _∙_, subst}
 use mathlib.Core.Bool.{Bool, true, false, _&&_}
 use mathlib.Core.List.{List, [], _∷_, _++_, map, List·Memᴰ}
 use mathlib.Core.Option.{none, some}
+use native.Mathlib.Omega.{arith}
 use lib.Dec.{T, eqb, eqb-refl}
 use lib.IntN.{ℤ, pos}
-use lib.ListN.{length, take, drop, length-map}
+use lib.ListN.{length, getD, take, drop, length-map}
+use lib.Seq.{take-append-seam}
 use Rattle.timing.specs.declared.Verdict.{Verdict}
 use Rattle.timing.specs.declared.Verdict.the-variants.{Passed}
 use Rattle.timing.specs.declared.NodeTimes.{NodeTimes}
@@ -19,25 +21,21 @@ use Rattle.timing.specs.Lists.{placed, upto}
 use Rattle.timing.specs.Graphs.{Design, edgeDelay, Edge, Graph}
 use Rattle.timing.specs.Marks.{pathsOf}
 use Rattle.timing.specs.TrueGraphs.{trueGraph}
-use Rattle.timing.specs.Times.{arrivalAt, requiredAt, slackAt, nodeRecord}
+use Rattle.timing.specs.Times.{arrivalAt, requiredAt, slackAt, nodeTimes, nodeRecord}
 use Rattle.timing.specs.WellFormed.{wellFormed}
 use Rattle.timing.specs.Refusals.{unless}
 use Rattle.timing.specs.Tests.{sameSizes, nodeCount, designSizes, designCounts, designTests, listSizes, listTests, graphTest, roomSizes}
-use Rattle.timing.specs.Calls.{GraphSlices, graphSlices, graphOf, slicesOf, graphSizes, made, Removal, removeFromDesign, removeFromGraph, nodesAfter, startsAfter, endsAfter, namesAfter, testTimes, arrivalsAfter, requiredsAfter, slacksAfter, recordOf}
+use Rattle.timing.specs.Calls.{GraphSlices, graphSlices, graphOf, slicesOf, graphSizes, made, Removal, removeFromDesign, removeFromGraph, nodesAfter, startsAfter, endsAfter, namesAfter, testTimes, arrivalsAfter, requiredsAfter, slacksAfter, recordOf, recordsAfter}
 use Rattle.timing.specs.Series.{heldAfter, wholeAfter}
 use Rattle.theorems.proofs.Lists.{holds, length-upto, getD-mem}
 use Rattle.theorems.proofs.Refusals.{then-passed, unless-passed}
 use Rattle.theorems.proofs.Stands.{Stands, true-stands, passes-inside}
 use Rattle.theorems.proofs.Legal.{Legal, fits-legal, wellFormed-legal}
-use Rattle.theorems.proofs.Nodes.{nodeTimesAt}
+use Rattle.theorems.proofs.Nodes.{at-copy, nodeTimesAt}
 use Rattle.theorems.proofs.Demand2Times.{PassesNode, PassesAt, PathTimes, record-below, design-record}
 use Rattle.theorems.proofs.Series.{graph-slices, Held, outcome-made, removed-held, series-held}
 
 -- A caller lends on the front of each room, as long as the removal answered: it holds the graph that was made.
-take-front : {A : Type 0} (xs rest : List A) → take (length xs) (xs ++ rest) ≡ xs
-take-front [] rest = refl
-take-front {A} (x ∷ xs) rest = ap (λ (l : List A). x ∷ l) (take-front xs rest)
-
 pub front-made : (H : Graph) (room : GraphSlices)
     → graphSlices
     (take (length (H .nodes)) (nodesAfter (made H) (room .nodes)))
@@ -47,12 +45,12 @@ pub front-made : (H : Graph) (room : GraphSlices)
     ≡ slicesOf H
 front-made H room =
     λ i.
-    graphSlices (take-front (H .nodes) (drop (length (H .nodes)) (room .nodes)) i) (edges (λ e. e .start) (room .starts) i) (edges (λ e. e .end) (room .ends) i) (edges (λ e. e .name) (room .names) i)
+    graphSlices (take-append-seam (H .nodes) (drop (length (H .nodes)) (room .nodes)) i) (edges (λ e. e .start) (room .starts) i) (edges (λ e. e .end) (room .ends) i) (edges (λ e. e .name) (room .names) i)
   where
     edges : (f : Edge → ℕ) (room : List ℕ) → take (length (H .edges)) (placed (map f (H .edges)) room) ≡ map f (H .edges)
     edges f room =
         ap (λ (k : ℕ). take k (placed (map f (H .edges)) room)) (sym (length-map (H .edges) f))
-        ∙ take-front (map f (H .edges)) (drop (length (map f (H .edges))) room)
+        ∙ take-append-seam (map f (H .edges)) (drop (length (map f (H .edges))) room)
 
 -- What `node_record` answers of node v, from the copies of H and what `times` leaves in the three slices that it is lent.
 abbrev pub recordAfter : Design → Graph → ℕ → List ℤ → List ℤ → List ℤ → ℕ → NodeAnswer
@@ -142,6 +140,22 @@ module _ (D : Design) (H : Graph) (t : ℕ) (ats rts sts : List ℤ) (tested : t
       (λ i. recordOf (D .nodes) (H .nodes) (arrivals-filled i) (requireds-filled i) (slacks-filled i) v)
       ∙ record-passed (D .nodes) (H .nodes) _ _ _ v (each (arrivalAt (edgeDelay D) (pos t) H)) (each (requiredAt (edgeDelay D) (pos t) H)) (each (slackAt (edgeDelay D) (pos t) H))
       (times-count D (slicesOf H) t (length ats) (length rts) (length sts) tested)
+
+  -- and what `node_records` leaves at the place of node v tells the same record
+  pub records-after : {A : Type 0} (z : A) (f : NodeTimes → A) (room : List A) (v : ℕ) → v < D .nodes
+      → getD
+      (recordsAfter f (D .nodes) (H .nodes)
+      (arrivalsAfter D (slicesOf H) t (testTimes D (slicesOf H) t (length ats) (length rts) (length sts)) ats)
+      (requiredsAfter D (slicesOf H) t (testTimes D (slicesOf H) t (length ats) (length rts) (length sts)) rts)
+      (slacksAfter D (slicesOf H) t (testTimes D (slicesOf H) t (length ats) (length rts) (length sts)) sts)
+      Passed room)
+      v z
+      ≡ f (nodeTimesAt (edgeDelay D) (pos t) H (D .nodes) v)
+  unfolding recordsAfter
+  records-after z f room v h =
+      (λ i. getD (map (λ w. f (nodeTimes (D .nodes) (H .nodes) (arrivals-filled i) (requireds-filled i) (slacks-filled i) w)) (upto (D .nodes) 0)) v z)
+      ∙ at-copy z (λ w. f (nodeTimesAt (edgeDelay D) (pos t) H (D .nodes) w)) (D .nodes) 0 v h
+      ∙ ap (λ (w : ℕ). f (nodeTimesAt (edgeDelay D) (pos t) H (D .nodes) w)) (omega arith)
 
   held-record : (L : List (List ℕ)) → Held D L H → (v : ℕ) → RecordOfPaths D H t ats rts sts v (PassesAt D L v)
   held-record L held v = record {

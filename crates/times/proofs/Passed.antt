@@ -29,7 +29,7 @@ pub record Ready (D : Design) (S : GraphSlices) (t arrivals requireds slacks : �
   pub requireds-size : requireds ≡ length (S .nodes)
   pub slacks-size : slacks ≡ length (S .nodes)
 
-same-passed : (a b c : ℕ) → sameSizes a b c ≡ Passed → (b ≡ a) × (c ≡ a)
+pub same-passed : (a b c : ℕ) → sameSizes a b c ≡ Passed → (b ≡ a) × (c ≡ a)
 same-passed a b c e =
     let t = holds (eqb a b && eqb a c) (unless-passed 30 (eqb a b && eqb a c) e) in
     (sym (eqb→eq a b (and-left (eqb a b) (eqb a c) t)), sym (eqb→eq a c (and-right (eqb a b) (eqb a c) t)))
