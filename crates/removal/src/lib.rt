@@ -1,12 +1,251 @@
-// Removal of listed paths from the design and from an earlier true graph.
-//
-// All tables stand in the lent scratch, each at an offset: `s[base + i]` is entry i of the table at
-// `base`. Nothing is written to the room before 33 and 34 are settled.
-mod bounds;
-mod build;
-mod chains;
-mod fill;
-mod listed;
-mod rows;
-mod show;
-mod step;
+// Removal of listed paths, from the design and from an earlier true graph. The room is four slices:
+// the node of each copy, and the start copy, the end copy and the design edge of each edge. A
+// refusal changes nothing in it, and places past the result stay as they are.
+ghost use mathlib.Core.Path.{_≡_};
+ghost use Prim.Native.Nat.{ℕ, _≤_, _<_};
+ghost use lib.ListN.{length};
+ghost use Rattle.timing.specs.Lists.{upto};
+ghost use Rattle.timing.specs.Graphs.{design};
+ghost use Rattle.timing.specs.Marks.{pathList};
+ghost use Rattle.timing.specs.Refusals.{_then_};
+ghost use Rattle.timing.specs.Tests.{sameSizes, designSizes, listSizes, designTests, listTests, graphTest};
+ghost use Rattle.timing.specs.Calls.{graphSlices, graphOf, lentRemoval, removeFromDesign, removeFromGraph, graphAnswer, nodesAfter, startsAfter, endsAfter, namesAfter, scratchAfter};
+ghost use Rattle.removal.specs.Numbered.{Numberable, DesignRemoved};
+use design::and_design_tests;
+use design::and_list_sizes;
+use design::and_list_tests;
+use design::design_sizes;
+use graph::and_graph_test;
+use removal_passes::remove::remove;
+use timing::GraphMade;
+use timing::Verdict;
+use timing::same_sizes;
+use timing::then;
+
+// The tests of a design and a list: 30, with those of the call's other slices between, and then 10
+// to 14 and 20 to 24.
+fn list_tests(
+    n: u32,
+    starts: &[u32],
+    ends: &[u32],
+    delays: &[i32],
+    listed: &[u32],
+    lengths: &[u32],
+    others: Verdict,
+) -> Verdict
+    ensures { λ r. ⌜ r ≡ (designSizes (design n (now (starts .entry)) (now (ends .entry)) (now (delays .entry))) then listSizes (pathList (now (listed .entry)) (now (lengths .entry))) then others then designTests (design n (now (starts .entry)) (now (ends .entry)) (now (delays .entry))) then listTests (design n (now (starts .entry)) (now (ends .entry)) (now (delays .entry))) (pathList (now (listed .entry)) (now (lengths .entry)))) ⌝ }
+{
+    let slices = design_sizes(starts, ends, delays);
+    let sums = and_list_sizes(slices, listed, lengths);
+    let sizes = then(sums, others);
+    let fit = and_design_tests(sizes, n, starts, ends, delays);
+    and_list_tests(fit, starts, ends, listed, lengths)
+}
+
+// Writes each place's own number to it.
+fn number_places(t: &mut [u32])
+    requires { ⌜ length (now t) ≤ 16384 ⌝ }
+    ensures { λ r. ⌜ now (t .exit) ≡ upto (length (now (t .entry))) 0 ⌝ }
+{
+    let mut i = 0;
+    while i < t.len() {
+        t[i] = i as u32;
+        i += 1;
+    }
+}
+
+// Removal from a design that has passed its tests. As a graph it has a copy for each node and an
+// edge for each edge, each of its own number: the numbers are written to two slices first.
+fn remove_numbered(
+    starts: &[u32],
+    ends: &[u32],
+    listed: &[u32],
+    lengths: &[u32],
+    numbers: &mut [u32],
+    names: &mut [u32],
+    nodes: &mut [u32],
+    from: &mut [u32],
+    to: &mut [u32],
+    via: &mut [u32],
+    scratch: &mut [u32],
+) -> GraphMade
+    requires { ⌜ Numberable (now starts) (now ends) (now listed) (now lengths) (length (now numbers)) (length (now names)) (now from) (now to) (now via) ⌝ }
+    ensures { λ r. ⌜ DesignRemoved (now (starts .entry)) (now (ends .entry)) (now (listed .entry)) (now (lengths .entry)) (length (now (numbers .entry))) r (now (nodes .entry)) (now (from .entry)) (now (to .entry)) (now (via .entry)) (now (scratch .entry)) (now (nodes .exit)) (now (from .exit)) (now (to .exit)) (now (via .exit)) (now (scratch .exit)) ⌝ }
+{
+    number_places(numbers);
+    number_places(names);
+    remove(
+        starts,
+        listed,
+        lengths,
+        numbers,
+        starts,
+        ends,
+        names,
+        nodes,
+        from,
+        to,
+        via,
+        scratch,
+    )
+}
+
+// The same with room for the numbers of as many nodes and edges as a design can have.
+fn remove_tested(
+    n: usize,
+    starts: &[u32],
+    ends: &[u32],
+    listed: &[u32],
+    lengths: &[u32],
+    numbers: &mut [u32],
+    names: &mut [u32],
+    nodes: &mut [u32],
+    from: &mut [u32],
+    to: &mut [u32],
+    via: &mut [u32],
+    scratch: &mut [u32],
+) -> GraphMade
+    requires { ⌜ Numberable (now starts) (now ends) (now listed) (now lengths) n (length (now starts)) (now from) (now to) (now via) ⌝ }
+    requires { ⌜ (length (now numbers) ≡ 4096) × (length (now names) ≡ 16384) ⌝ }
+    ensures { λ r. ⌜ DesignRemoved (now (starts .entry)) (now (ends .entry)) (now (listed .entry)) (now (lengths .entry)) n r (now (nodes .entry)) (now (from .entry)) (now (to .entry)) (now (via .entry)) (now (scratch .entry)) (now (nodes .exit)) (now (from .exit)) (now (to .exit)) (now (via .exit)) (now (scratch .exit)) ⌝ }
+{
+    let m = starts.len();
+    remove_numbered(
+        starts,
+        ends,
+        listed,
+        lengths,
+        &mut numbers[..n],
+        &mut names[..m],
+        nodes,
+        from,
+        to,
+        via,
+        scratch,
+    )
+}
+
+// The true graph of a design and a list of paths.
+pub fn remove_from_design(
+    n: u32,
+    starts: &[u32],
+    ends: &[u32],
+    delays: &[i32],
+    listed: &[u32],
+    lengths: &[u32],
+    nodes: &mut [u32],
+    from: &mut [u32],
+    to: &mut [u32],
+    via: &mut [u32],
+    scratch: &mut [u32],
+) -> GraphMade
+    ensures { λ r. ⌜ r ≡ graphAnswer (removeFromDesign (design n (now (starts .entry)) (now (ends .entry)) (now (delays .entry))) (lentRemoval (now (listed .entry)) (now (lengths .entry)) (now (nodes .entry)) (now (from .entry)) (now (to .entry)) (now (via .entry)) (now (scratch .entry)))) ⌝ }
+    ensures { λ r. ⌜ now (nodes .exit) ≡ nodesAfter (removeFromDesign (design n (now (starts .entry)) (now (ends .entry)) (now (delays .entry))) (lentRemoval (now (listed .entry)) (now (lengths .entry)) (now (nodes .entry)) (now (from .entry)) (now (to .entry)) (now (via .entry)) (now (scratch .entry)))) (now (nodes .entry)) ⌝ }
+    ensures { λ r. ⌜ now (from .exit) ≡ startsAfter (removeFromDesign (design n (now (starts .entry)) (now (ends .entry)) (now (delays .entry))) (lentRemoval (now (listed .entry)) (now (lengths .entry)) (now (nodes .entry)) (now (from .entry)) (now (to .entry)) (now (via .entry)) (now (scratch .entry)))) (now (from .entry)) ⌝ }
+    ensures { λ r. ⌜ now (to .exit) ≡ endsAfter (removeFromDesign (design n (now (starts .entry)) (now (ends .entry)) (now (delays .entry))) (lentRemoval (now (listed .entry)) (now (lengths .entry)) (now (nodes .entry)) (now (from .entry)) (now (to .entry)) (now (via .entry)) (now (scratch .entry)))) (now (to .entry)) ⌝ }
+    ensures { λ r. ⌜ now (via .exit) ≡ namesAfter (removeFromDesign (design n (now (starts .entry)) (now (ends .entry)) (now (delays .entry))) (lentRemoval (now (listed .entry)) (now (lengths .entry)) (now (nodes .entry)) (now (from .entry)) (now (to .entry)) (now (via .entry)) (now (scratch .entry)))) (now (via .entry)) ⌝ }
+    ensures { λ r. ⌜ now (scratch .exit) ≡ scratchAfter (removeFromDesign (design n (now (starts .entry)) (now (ends .entry)) (now (delays .entry))) (lentRemoval (now (listed .entry)) (now (lengths .entry)) (now (nodes .entry)) (now (from .entry)) (now (to .entry)) (now (via .entry)) (now (scratch .entry)))) (now (scratch .entry)) ⌝ }
+{
+    let room = same_sizes(from.len(), to.len(), via.len());
+    let verdict = list_tests(n, starts, ends, delays, listed, lengths, room);
+    if let Verdict::Refused(r) = verdict {
+        return GraphMade::Refused(r);
+    }
+    let mut numbers = [0u32; 4096];
+    let mut names = [0u32; 16384];
+    remove_tested(
+        n as usize,
+        starts,
+        ends,
+        listed,
+        lengths,
+        &mut numbers,
+        &mut names,
+        nodes,
+        from,
+        to,
+        via,
+        scratch,
+    )
+}
+
+// The tests of a removal from an earlier true graph that come before 31.
+fn graph_tests(
+    n: u32,
+    starts: &[u32],
+    ends: &[u32],
+    delays: &[i32],
+    listed: &[u32],
+    lengths: &[u32],
+    copies: &[u32],
+    gs: &[u32],
+    ge: &[u32],
+    gn: &[u32],
+    room: Verdict,
+) -> Verdict
+    ensures { λ r. ⌜ r ≡ (designSizes (design n (now (starts .entry)) (now (ends .entry)) (now (delays .entry))) then listSizes (pathList (now (listed .entry)) (now (lengths .entry))) then sameSizes (length (now (gs .entry))) (length (now (ge .entry))) (length (now (gn .entry))) then room then designTests (design n (now (starts .entry)) (now (ends .entry)) (now (delays .entry))) then listTests (design n (now (starts .entry)) (now (ends .entry)) (now (delays .entry))) (pathList (now (listed .entry)) (now (lengths .entry))) then graphTest (design n (now (starts .entry)) (now (ends .entry)) (now (delays .entry))) (graphOf (graphSlices (now (copies .entry)) (now (gs .entry)) (now (ge .entry)) (now (gn .entry))))) ⌝ }
+{
+    let earlier = same_sizes(gs.len(), ge.len(), gn.len());
+    let others = then(earlier, room);
+    let fit = list_tests(n, starts, ends, delays, listed, lengths, others);
+    and_graph_test(fit, n, starts, ends, copies, gs, ge, gn)
+}
+
+// What is left of an earlier true graph (`copies`, `gs`, `ge`, `gn`) after a
+// further list of paths.
+pub fn remove_from_graph(
+    n: u32,
+    starts: &[u32],
+    ends: &[u32],
+    delays: &[i32],
+    listed: &[u32],
+    lengths: &[u32],
+    copies: &[u32],
+    gs: &[u32],
+    ge: &[u32],
+    gn: &[u32],
+    nodes: &mut [u32],
+    from: &mut [u32],
+    to: &mut [u32],
+    via: &mut [u32],
+    scratch: &mut [u32],
+) -> GraphMade
+    ensures { λ r. ⌜ r ≡ graphAnswer (removeFromGraph (design n (now (starts .entry)) (now (ends .entry)) (now (delays .entry))) (graphSlices (now (copies .entry)) (now (gs .entry)) (now (ge .entry)) (now (gn .entry))) (lentRemoval (now (listed .entry)) (now (lengths .entry)) (now (nodes .entry)) (now (from .entry)) (now (to .entry)) (now (via .entry)) (now (scratch .entry)))) ⌝ }
+    ensures { λ r. ⌜ now (nodes .exit) ≡ nodesAfter (removeFromGraph (design n (now (starts .entry)) (now (ends .entry)) (now (delays .entry))) (graphSlices (now (copies .entry)) (now (gs .entry)) (now (ge .entry)) (now (gn .entry))) (lentRemoval (now (listed .entry)) (now (lengths .entry)) (now (nodes .entry)) (now (from .entry)) (now (to .entry)) (now (via .entry)) (now (scratch .entry)))) (now (nodes .entry)) ⌝ }
+    ensures { λ r. ⌜ now (from .exit) ≡ startsAfter (removeFromGraph (design n (now (starts .entry)) (now (ends .entry)) (now (delays .entry))) (graphSlices (now (copies .entry)) (now (gs .entry)) (now (ge .entry)) (now (gn .entry))) (lentRemoval (now (listed .entry)) (now (lengths .entry)) (now (nodes .entry)) (now (from .entry)) (now (to .entry)) (now (via .entry)) (now (scratch .entry)))) (now (from .entry)) ⌝ }
+    ensures { λ r. ⌜ now (to .exit) ≡ endsAfter (removeFromGraph (design n (now (starts .entry)) (now (ends .entry)) (now (delays .entry))) (graphSlices (now (copies .entry)) (now (gs .entry)) (now (ge .entry)) (now (gn .entry))) (lentRemoval (now (listed .entry)) (now (lengths .entry)) (now (nodes .entry)) (now (from .entry)) (now (to .entry)) (now (via .entry)) (now (scratch .entry)))) (now (to .entry)) ⌝ }
+    ensures { λ r. ⌜ now (via .exit) ≡ namesAfter (removeFromGraph (design n (now (starts .entry)) (now (ends .entry)) (now (delays .entry))) (graphSlices (now (copies .entry)) (now (gs .entry)) (now (ge .entry)) (now (gn .entry))) (lentRemoval (now (listed .entry)) (now (lengths .entry)) (now (nodes .entry)) (now (from .entry)) (now (to .entry)) (now (via .entry)) (now (scratch .entry)))) (now (via .entry)) ⌝ }
+    ensures { λ r. ⌜ now (scratch .exit) ≡ scratchAfter (removeFromGraph (design n (now (starts .entry)) (now (ends .entry)) (now (delays .entry))) (graphSlices (now (copies .entry)) (now (gs .entry)) (now (ge .entry)) (now (gn .entry))) (lentRemoval (now (listed .entry)) (now (lengths .entry)) (now (nodes .entry)) (now (from .entry)) (now (to .entry)) (now (via .entry)) (now (scratch .entry)))) (now (scratch .entry)) ⌝ }
+{
+    let room = same_sizes(from.len(), to.len(), via.len());
+    let verdict = graph_tests(
+        n,
+        starts,
+        ends,
+        delays,
+        listed,
+        lengths,
+        copies,
+        gs,
+        ge,
+        gn,
+        room,
+    );
+    if let Verdict::Refused(r) = verdict {
+        return GraphMade::Refused(r);
+    }
+    remove(
+        starts,
+        listed,
+        lengths,
+        copies,
+        gs,
+        ge,
+        gn,
+        nodes,
+        from,
+        to,
+        via,
+        scratch,
+    )
+}

@@ -1,21 +1,21 @@
 -- What document 01's tests say where they pass, as statements: 30 and 10 to 14 of a design, 30 and 20 to 24 of a list of
 -- paths, 32 of a graph.
 use Prim.Native.Nat.{ℕ, _≤_, _<_}
-use mathlib.Core.Path.{_≡_, sym, subst}
+use mathlib.Core.Path.{_≡_, refl, sym, subst}
 use mathlib.Core.Bool.{Bool, true, false, not, _&&_}
-use mathlib.Core.List.{List, List·Memᴰ}
+use mathlib.Core.List.{List, [], List·Memᴰ}
 use native.Mathlib.Omega.{arith}
 use lib.Dec.{T, eqb, ltb, leb, eqb→eq, eqb-refl, leb→le, ltb→lt, lt→ltb}
-use lib.IntN.{natAbs}
+use lib.IntN.{ℤ, natAbs}
 use lib.ListN.{length}
 use Rattle.timing.specs.declared.Verdict.{Verdict}
 use Rattle.timing.specs.declared.Verdict.the-variants.{Passed}
 use Rattle.timing.specs.Lists.{isNil, anyOf, allOf, eachNext, upto, sum}
-use Rattle.timing.specs.Graphs.{Design, edgeStart, edgeEnd, edgeDelay, Edge, Graph, nodeOf}
+use Rattle.timing.specs.Graphs.{Design, design, edgeStart, edgeEnd, edgeDelay, Edge, Graph, designGraph, nodeOf}
 use Rattle.timing.specs.Marks.{PathList, pathsOf}
 use Rattle.timing.specs.WellFormed.{fewEnough, nodesFit, edgeFits, edgeRises, oneSinkCopy, linked, wellFormed}
 use Rattle.timing.specs.Refusals.{unless, firstBad, _then_}
-use Rattle.timing.specs.Tests.{designSizes, listSizes, nodeCount, designCounts, strays, falls, tooSlow, designTests, listCounts, meets, listTests}
+use Rattle.timing.specs.Tests.{designSizes, listSizes, nodeCount, designCounts, strays, falls, tooSlow, designTests, listCounts, meets, listTests, graphTest}
 use Rattle.theorems.proofs.Lists.{and-intro, and-left, and-right, holds, mem-upto, of-upto, allOf-elim, allOf-intro, anyOf-false}
 use Rattle.theorems.proofs.Refusals.{then-passed, unless-passed, firstBad-passed}
 
@@ -74,6 +74,19 @@ design-fits D s t =
 
     inside : (k : ℕ) → k < m → T (ltb (edgeStart D k) (D .nodes) && ltb (edgeEnd D k) (D .nodes))
     inside k h = not-false (ltb (edgeStart D k) (D .nodes) && ltb (edgeEnd D k) (D .nodes)) (firstBad-passed 12 (strays D) 0 ks (after12 .0) k (mem k h))
+
+-- 10 is among them
+pub tests-count : (D : Design) → designTests D ≡ Passed → nodeCount (D .nodes) ≡ Passed
+unfolding designTests
+tests-count D e =
+    let ks = upto (length (D .starts)) 0 in
+    then-passed (nodeCount (D .nodes)) (unless 11 (leb (length (D .starts)) 16384))
+    (then-passed (designCounts D) (firstBad 12 (strays D) 0 ks then firstBad 13 (falls D) 0 ks then firstBad 14 (tooSlow D) 0 ks) e .0) .0
+
+-- 32 asks no delays
+pub no-delays : (n : ℕ) (starts ends : List ℕ) (delays : List ℤ) (G : Graph) → graphTest (design n starts ends []) G ≡ graphTest (design n starts ends delays) G
+unfolding wellFormed designGraph
+no-delays n starts ends delays G = refl
 
 -- what tests 30 and 20 to 24 say of a list of paths
 pub record ListFits (D : Design) (L : PathList) : Type 0 where

@@ -26,7 +26,7 @@ use Rattle.timing.specs.declared.NodeAnswer.the-variants.{Record}
 use Rattle.timing.specs.declared.NodeAnswer.the-variants.{Refused as NoRecord}
 use Rattle.timing.specs.Lists.{placed, upto}
 use Rattle.timing.specs.Graphs.{Design, edgeDelay, Graph, graph, edgesOf, designGraph}
-use Rattle.timing.specs.Marks.{PathList, pathsOf}
+use Rattle.timing.specs.Marks.{PathList, pathList, pathsOf}
 use Rattle.timing.specs.TrueGraphs.{trueGraph}
 use Rattle.timing.specs.Times.{arrivalAt, requiredAt, slackAt, nodeRecord}
 use Rattle.timing.specs.Numbers.{writeAnswer, writtenRoom}
@@ -90,6 +90,11 @@ pub record Removal : Type 0 where
 
 abbrev pub removal : PathList → Room → ℕ → Removal
 removal L R words = record { list = L; room = R; scratch = words }
+
+-- the same from what a call is lent: the list's two slices, the room's four and the scratch
+abbrev pub lentRemoval : List ℕ → List ℕ → List ℕ → List ℕ → List ℕ → List ℕ → List ℕ → Removal
+lentRemoval listed lengths nodes starts ends names scratch =
+    removal (pathList listed lengths) (roomOf (graphSlices nodes starts ends names)) (length scratch)
 
 -- the result of a removal from a graph, tested for scratch and room
 abbrev pub removalTests : Design → Graph → Removal → Verdict

@@ -3,7 +3,7 @@
 ghost use mathlib.Core.Path.{_≡_};
 ghost use lib.IntN.{pos};
 ghost use lib.ListN.{getD};
-ghost use Rattle.timing.specs.Refusals.{refusal};
+ghost use Rattle.timing.specs.Refusals.{refusal, _then_};
 ghost use Rattle.timing.specs.Refusals.{unless as passedIf};
 ghost use Rattle.timing.specs.Tests.{sameSizes};
 
@@ -52,6 +52,16 @@ pub fn unless(number: u32, fit: bool) -> Verdict
         Verdict::Passed
     } else {
         Verdict::Refused(refuse(number, 0))
+    }
+}
+
+// One test, and the next where it passes.
+pub fn then(first: Verdict, next: Verdict) -> Verdict
+    ensures { λ r. ⌜ r ≡ (first then next) ⌝ }
+{
+    match first {
+        Verdict::Passed => next,
+        Verdict::Refused(r) => Verdict::Refused(r),
     }
 }
 

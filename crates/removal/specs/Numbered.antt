@@ -1,0 +1,26 @@
+-- Removal from a design that has passed its tests, as a graph whose copies and edges have their own numbers.
+use Prim.Native.Nat.{ℕ, _≤_}
+use mathlib.Core.Path.{_≡_}
+use mathlib.Core.List.{List}
+use lib.IntN.{ℤ}
+use lib.ListN.{length}
+use Rattle.timing.specs.declared.GraphMade.{GraphMade}
+use Rattle.timing.specs.Graphs.{Design, design, designGraph}
+use Rattle.timing.specs.Marks.{PathList, pathList}
+use Rattle.theorems.proofs.Tested.{DesignFits, ListFits}
+use Rattle.removal_passes.specs.Fill.{SameRooms}
+use Rattle.removal_passes.specs.Remove.{Removed, removalOutcome}
+
+-- a design and a list that pass their tests, with as many numbers as nodes and as edges
+pub record Numberable (starts ends listed lengths : List ℕ) (n m : ℕ) (from to via : List ℕ) : Type 0 where
+  pub delays : List ℤ
+  pub design-fits : DesignFits (design n starts ends delays)
+  pub list-fits : ListFits (design n starts ends delays) (pathList listed lengths)
+  pub numbers : m ≡ length starts
+  pub same : SameRooms from to via
+
+-- the removal, whatever the delays are
+unfoldable pub DesignRemoved : List ℕ → List ℕ → List ℕ → List ℕ → ℕ → GraphMade → List ℕ → List ℕ → List ℕ → List ℕ → List ℕ → List ℕ → List ℕ → List ℕ → List ℕ → List ℕ → Type 0
+DesignRemoved starts ends listed lengths n r nodes from to via s nodes′ from′ to′ via′ s′ =
+    (delays : List ℤ) → DesignFits (design n starts ends delays) → ListFits (design n starts ends delays) (pathList listed lengths)
+    → Removed (removalOutcome (design n starts ends delays) (pathList listed lengths) (designGraph (design n starts ends delays)) nodes from to via s) r nodes from to via s nodes′ from′ to′ via′ s′
