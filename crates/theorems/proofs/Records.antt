@@ -5,7 +5,7 @@
 use Prim.Native.Nat.{ℕ, _<_}
 use mathlib.Core.Path.{_≡_, refl, sym, ap, _∙_, subst}
 use mathlib.Core.Bool.{Bool, true, false, _&&_}
-use mathlib.Core.List.{List, [], _∷_, _++_, map, List·Memᴰ}
+use mathlib.Core.List.{List, map, List·Memᴰ}
 use mathlib.Core.Option.{none, some}
 use native.Mathlib.Omega.{arith}
 use lib.Dec.{T, eqb, eqb-refl}
@@ -24,12 +24,13 @@ use Rattle.timing.specs.TrueGraphs.{trueGraph}
 use Rattle.timing.specs.Times.{arrivalAt, requiredAt, slackAt, nodeTimes, nodeRecord}
 use Rattle.timing.specs.WellFormed.{wellFormed}
 use Rattle.timing.specs.Refusals.{unless}
-use Rattle.timing.specs.Tests.{sameSizes, nodeCount, designSizes, designCounts, designTests, listSizes, listTests, graphTest, roomSizes}
+use Rattle.timing.specs.Tests.{sameSizes, nodeCount, designSizes, designTests, listSizes, listTests, graphTest, roomSizes}
 use Rattle.timing.specs.Calls.{GraphSlices, graphSlices, graphOf, slicesOf, graphSizes, made, Removal, removeFromDesign, removeFromGraph, nodesAfter, startsAfter, endsAfter, namesAfter, testTimes, arrivalsAfter, requiredsAfter, slacksAfter, recordOf, recordsAfter}
 use Rattle.timing.specs.Series.{heldAfter, wholeAfter}
 use Rattle.theorems.proofs.Lists.{holds, length-upto, getD-mem}
 use Rattle.theorems.proofs.Refusals.{then-passed, unless-passed}
 use Rattle.theorems.proofs.Stands.{Stands, true-stands, passes-inside}
+use Rattle.theorems.proofs.Tested.{tests-count}
 use Rattle.theorems.proofs.Legal.{Legal, fits-legal, wellFormed-legal}
 use Rattle.theorems.proofs.Nodes.{at-copy, nodeTimesAt}
 use Rattle.theorems.proofs.Demand2Times.{PassesNode, PassesAt, PathTimes, record-below, design-record}
@@ -73,10 +74,6 @@ same-sizes n a b p q = rw (p, q) (go (eqb n n) (eqb-refl n))
     go true h = refl
     go false h = absurd h
 
-count-passed : (D : Design) → designTests D ≡ Passed → nodeCount (D .nodes) ≡ Passed
-unfolding designTests
-count-passed D e = then-passed (nodeCount (D .nodes)) _ (then-passed (designCounts D) _ e .0) .0
-
 times-count : (D : Design) (S : GraphSlices) (t a r s : ℕ) → testTimes D S t a r s ≡ Passed → nodeCount (D .nodes) ≡ Passed
 unfolding testTimes
 times-count D S t a r s e =
@@ -85,7 +82,7 @@ times-count D S t a r s e =
     let e₂ = then-passed (graphSizes S) _ (e₁ .1) in
     let e₃ = then-passed (sameSizes n a r) _ (e₂ .1) in
     let e₄ = then-passed (sameSizes n n s) _ (e₃ .1) in
-    count-passed D (then-passed (designTests D) _ (e₄ .1) .0)
+    tests-count D (then-passed (designTests D) _ (e₄ .1) .0)
 
 record-passed : (n : ℕ) (nodes : List ℕ) (ats rts sts : List ℤ) (v : ℕ) → length ats ≡ length nodes → length rts ≡ length nodes → length sts ≡ length nodes
     → nodeCount n ≡ Passed → recordOf n nodes ats rts sts v ≡ Record (nodeRecord n nodes ats rts sts v)

@@ -24,6 +24,7 @@ use timing::NodeAnswer;
 use timing::NodeRecord;
 use timing::NodeTimes;
 use timing::Verdict;
+use timing::then;
 
 const NO_ARRIVAL: i64 = -9223372036854775808;
 
@@ -305,9 +306,8 @@ fn times_sizes(
 {
     let first = design::design_sizes(starts, ends, delays);
     let joined = timing::same_sizes(gs.len(), ge.len(), gn.len());
-    let lent = timing::same_sizes(copies, arrivals, requireds);
-    let third = timing::same_sizes(copies, copies, slacks);
-    then(first, then(joined, then(lent, third)))
+    let lent = copy_sizes(copies, arrivals, requireds, slacks);
+    then(first, then(joined, lent))
 }
 
 fn times_tests(
@@ -459,23 +459,21 @@ fn over_copies(
     t
 }
 
-// One test, and the next where it passes.
-fn then(first: Verdict, next: Verdict) -> Verdict
-    ensures { λ r. ⌜ r ≡ (first then next) ⌝ }
+// 30 for the slices that hold what is known of each copy.
+fn copy_sizes(copies: usize, arrivals: usize, requireds: usize, slacks: usize) -> Verdict
+    ensures { λ r. ⌜ r ≡ (sameSizes copies arrivals requireds then sameSizes copies copies slacks) ⌝ }
 {
-    match first {
-        Verdict::Passed => next,
-        Verdict::Refused(r) => Verdict::Refused(r),
-    }
+    let sizes = timing::same_sizes(copies, arrivals, requireds);
+    let more = timing::same_sizes(copies, copies, slacks);
+    then(sizes, more)
 }
 
 fn record_tests(n: u32, copies: usize, arrivals: usize, requireds: usize, slacks: usize) -> Verdict
     ensures { λ r. ⌜ r ≡ (sameSizes copies arrivals requireds then sameSizes copies copies slacks then nodeCount n) ⌝ }
 {
-    let sizes = timing::same_sizes(copies, arrivals, requireds);
-    let more = timing::same_sizes(copies, copies, slacks);
+    let sizes = copy_sizes(copies, arrivals, requireds, slacks);
     let count = timing::unless(10, n <= 4096);
-    then(sizes, then(more, count))
+    then(sizes, count)
 }
 
 fn node_times(
@@ -535,12 +533,11 @@ fn records_tests(
     ensures { λ r. ⌜ r ≡ (sameSizes copies arrivals requireds then sameSizes copies copies slacks then sameSizes n known na then sameSizes n nr ns then nodeCount n) ⌝ }
 {
     let places = n as usize;
-    let sizes = timing::same_sizes(copies, arrivals, requireds);
-    let more = timing::same_sizes(copies, copies, slacks);
+    let sizes = copy_sizes(copies, arrivals, requireds, slacks);
     let lent = timing::same_sizes(places, known, na);
     let others = timing::same_sizes(places, nr, ns);
     let count = timing::unless(10, n <= 4096);
-    then(sizes, then(more, then(lent, then(others, count))))
+    then(sizes, then(lent, then(others, count)))
 }
 
 // The answer of `node_records`, and the slices afterwards, from what its tests answered.
