@@ -105,7 +105,7 @@ few-rooms R G e =
     let y = leb→le (length (G .edges)) (min (R .starts) 65536) (holds b (unless-passed 34 b (t .1))) in
     and-intro (leb (length (G .nodes)) 16384) (leb (length (G .edges)) 65536) (le→leb (length (G .nodes)) 16384 (omega arith)) (le→leb (length (G .edges)) 65536 (omega arith))
 
-removal-few : (D : Design) (G : Graph) (r : Removal) → removalTests D G r ≡ Passed → T (fewEnough (trueGraph G (pathsOf (r .list))))
+pub removal-few : (D : Design) (G : Graph) (r : Removal) → removalTests D G r ≡ Passed → T (fewEnough (trueGraph G (pathsOf (r .list))))
 removal-few D G r e =
     few-rooms (r .room) (trueGraph G (pathsOf (r .list)))
     (then-passed (scratchTest D G (r .list) (r .scratch)) (roomTests (r .room) (trueGraph G (pathsOf (r .list)))) e .1)
@@ -264,12 +264,6 @@ series D (r ∷ rs) whole held h =
     let s = step D whole held r h in
     let n = series D rs (wholeNext whole r (verdictAlone D whole r)) (heldNext held (removeNext D held r)) (s .1) in
     (λ i. s .0 i ∷ n .0 i, n .1)
-
--- what a removal from the design makes is held for its list
-pub removed-held : (D : Design) (r : Removal) (H : Graph) → removeFromDesign D r ≡ made H → Held D (pathsOf (r .list)) H
-removed-held D r H e =
-    let o = outcome-made (designVerdict D r) (trueGraph (designGraph D) (pathsOf (r .list))) H (sym (from-design D r) ∙ e) in
-    subst (Held D (pathsOf (r .list))) (o .1) (first-held D r (o .0))
 
 -- the graph held after a series is held for the whole list
 pub series-held : (D : Design) (rs : List Removal) (H : Graph) → heldAfter D none rs ≡ some H
