@@ -378,6 +378,15 @@ def node_record(nodes, copy_nodes, arrivals, requireds, slacks, node):
     return Times(max(arrivals[copy] for copy in copies), min(requireds[copy] for copy in copies),
                  min(slacks[copy] for copy in copies))
 
+def node_records(nodes, copy_nodes, arrivals, requireds, slacks, places, asked=None):
+    """The call for the records of all nodes; places are the lengths of its four result slices, one
+    place for each node. The records of the asked nodes, or of all."""
+    refuse(slices_refusal([(len(copy_nodes), len(arrivals), len(requireds), len(slacks)), (nodes,) + tuple(places)]))
+    if nodes > MOST_NODES:
+        raise Refused(10)
+    return [node_record(nodes, copy_nodes, arrivals, requireds, slacks, node)
+            for node in (range(nodes) if asked is None else asked)]
+
 # ---- Packed form ---------------------------------------------------------------------------
 
 def read_number(data, place):

@@ -1,8 +1,8 @@
 use Prim.Native.Nat.{_-_, _≤_}
 use native.Mathlib.Omega.{arith}
 use borrow.Author.Needs.{needs}
-use Rattle.unfit_cases.proofs.run_graphs.Statement.{statement}
-use Rattle.unfit_cases.proofs.run_graphs.Tie as tie
+use Rattle.times_cases.proofs.run.Statement.{statement}
+use Rattle.times_cases.proofs.run.Tie as tie
 
 abbrev Inv-loop : tie.InvT-loop
 Inv-loop s count at₀ i₀ at i = i ≤ count .value
@@ -16,8 +16,8 @@ number-requires c κs = search needs
 loop-holds : tie.Need-loop-holds Inv-loop μ-loop
 loop-holds c = omega arith
 
-graph-case-requires : tie.Need-graph-case-requires Inv-loop μ-loop
-graph-case-requires c κs = search needs
+case-requires : tie.Need-case-requires Inv-loop μ-loop
+case-requires c κs = search needs
 
 add-i : tie.Need-add-i Inv-loop μ-loop
 add-i c = omega arith
@@ -31,15 +31,15 @@ loop-again c = omega arith
 returns : tie.Need-returns Inv-loop μ-loop
 returns c = search needs
 
-pub run-graphs-spec : {M : Type 1} → statement M
-run-graphs-spec =
+pub run-spec : {M : Type 1} → statement M
+run-spec =
     tie.close
     (tie.spec
     Inv-loop
     μ-loop
     number-requires
     loop-holds
-    graph-case-requires
+    case-requires
     add-i
     loop-less
     loop-again

@@ -2,8 +2,8 @@
 use native.Mathlib.Omega.{arith}
 use lib.ListN.{length-take}
 use borrow.Author.Needs.{needs}
-use Rattle.unfit_cases.proofs.graph_of.Statement.{statement}
-use Rattle.unfit_cases.proofs.graph_of.Tie as tie
+use Rattle.times_cases.proofs.graph_of.Statement.{statement}
+use Rattle.times_cases.proofs.graph_of.Tie as tie
 
 slice-aggregate-fill : tie.Need-slice-aggregate-fill
 slice-aggregate-fill c = search needs

@@ -2,8 +2,8 @@ use Prim.Native.Nat.{_-_, _≤_}
 use native.Mathlib.Omega.{arith}
 use lib.ListN.{length}
 use borrow.Author.Needs.{needs}
-use Rattle.unfit_cases.proofs.say_copies.Statement.{statement}
-use Rattle.unfit_cases.proofs.say_copies.Tie as tie
+use Rattle.times_cases.proofs.say_copies.Statement.{statement}
+use Rattle.times_cases.proofs.say_copies.Tie as tie
 
 abbrev Inv-loop : tie.InvT-loop
 Inv-loop arrivals requireds slacks len k₀ k = (k ≤ len) × (len ≤ length arrivals) × (len ≤ length requireds) × (len ≤ length slacks)
@@ -20,26 +20,26 @@ least-requires-2 c κs = search needs
 loop-holds : tie.Need-loop-holds Inv-loop μ-loop
 loop-holds c = (omega arith, omega arith, omega arith, omega arith)
 
-mul-say-times : tie.Need-mul-say-times Inv-loop μ-loop
-mul-say-times c = omega arith
+mul-say-copy : tie.Need-mul-say-copy Inv-loop μ-loop
+mul-say-copy c = omega arith
 
-shared-slice-copy-out-say-times : tie.Need-shared-slice-copy-out-say-times Inv-loop μ-loop
-shared-slice-copy-out-say-times c = omega arith
+shared-slice-copy-out-say-copy : tie.Need-shared-slice-copy-out-say-copy Inv-loop μ-loop
+shared-slice-copy-out-say-copy c = omega arith
 
-mul-say-times-2 : tie.Need-mul-say-times-2 Inv-loop μ-loop
-mul-say-times-2 c = omega arith
+mul-say-copy-2 : tie.Need-mul-say-copy-2 Inv-loop μ-loop
+mul-say-copy-2 c = omega arith
 
-shared-slice-copy-out-say-times-2 : tie.Need-shared-slice-copy-out-say-times-2 Inv-loop μ-loop
-shared-slice-copy-out-say-times-2 c = omega arith
+shared-slice-copy-out-say-copy-2 : tie.Need-shared-slice-copy-out-say-copy-2 Inv-loop μ-loop
+shared-slice-copy-out-say-copy-2 c = omega arith
 
-mul-say-times-3 : tie.Need-mul-say-times-3 Inv-loop μ-loop
-mul-say-times-3 c = omega arith
+mul-say-copy-3 : tie.Need-mul-say-copy-3 Inv-loop μ-loop
+mul-say-copy-3 c = omega arith
 
-shared-slice-copy-out-say-times-3 : tie.Need-shared-slice-copy-out-say-times-3 Inv-loop μ-loop
-shared-slice-copy-out-say-times-3 c = omega arith
+shared-slice-copy-out-say-copy-3 : tie.Need-shared-slice-copy-out-say-copy-3 Inv-loop μ-loop
+shared-slice-copy-out-say-copy-3 c = omega arith
 
-say-times-requires : tie.Need-say-times-requires Inv-loop μ-loop
-say-times-requires c κs = search needs
+say-copy-requires : tie.Need-say-copy-requires Inv-loop μ-loop
+say-copy-requires c κs = search needs
 
 add-k : tie.Need-add-k Inv-loop μ-loop
 add-k c = omega arith
@@ -62,13 +62,13 @@ say-copies-spec =
     least-requires
     least-requires-2
     loop-holds
-    mul-say-times
-    shared-slice-copy-out-say-times
-    mul-say-times-2
-    shared-slice-copy-out-say-times-2
-    mul-say-times-3
-    shared-slice-copy-out-say-times-3
-    say-times-requires
+    mul-say-copy
+    shared-slice-copy-out-say-copy
+    mul-say-copy-2
+    shared-slice-copy-out-say-copy-2
+    mul-say-copy-3
+    shared-slice-copy-out-say-copy-3
+    say-copy-requires
     add-k
     loop-less
     loop-again

@@ -2,8 +2,8 @@
 use native.Mathlib.Omega.{arith}
 use lib.ListN.{length-take}
 use borrow.Author.Needs.{needs}
-use Rattle.unfit_cases.proofs.ask.Statement.{statement}
-use Rattle.unfit_cases.proofs.ask.Tie as tie
+use Rattle.times_cases.proofs.ask.Statement.{statement}
+use Rattle.times_cases.proofs.ask.Tie as tie
 
 cast-least : tie.Need-cast-least
 cast-least c = search needs

@@ -2,11 +2,14 @@
 use native.Mathlib.Omega.{arith}
 use lib.ListN.{length-take}
 use borrow.Author.Needs.{needs}
-use Rattle.unfit_cases.proofs.graph_case.Statement.{statement}
-use Rattle.unfit_cases.proofs.graph_case.Tie as tie
+use Rattle.times_cases.proofs.case.Statement.{statement}
+use Rattle.times_cases.proofs.case.Tie as tie
 
 read-question-requires : tie.Need-read-question-requires
 read-question-requires c κs = search needs
+
+read-places-requires : tie.Need-read-places-requires
+read-places-requires c κs = search needs
 
 slice-aggregate-fill : tie.Need-slice-aggregate-fill
 slice-aggregate-fill c = search needs
@@ -62,11 +65,12 @@ graph-of-requires c κs = search needs
 returns : tie.Need-returns
 returns c = search needs
 
-pub graph-case-spec : {M : Type 1} → statement M
-graph-case-spec =
+pub case-spec : {M : Type 1} → statement M
+case-spec =
     tie.close
     (tie.spec
     read-question-requires
+    read-places-requires
     slice-aggregate-fill
     fill-requires
     slice-aggregate-fill-2
