@@ -13,6 +13,7 @@ use timing::Written;
 mod counts;
 mod filler;
 mod looker;
+mod reader;
 mod writer;
 
 // What a look answers: the place behind what it looked at.
@@ -91,7 +92,7 @@ pub fn read_deck(
         }
         Verdict::Passed => {}
     }
-    let look = looker::look(s, starts.len(), listed.len(), lengths.len());
+    let look = reader::look_deck(s, starts.len(), listed.len(), lengths.len());
     match look {
         Verdict::Refused(r) => {
             return DeckRead::Refused(r);

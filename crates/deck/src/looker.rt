@@ -2,9 +2,8 @@
 ghost use mathlib.Core.Path.{_≡_};
 ghost use Prim.Native.Nat.{_+_, _≤_};
 ghost use Rattle.timing.specs.Parsing.{number, repeated, row};
-ghost use Rattle.timing.specs.Decks.{readDeck};
 ghost use Rattle.timing.specs.Decks.{paths as pathsOf};
-ghost use Rattle.deck.specs.Reading.{looked, verdictOf, numberOf, countIn, pathIn, tailIn, listIn, edgesIn};
+ghost use Rattle.deck.specs.Reading.{looked, verdictOf, numberOf, countIn, pathIn, tailIn, listIn, edgesIn, deckIn};
 use super::Looked;
 use super::counts::and_unless;
 use super::counts::wide;
@@ -156,11 +155,11 @@ fn look_edges(s: &[u8], at: usize, edges: usize, listed: usize, paths: usize) ->
     }
 }
 
-// The whole deck. The nodes have no table.
-pub(crate) fn look(s: &[u8], edges: usize, listed: usize, paths: usize) -> Verdict
-    ensures { λ r. ⌜ r ≡ verdictOf (readDeck (now (s .entry)) (record { edges = edges; listed = listed; paths = paths })) ⌝ }
+// The deck from a place on. The nodes have no table.
+pub(crate) fn look(s: &[u8], at: usize, edges: usize, listed: usize, paths: usize) -> Verdict
+    ensures { λ r. ⌜ r ≡ verdictOf (deckIn (now (s .entry)) (record { edges = edges; listed = listed; paths = paths }) at) ⌝ }
 {
-    let r = look_count(s, 0, 0, 10, 4096, 4096);
+    let r = look_count(s, at, 0, 10, 4096, 4096);
     match r {
         NumberRead::Value { value: _, next } => look_edges(s, next, edges, listed, paths),
         NumberRead::Refused(e) => Verdict::Refused(e),
