@@ -135,31 +135,31 @@ abbrev pub pathsEnd : List ℕ → ℕ → ℕ → ℕ
 pathsEnd s zero at = at
 pathsEnd s (suc k) at = pathsEnd s k (pathEnd s at)
 
--- where each part of the deck begins, and the deck
-abbrev pub edgesPlace : List ℕ → ℕ
-edgesPlace s = nextAt s (nextAt s 0)
+-- where each part of the deck at a place begins, and the deck
+abbrev pub edgesPlace : List ℕ → ℕ → ℕ
+edgesPlace s at = nextAt s (nextAt s at)
 
-abbrev pub edgeCount : List ℕ → ℕ
-edgeCount s = valueAt s (nextAt s 0)
+abbrev pub edgeCount : List ℕ → ℕ → ℕ
+edgeCount s at = valueAt s (nextAt s at)
 
-unfoldable pub countPlace : List ℕ → ℕ
-countPlace s = rowsEnd s (edgeCount s) (edgesPlace s)
+unfoldable pub countPlace : List ℕ → ℕ → ℕ
+countPlace s at = rowsEnd s (edgeCount s at) (edgesPlace s at)
 
-abbrev pub pathCount : List ℕ → ℕ
-pathCount s = valueAt s (countPlace s)
+abbrev pub pathCount : List ℕ → ℕ → ℕ
+pathCount s at = valueAt s (countPlace s at)
 
-abbrev pub pathsPlace : List ℕ → ℕ
-pathsPlace s = nextAt s (countPlace s)
+abbrev pub pathsPlace : List ℕ → ℕ → ℕ
+pathsPlace s at = nextAt s (countPlace s at)
 
-unfoldable pub deckFrom : List ℕ → Deck
-deckFrom s = record {
-  design = design (valueAt s 0) (startsFrom s (edgeCount s) (edgesPlace s)) (endsFrom s (edgeCount s) (edgesPlace s)) (delaysFrom s (edgeCount s) (edgesPlace s));
-  list = pathList (edgesFrom s (pathCount s) (pathsPlace s)) (lengthsFrom s (pathCount s) (pathsPlace s));
-  allowed = valueAt s (pathsEnd s (pathCount s) (pathsPlace s));
+unfoldable pub deckFrom : List ℕ → ℕ → Deck
+deckFrom s at = record {
+  design = design (valueAt s at) (startsFrom s (edgeCount s at) (edgesPlace s at)) (endsFrom s (edgeCount s at) (edgesPlace s at)) (delaysFrom s (edgeCount s at) (edgesPlace s at));
+  list = pathList (edgesFrom s (pathCount s at) (pathsPlace s at)) (lengthsFrom s (pathCount s at) (pathsPlace s at));
+  allowed = valueAt s (pathsEnd s (pathCount s at) (pathsPlace s at));
 }
 
 -- the deck fits the tables
-pub record Fits (s : List ℕ) (tables : Tables) : Type 0 where
-  pub edges : edgeCount s ≤ tables .edges
-  pub paths : pathCount s ≤ tables .paths
-  pub listed : length (edgesFrom s (pathCount s) (pathsPlace s)) ≤ tables .listed
+pub record Fits (s : List ℕ) (at : ℕ) (tables : Tables) : Type 0 where
+  pub edges : edgeCount s at ≤ tables .edges
+  pub paths : pathCount s at ≤ tables .paths
+  pub listed : length (edgesFrom s (pathCount s at) (pathsPlace s at)) ≤ tables .listed

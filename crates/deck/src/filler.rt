@@ -129,13 +129,19 @@ fn fill_paths(s: &[u8], at: usize, count: usize, listed: &mut [u32], lengths: &m
     }
 }
 
-// n, and the edges.
-fn fill_design(s: &[u8], starts: &mut [u32], ends: &mut [u32], delays: &mut [i32]) -> Edges
-    requires { ⌜ (edgeCount (now s) ≤ length (now starts)) × (length (now ends) ≡ length (now starts)) × (length (now delays) ≡ length (now starts)) ⌝ }
-    ensures { λ r. ⌜ (r .nodes ≡ valueAt (now (s .entry)) 0) × (r .count ≡ edgeCount (now (s .entry))) × (r .next ≡ countPlace (now (s .entry))) ⌝ }
-    ensures { λ r. ⌜ (now (starts .exit) ≡ placed (deckFrom (now (s .entry)) .design .starts) (now (starts .entry))) × (now (ends .exit) ≡ placed (deckFrom (now (s .entry)) .design .ends) (now (ends .entry))) × (now (delays .exit) ≡ placed (deckFrom (now (s .entry)) .design .delays) (now (delays .entry))) ⌝ }
+// n, and the edges, of the deck at a place.
+fn fill_design(
+    s: &[u8],
+    at: usize,
+    starts: &mut [u32],
+    ends: &mut [u32],
+    delays: &mut [i32],
+) -> Edges
+    requires { ⌜ (edgeCount (now s) at ≤ length (now starts)) × (length (now ends) ≡ length (now starts)) × (length (now delays) ≡ length (now starts)) ⌝ }
+    ensures { λ r. ⌜ (r .nodes ≡ valueAt (now (s .entry)) at) × (r .count ≡ edgeCount (now (s .entry)) at) × (r .next ≡ countPlace (now (s .entry)) at) ⌝ }
+    ensures { λ r. ⌜ (now (starts .exit) ≡ placed (deckFrom (now (s .entry)) at .design .starts) (now (starts .entry))) × (now (ends .exit) ≡ placed (deckFrom (now (s .entry)) at .design .ends) (now (ends .entry))) × (now (delays .exit) ≡ placed (deckFrom (now (s .entry)) at .design .delays) (now (delays .entry))) ⌝ }
 {
-    let n = take(s, 0);
+    let n = take(s, at);
     let second = n.next;
     let m = take(s, second);
     let rows = m.next;
@@ -148,23 +154,25 @@ fn fill_design(s: &[u8], starts: &mut [u32], ends: &mut [u32], delays: &mut [i32
     }
 }
 
+// The deck at a place.
 pub(crate) fn fill(
     s: &[u8],
+    at: usize,
     starts: &mut [u32],
     ends: &mut [u32],
     delays: &mut [i32],
     listed: &mut [u32],
     lengths: &mut [u32],
 ) -> DeckRead
-    requires { ⌜ Fits (now s) (record { edges = length (now starts); listed = length (now listed); paths = length (now lengths) }) ⌝ }
+    requires { ⌜ Fits (now s) at (record { edges = length (now starts); listed = length (now listed); paths = length (now lengths) }) ⌝ }
     requires { ⌜ (length (now ends) ≡ length (now starts)) × (length (now delays) ≡ length (now starts)) ⌝ }
-    ensures { λ r. ⌜ r ≡ deckAnswer (made (deckFrom (now (s .entry)))) ⌝ }
-    ensures { λ r. ⌜ (now (starts .exit) ≡ placed (deckFrom (now (s .entry)) .design .starts) (now (starts .entry))) × (now (ends .exit) ≡ placed (deckFrom (now (s .entry)) .design .ends) (now (ends .entry))) × (now (delays .exit) ≡ placed (deckFrom (now (s .entry)) .design .delays) (now (delays .entry))) ⌝ }
-    ensures { λ r. ⌜ (now (listed .exit) ≡ placed (deckFrom (now (s .entry)) .list .edges) (now (listed .entry))) × (now (lengths .exit) ≡ placed (deckFrom (now (s .entry)) .list .lengths) (now (lengths .entry))) ⌝ }
+    ensures { λ r. ⌜ r ≡ deckAnswer (made (deckFrom (now (s .entry)) at)) ⌝ }
+    ensures { λ r. ⌜ (now (starts .exit) ≡ placed (deckFrom (now (s .entry)) at .design .starts) (now (starts .entry))) × (now (ends .exit) ≡ placed (deckFrom (now (s .entry)) at .design .ends) (now (ends .entry))) × (now (delays .exit) ≡ placed (deckFrom (now (s .entry)) at .design .delays) (now (delays .entry))) ⌝ }
+    ensures { λ r. ⌜ (now (listed .exit) ≡ placed (deckFrom (now (s .entry)) at .list .edges) (now (listed .entry))) × (now (lengths .exit) ≡ placed (deckFrom (now (s .entry)) at .list .lengths) (now (lengths .entry))) ⌝ }
 {
-    let d = fill_design(s, starts, ends, delays);
-    let at = d.next;
-    let c = take(s, at);
+    let d = fill_design(s, at, starts, ends, delays);
+    let second = d.next;
+    let c = take(s, second);
     let first = c.next;
     let count = wide(c.value);
     let l = fill_paths(s, first, count, listed, lengths);

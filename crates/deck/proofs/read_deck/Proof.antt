@@ -87,7 +87,7 @@ returns-3 c =
     let st = z .before .before .before .before .before .before in
     let a = st .args in
     let e = f .fill .ensures in
-    tables-filled (a .starts .now) (a .ends .now) (a .delays .now) (a .listed .now) (a .lengths .now) (outcomeAt st) (deckFrom (a .s .now)) _ _ _ _ _ _
+    tables-filled (a .starts .now) (a .ends .now) (a .delays .now) (a .listed .now) (a .lengths .now) (outcomeAt st) (deckFrom (a .s .now) 0) _ _ _ _ _ _
     (read-made (a .s .now) (length (a .starts .now)) (length (a .ends .now)) (length (a .delays .now)) (length (a .listed .now)) (length (a .lengths .now))
     (sym (z .same-sizes .ensures) ∙ k .before .enum-told .given .1) (sym (k .look-deck .ensures) ∙ t .enum-told2 .given .1)) (e .0) (e .1 .0) (e .1 .1)
 

@@ -13,13 +13,13 @@ use Rattle.deck.proofs.filler.fill.Tie as tie
 abbrev tablesAt : tie.Start → Tables
 tablesAt st = record { edges = length (st .args .starts .now); listed = length (st .args .listed .now); paths = length (st .args .lengths .now) }
 
-count-is : (c : tie.After-wide) → c .wide .result ≡ pathCount (c .before .before .before .before .before .before .before .before .before .before .before .before .before .before .before .before .args .s .now)
+count-is : (c : tie.After-wide) → c .wide .result ≡ pathCount (c .before .before .before .before .before .before .before .before .before .before .before .before .before .before .before .before .args .s .now) (c .before .before .before .before .before .before .before .before .before .before .before .before .before .before .before .before .args .at)
 count-is c =
     let d = c .before .before .before .before .before .before .before in
     let s = d .before .before .before .before .before .before .before .before .before .args .s .now in
     c .wide .ensures ∙ c .before .take .ensures .0 ∙ ap (λ (n : ℕ). valueAt s n) (d .fill-design .ensures .0 .2)
 
-place-is : (c : tie.After-wide) → c .before .take .result .next ≡ pathsPlace (c .before .before .before .before .before .before .before .before .before .before .before .before .before .before .before .before .args .s .now)
+place-is : (c : tie.After-wide) → c .before .take .result .next ≡ pathsPlace (c .before .before .before .before .before .before .before .before .before .before .before .before .before .before .before .before .args .s .now) (c .before .before .before .before .before .before .before .before .before .before .before .before .before .before .before .before .args .at)
 place-is c =
     let d = c .before .before .before .before .before .before .before in
     let s = d .before .before .before .before .before .before .before .before .before .args .s .now in
@@ -38,7 +38,7 @@ fill-paths-requires : tie.Need-fill-paths-requires
 fill-paths-requires c κs =
     let w = c .before .before in
     let st = w .before .before .before .before .before .before .before .before .before .before .before .before .before .before .before .before in
-    fits-paths (st .args .s .now) (tablesAt st) _ _ (count-is w) (place-is w) (st .pre .0)
+    fits-paths (st .args .s .now) _ (tablesAt st) _ _ (count-is w) (place-is w) (st .pre .0)
 
 take-requires-2 : tie.Need-take-requires-2
 take-requires-2 c κs = search needs
@@ -73,9 +73,9 @@ returns c =
     let ai = place-is w in
     let e = p .fill-paths .ensures in
     let q = d .fill-design .ensures in
-    let f = fits-paths s (tablesAt st) _ _ ki ai (st .pre .0) in (
-      answer-is s _ _ ki ai _ _ _ _ _ (q .0 .0) (c .wide2 .ensures ∙ q .0 .1) (e .1) (e .0) (c .before .take2 .ensures .0),
-      (q .1, (listed-placed s _ _ ki ai (a .listed .now) _ (f .0) (e .2), lengths-placed s _ _ ki ai (a .lengths .now) _ (f .1) (e .3))),
+    let f = fits-paths s _ (tablesAt st) _ _ ki ai (st .pre .0) in (
+      answer-is s _ _ _ ki ai _ _ _ _ _ (q .0 .0) (c .wide2 .ensures ∙ q .0 .1) (e .1) (e .0) (c .before .take2 .ensures .0),
+      (q .1, (listed-placed s _ _ _ ki ai (a .listed .now) _ (f .0) (e .2), lengths-placed s _ _ _ ki ai (a .lengths .now) _ (f .1) (e .3))),
     )
 
 pub fill-spec : {M : Type 1} → statement M

@@ -9,12 +9,12 @@ use Rattle.deck.proofs.filler.fill_design.Statement.{statement}
 use Rattle.deck.proofs.filler.fill_design.Tie as tie
 
 -- the count of edges and their place
-count-is : (c : tie.After-wide) → c .wide .result ≡ edgeCount (c .before .before .before .before .before .before .args .s .now)
+count-is : (c : tie.After-wide) → c .wide .result ≡ edgeCount (c .before .before .before .before .before .before .args .s .now) (c .before .before .before .before .before .before .args .at)
 count-is c =
     let s = c .before .before .before .before .before .before .args .s .now in
     c .wide .ensures ∙ c .before .take2 .ensures .0 ∙ ap (λ (n : ℕ). valueAt s n) (c .before .before .take .ensures .1)
 
-place-is : (c : tie.After-wide) → c .before .take2 .result .next ≡ edgesPlace (c .before .before .before .before .before .before .args .s .now)
+place-is : (c : tie.After-wide) → c .before .take2 .result .next ≡ edgesPlace (c .before .before .before .before .before .before .args .s .now) (c .before .before .before .before .before .before .args .at)
 place-is c =
     let s = c .before .before .before .before .before .before .args .s .now in
     c .before .take2 .ensures .1 ∙ ap (λ (n : ℕ). nextAt s n) (c .before .before .take .ensures .1)
@@ -55,11 +55,11 @@ returns c =
     let mi = count-is w in
     let ai = place-is w in
     let s = a .s .now in (
-      (w .before .before .take .ensures .0, sym (w .wide .ensures) ∙ mi, count-place s _ _ mi ai _ (e .0)),
+      (w .before .before .take .ensures .0, sym (w .wide .ensures) ∙ mi, count-place s _ _ _ mi ai _ (e .0)),
       (
-        starts-placed s _ _ mi ai (a .starts .now) _ (omega (arith, p)) (e .1),
-        ends-placed s _ _ mi ai (a .ends .now) _ (omega (arith, p)) (e .2),
-        delays-placed s _ _ mi ai (a .delays .now) _ (omega (arith, p)) (e .3),
+        starts-placed s _ _ _ mi ai (a .starts .now) _ (omega (arith, p)) (e .1),
+        ends-placed s _ _ _ mi ai (a .ends .now) _ (omega (arith, p)) (e .2),
+        delays-placed s _ _ _ mi ai (a .delays .now) _ (omega (arith, p)) (e .3),
       ),
     )
 
