@@ -19,6 +19,9 @@ use Rattle.timing.specs.Delays.{delayOf}
 use Rattle.timing.specs.Refusals.{unless, _then_}
 use Rattle.timing.specs.Parsing.{Parsed, found, stopped, Reader, onward, _>>=_, _>>_, return, tested, number, repeated, Row, row, ended}
 use Rattle.timing.specs.Decks.{Deck, Tables, paths}
+use Rattle.timing.specs.Lists.{placed}
+use Rattle.timing.specs.Calls.{deckAnswer, made}
+use Rattle.timing.specs.declared.DeckRead.{DeckRead}
 use Rattle.deck.specs.declared.Looked.{Looked}
 use Rattle.deck.specs.declared.Looked.the-variants.{At, Refused}
 
@@ -163,3 +166,13 @@ pub record Fits (s : List ℕ) (at : ℕ) (tables : Tables) : Type 0 where
   pub edges : edgeCount s at ≤ tables .edges
   pub paths : pathCount s at ≤ tables .paths
   pub listed : length (edgesFrom s (pathCount s at) (pathsPlace s at)) ≤ tables .listed
+
+-- tables that a deck at a place can be put into, and what is left in them
+abbrev pub CanFill : List ℕ → ℕ → List ℕ → List ℕ → List ℤ → List ℕ → List ℕ → Type 0
+CanFill s at starts ends delays listed lengths = Fits s at (record { edges = length starts; listed = length listed; paths = length lengths }) × ((length ends ≡ length starts) × (length delays ≡ length starts))
+
+abbrev pub HasFilled : Deck → DeckRead → List ℕ → List ℕ → List ℤ → List ℕ → List ℕ → List ℕ → List ℕ → List ℤ → List ℕ → List ℕ → Type 0
+HasFilled d r starts ends delays listed lengths starts' ends' delays' listed' lengths' =
+    (r ≡ deckAnswer (made d))
+    × (((starts' ≡ placed (d .design .starts) starts) × (ends' ≡ placed (d .design .ends) ends) × (delays' ≡ placed (d .design .delays) delays))
+    × ((listed' ≡ placed (d .list .edges) listed) × (lengths' ≡ placed (d .list .lengths) lengths)))

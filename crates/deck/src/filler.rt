@@ -5,8 +5,7 @@ ghost use lib.ListN.{length, set};
 ghost use lib.Seq.{sets};
 ghost use Rattle.timing.specs.Lists.{placed};
 ghost use Rattle.timing.specs.Delays.{delayOf};
-ghost use Rattle.timing.specs.Calls.{deckAnswer, made};
-ghost use Rattle.deck.specs.Reading.{valueAt, nextAt, numbersFrom, numbersEnd, rowAt, rowEnd, startsFrom, endsFrom, delaysFrom, rowsEnd, pathEnd, edgesFrom, lengthsFrom, pathsEnd, edgesPlace, edgeCount, countPlace, deckFrom, Fits};
+ghost use Rattle.deck.specs.Reading.{valueAt, nextAt, numbersFrom, numbersEnd, rowAt, rowEnd, startsFrom, endsFrom, delaysFrom, rowsEnd, pathEnd, edgesFrom, lengthsFrom, pathsEnd, edgesPlace, edgeCount, countPlace, deckFrom, CanFill, HasFilled};
 use super::Edges;
 use super::Listed;
 use super::Taken;
@@ -164,11 +163,8 @@ pub(crate) fn fill(
     listed: &mut [u32],
     lengths: &mut [u32],
 ) -> DeckRead
-    requires { ⌜ Fits (now s) at (record { edges = length (now starts); listed = length (now listed); paths = length (now lengths) }) ⌝ }
-    requires { ⌜ (length (now ends) ≡ length (now starts)) × (length (now delays) ≡ length (now starts)) ⌝ }
-    ensures { λ r. ⌜ r ≡ deckAnswer (made (deckFrom (now (s .entry)) at)) ⌝ }
-    ensures { λ r. ⌜ (now (starts .exit) ≡ placed (deckFrom (now (s .entry)) at .design .starts) (now (starts .entry))) × (now (ends .exit) ≡ placed (deckFrom (now (s .entry)) at .design .ends) (now (ends .entry))) × (now (delays .exit) ≡ placed (deckFrom (now (s .entry)) at .design .delays) (now (delays .entry))) ⌝ }
-    ensures { λ r. ⌜ (now (listed .exit) ≡ placed (deckFrom (now (s .entry)) at .list .edges) (now (listed .entry))) × (now (lengths .exit) ≡ placed (deckFrom (now (s .entry)) at .list .lengths) (now (lengths .entry))) ⌝ }
+    requires { ⌜ CanFill (now s) at (now starts) (now ends) (now delays) (now listed) (now lengths) ⌝ }
+    ensures { λ r. ⌜ HasFilled (deckFrom (now (s .entry)) at) r (now (starts .entry)) (now (ends .entry)) (now (delays .entry)) (now (listed .entry)) (now (lengths .entry)) (now (starts .exit)) (now (ends .exit)) (now (delays .exit)) (now (listed .exit)) (now (lengths .exit)) ⌝ }
 {
     let d = fill_design(s, at, starts, ends, delays);
     let second = d.next;
