@@ -99,5 +99,5 @@ pub fn read_deck(
         }
         Verdict::Passed => {}
     }
-    filler::fill(s, 0, starts, ends, delays, listed, lengths)
+    reader::fill_deck(s, starts, ends, delays, listed, lengths)
 }

@@ -53,8 +53,8 @@ returns-2 c =
 enum-told-2 : tie.Need-enum-told-2
 enum-told-2 c = search needs
 
-fill-requires : tie.Need-fill-requires
-fill-requires c κs =
+fill-deck-requires : tie.Need-fill-deck-requires
+fill-deck-requires c κs =
     let t = c .before .before .before .before .before in
     let k = t .before .before in
     let z = k .before .before .before in
@@ -86,7 +86,7 @@ returns-3 c =
     let z = k .before .before .before in
     let st = z .before .before .before .before .before .before in
     let a = st .args in
-    let e = f .fill .ensures in
+    let e = f .fill-deck .ensures in
     tables-filled (a .starts .now) (a .ends .now) (a .delays .now) (a .listed .now) (a .lengths .now) (outcomeAt st) (deckFrom (a .s .now) 0) _ _ _ _ _ _
     (read-made (a .s .now) (length (a .starts .now)) (length (a .ends .now)) (length (a .delays .now)) (length (a .listed .now)) (length (a .lengths .now))
     (sym (z .same-sizes .ensures) ∙ k .before .enum-told .given .1) (sym (k .look-deck .ensures) ∙ t .enum-told2 .given .1)) (e .0) (e .1 .0) (e .1 .1)
@@ -103,7 +103,7 @@ read-deck-spec =
     enum-known-look
     returns-2
     enum-told-2
-    fill-requires
+    fill-deck-requires
     same-length
     same-length-2
     same-length-3
