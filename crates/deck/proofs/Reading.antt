@@ -28,10 +28,11 @@ use Rattle.timing.specs.Decks.{Deck, Tables, paths, readDeck}
 use Rattle.timing.specs.declared.DeckRead.the-variants.{Refused as NoDeck}
 use Rattle.timing.specs.Tests.{sameSizes}
 use Rattle.timing.specs.Calls.{Outcome, made, refused, parsed, filled, deckRead, deckAnswer}
-use Rattle.deck.specs.Reading.{verdictOf, valueOf, nextOf, valueAt, nextAt, numbersFrom, numbersEnd, rowAt, rowEnd, rowsFrom, rowsEnd, startsFrom, endsFrom, delaysFrom, pathEnd, edgesFrom, lengthsFrom, pathsEnd, edgesPlace, edgeCount, countPlace, pathCount, pathsPlace, deckFrom, Fits}
-use Rattle.deck.proofs.Tests.{then-passed, unless-passed}
+use Rattle.timing.specs.Looks.{valueOf, nextOf, valueAt, nextAt, rowAt, rowEnd}
+use Rattle.deck.specs.Reading.{verdictOf, numbersFrom, numbersEnd, rowsFrom, rowsEnd, startsFrom, endsFrom, delaysFrom, pathEnd, edgesFrom, lengthsFrom, pathsEnd, edgesPlace, edgeCount, countPlace, pathCount, pathsPlace, deckFrom, Fits}
+use Rattle.timing.proofs.Verdicts.{then-passed, unless-passed}
 use Rattle.deck.proofs.Looking.{count-passed}
-use Rattle.deck.proofs.Writing.{sets-append}
+use Rattle.packed.proofs.Rooms.{sets-append}
 use borrow.Author.Tests.{leb-true}
 
 -- what is so of anything that was found
@@ -203,14 +204,6 @@ read-refused (found d at) r e = absurd (let z : _≡_ {A = ℕ} 0 1 = cc in omeg
 read-refused (stopped q) r e = let d : q ≡ r = cc in ap refused d
 
 -- Filling: a number at a place.
-pub take-value : (s : List ℕ) (at v next : ℕ) → readNumber s at ≡ Value v next → (v ≡ valueAt s at) × (next ≡ nextAt s at)
-unfolding valueAt nextAt
-take-value s at v next e = rw e (refl, refl)
-
-pub take-none : (s : List ℕ) (at : ℕ) (r : Refusal) → readNumber s at ≡ NotRead r → (0 ≡ valueAt s at) × (at ≡ nextAt s at)
-unfolding valueAt nextAt
-take-none s at r e = rw e (refl, refl)
-
 -- a row, number by number
 pub row-is : (s : List ℕ) (at v a w b x c : ℕ) → (v ≡ valueAt s at) × (a ≡ nextAt s at) → (w ≡ valueAt s a) × (b ≡ nextAt s a) → (x ≡ valueAt s b) × (c ≡ nextAt s b)
     → (c ≡ rowEnd s at) × (v ≡ rowAt s at .first) × (w ≡ rowAt s at .second) × (x ≡ rowAt s at .third)

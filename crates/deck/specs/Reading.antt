@@ -1,5 +1,4 @@
--- Reading in two goes. The look: where a reader of `timing` stops, whatever it found. The fill: the numbers that stand at
--- a place, taken without a test, since the look passed.
+-- Reading in two goes, a look and a fill (`Looks` of `timing`).
 use Prim.Native.Nat.{ℕ, zero, suc, _+_, _≤_}
 use mathlib.Core.Path.{_≡_}
 use mathlib.Core.List.{List, [], _∷_, _++_, map}
@@ -9,34 +8,21 @@ use lib.ListN.{length}
 use Rattle.timing.specs.declared.Verdict.{Verdict}
 use Rattle.timing.specs.declared.Verdict.the-variants.{Passed}
 use Rattle.timing.specs.declared.Verdict.the-variants.{Refused as NotPassed}
-use Rattle.timing.specs.declared.NumberRead.{NumberRead}
-use Rattle.timing.specs.declared.NumberRead.the-variants.{Value}
-use Rattle.timing.specs.declared.NumberRead.the-variants.{Refused as NotRead}
 use Rattle.timing.specs.Graphs.{design}
 use Rattle.timing.specs.Marks.{PathList, pathList}
-use Rattle.timing.specs.Numbers.{readNumber}
 use Rattle.timing.specs.Delays.{delayOf}
 use Rattle.timing.specs.Refusals.{unless, _then_}
 use Rattle.timing.specs.Parsing.{Parsed, found, stopped, Reader, onward, _>>=_, _>>_, return, tested, number, repeated, Row, row, ended}
+use Rattle.timing.specs.Looks.{valueAt, nextAt, rowAt, rowEnd}
 use Rattle.timing.specs.Decks.{Deck, Tables, paths}
 use Rattle.timing.specs.Lists.{placed}
 use Rattle.timing.specs.Calls.{deckAnswer, made}
 use Rattle.timing.specs.declared.DeckRead.{DeckRead}
-use Rattle.deck.specs.declared.Looked.{Looked}
-use Rattle.deck.specs.declared.Looked.the-variants.{At, Refused}
 
--- where a reader stopped, and whether it did
-abbrev pub looked : {A : Type 0} → Parsed A → Looked
-looked (found x at) = At at
-looked (stopped r) = Refused r
-
+-- whether a reader stopped
 abbrev pub verdictOf : {A : Type 0} → Parsed A → Verdict
 verdictOf (found x at) = Passed
 verdictOf (stopped r) = NotPassed r
-
-abbrev pub numberOf : Parsed ℕ → NumberRead
-numberOf (found x at) = Value x at
-numberOf (stopped r) = NotRead r
 
 -- a count: a number whose sum with what was counted before is at most a limit, and then at most a table
 abbrev pub countIn : List ℕ → ℕ → ℕ → ℕ → ℕ → Reader ℕ
@@ -75,21 +61,6 @@ deckIn s tables = do
   n ← countIn s 0 10 4096 4096
   edgesIn s tables
 
--- the number at a place and the place behind it
-abbrev pub valueOf : NumberRead → ℕ
-valueOf (Value v next) = v
-valueOf (NotRead r) = 0
-
-abbrev pub nextOf : ℕ → NumberRead → ℕ
-nextOf at (Value v next) = next
-nextOf at (NotRead r) = at
-
-unfoldable pub valueAt : List ℕ → ℕ → ℕ
-valueAt s at = valueOf (readNumber s at)
-
-unfoldable pub nextAt : List ℕ → ℕ → ℕ
-nextAt s at = nextOf at (readNumber s at)
-
 -- k numbers from a place on, and the place behind them
 abbrev pub numbersFrom : List ℕ → ℕ → ℕ → List ℕ
 numbersFrom s zero at = []
@@ -98,12 +69,6 @@ numbersFrom s (suc k) at = valueAt s at ∷ numbersFrom s k (nextAt s at)
 abbrev pub numbersEnd : List ℕ → ℕ → ℕ → ℕ
 numbersEnd s zero at = at
 numbersEnd s (suc k) at = numbersEnd s k (nextAt s at)
-
-abbrev pub rowAt : List ℕ → ℕ → Row
-rowAt s at = record { first = valueAt s at; second = valueAt s (nextAt s at); third = valueAt s (nextAt s (nextAt s at)) }
-
-abbrev pub rowEnd : List ℕ → ℕ → ℕ
-rowEnd s at = nextAt s (nextAt s (nextAt s at))
 
 abbrev pub rowsFrom : List ℕ → ℕ → ℕ → List Row
 rowsFrom s zero at = []

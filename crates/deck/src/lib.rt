@@ -6,7 +6,6 @@ ghost use Rattle.timing.specs.Decks.{packedDeck};
 ghost use lib.ListN.{length};
 ghost use Rattle.timing.specs.Calls.{deckWriteTests, writing, roomAfterWriting, filled, deckRead, deckAnswer};
 use timing::DeckRead;
-use timing::Refusal;
 use timing::Verdict;
 use timing::Written;
 
@@ -15,18 +14,6 @@ mod filler;
 mod looker;
 mod reader;
 mod writer;
-
-// What a look answers: the place behind what it looked at.
-enum Looked {
-    At(usize),
-    Refused(Refusal),
-}
-
-// A number and the place behind it.
-struct Taken {
-    value: u32,
-    next: usize,
-}
 
 // The place behind the paths, and how many edges they list.
 struct Listed {

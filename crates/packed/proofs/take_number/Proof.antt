@@ -1,9 +1,9 @@
 -- A number is found, or nothing is.
 use mathlib.Core.Path.{refl, sym, _∙_}
-use Rattle.graph.specs.Reading.{valueAt, nextAt}
+use Rattle.timing.specs.Looks.{valueAt, nextAt}
 use borrow.Author.Needs.{needs}
-use Rattle.graph.proofs.reader.found_at.Statement.{statement}
-use Rattle.graph.proofs.reader.found_at.Tie as tie
+use Rattle.packed.proofs.take_number.Statement.{statement}
+use Rattle.packed.proofs.take_number.Tie as tie
 
 read-number-requires : tie.Need-read-number-requires
 read-number-requires c κs = search needs
@@ -28,5 +28,5 @@ returns-2 c =
     let e = sym (n .read-number .ensures) ∙ c .enum-told .given .1 in
     rw e (refl, refl)
 
-pub found-at-spec : {M : Type 1} → statement M
-found-at-spec = tie.close (tie.spec read-number-requires enum-known-r enum-told returns returns-2)
+pub take-number-spec : {M : Type 1} → statement M
+take-number-spec = tie.close (tie.spec read-number-requires enum-known-r enum-told returns returns-2)

@@ -4,10 +4,10 @@ use native.Mathlib.Omega.{arith}
 use mathlib.Core.Path.{_≡_, sym, _∙_}
 use borrow.Author.Needs.{needs}
 use Rattle.timing.specs.Parsing.{number, repeated}
-use Rattle.graph.specs.Reading.{looked}
-use Rattle.graph.proofs.Looking.{numbers-turn, numbers-stop, numbers-all, numbers-end}
-use Rattle.graph.proofs.reader.look_numbers.Statement.{statement}
-use Rattle.graph.proofs.reader.look_numbers.Tie as tie
+use Rattle.timing.specs.Looks.{looked}
+use Rattle.packed.proofs.Looking.{numbers-turn, numbers-stop, numbers-all, numbers-end}
+use Rattle.packed.proofs.look_numbers.Statement.{statement}
+use Rattle.packed.proofs.look_numbers.Tie as tie
 
 abbrev Inv-loop : tie.InvT-loop
 Inv-loop s at k here₀ i₀ here i = (i ≤ k) × (looked (repeated (k - i) (number s) here) ≡ looked (repeated k (number s) at))
