@@ -2,8 +2,8 @@
 use super::say;
 use cases::fill;
 use cases::least;
-use cases::number;
 use cases::unpack;
+use packed::take_number;
 use print::refused;
 use print::text;
 use timing::DeckRead;
@@ -215,12 +215,12 @@ struct Sizes {
 }
 
 fn read_sizes(s: &[u8], at: usize) -> Sizes {
-    let a = number(s, at);
-    let b = number(s, a.next);
-    let c = number(s, b.next);
-    let d = number(s, c.next);
-    let e = number(s, d.next);
-    let f = number(s, e.next);
+    let a = take_number(s, at);
+    let b = take_number(s, a.next);
+    let c = take_number(s, b.next);
+    let d = take_number(s, c.next);
+    let e = take_number(s, d.next);
+    let f = take_number(s, e.next);
     Sizes {
         starts: a.value,
         ends: b.value,
@@ -311,9 +311,9 @@ struct Asked {
 }
 
 fn read_asked(s: &[u8], at: usize) -> Asked {
-    let n = number(s, at);
-    let t = number(s, n.next);
-    let r = number(s, t.next);
+    let n = take_number(s, at);
+    let t = take_number(s, n.next);
+    let r = take_number(s, t.next);
     Asked {
         nodes: n.value,
         allowed: t.value,

@@ -2,7 +2,7 @@
 use super::say;
 use cases::fill;
 use cases::least;
-use cases::number;
+use packed::take_number;
 use print::refused;
 use print::text;
 use timing::GraphMade;
@@ -95,11 +95,11 @@ struct Sizes {
 }
 
 fn read_sizes(s: &[u8], at: usize) -> Sizes {
-    let a = number(s, at);
-    let b = number(s, a.next);
-    let c = number(s, b.next);
-    let d = number(s, c.next);
-    let e = number(s, d.next);
+    let a = take_number(s, at);
+    let b = take_number(s, a.next);
+    let c = take_number(s, b.next);
+    let d = take_number(s, c.next);
+    let e = take_number(s, d.next);
     Sizes {
         nodes: a.value,
         gs: b.value,
@@ -193,6 +193,6 @@ fn write_at(s: &[u8], at: usize, size: u32) -> usize {
 }
 
 pub(crate) fn write_case(s: &[u8], at: usize) -> usize {
-    let r = number(s, at);
+    let r = take_number(s, at);
     write_at(s, r.next, r.value)
 }

@@ -7,15 +7,15 @@
 // 3 writes a graph: the length of the room, and the graph's four slices.
 // What was read is then written, and what was written is then read.
 // Crate `cases` says how a slice is packed.
-use cases::number;
 use libc::STDIN_FILENO;
+use packed::take_number;
 
 mod decks;
 mod graphs;
 mod say;
 
 fn case(s: &[u8], at: usize) -> usize {
-    let kind = number(s, at);
+    let kind = take_number(s, at);
     let k = kind.value;
     let next = kind.next;
     match k {
@@ -27,7 +27,7 @@ fn case(s: &[u8], at: usize) -> usize {
 }
 
 fn run(s: &[u8]) {
-    let count = number(s, 0);
+    let count = take_number(s, 0);
     let mut at = count.next;
     let mut i: u32 = 0;
     while i < count.value {

@@ -6,9 +6,9 @@
 // Crate `cases` says how a slice is packed.
 use cases::fill;
 use cases::least;
-use cases::number;
 use cases::unpack;
 use libc::STDIN_FILENO;
+use packed::take_number;
 use print::refused;
 use print::text;
 use timing::NodeAnswer;
@@ -25,8 +25,8 @@ fn say(v: Verdict) {
 
 // Tests the deck at a place, and answers the place behind it.
 fn case(s: &[u8], at: usize) -> usize {
-    let n = number(s, at);
-    let t = number(s, n.next);
+    let n = take_number(s, at);
+    let t = take_number(s, n.next);
     let mut starts = [0u32; 16400];
     let mut ends = [0u32; 16400];
     let mut codes = [0u32; 16400];
@@ -57,7 +57,7 @@ fn case(s: &[u8], at: usize) -> usize {
 }
 
 fn run(s: &[u8]) {
-    let count = number(s, 0);
+    let count = take_number(s, 0);
     let mut at = count.next;
     let mut i: u32 = 0;
     while i < count.value {
@@ -150,11 +150,11 @@ struct Question {
 }
 
 fn read_question(s: &[u8], at: usize) -> Question {
-    let n = number(s, at);
-    let t = number(s, n.next);
-    let x = number(s, t.next);
-    let y = number(s, x.next);
-    let z = number(s, y.next);
+    let n = take_number(s, at);
+    let t = take_number(s, n.next);
+    let x = take_number(s, t.next);
+    let y = take_number(s, x.next);
+    let z = take_number(s, y.next);
     Question {
         nodes: n.value,
         allowed: t.value,
@@ -287,7 +287,7 @@ fn graph_case(s: &[u8], at: usize) -> usize {
 }
 
 fn run_graphs(s: &[u8]) {
-    let count = number(s, 0);
+    let count = take_number(s, 0);
     let mut at = count.next;
     let mut i: u32 = 0;
     while i < count.value {
