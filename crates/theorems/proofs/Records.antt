@@ -28,7 +28,7 @@ use Rattle.timing.specs.Tests.{sameSizes, nodeCount, designSizes, designTests, 
 use Rattle.timing.specs.Calls.{GraphSlices, graphSlices, graphOf, slicesOf, graphSizes, made, Removal, removalTests, removeFromDesign, removeFromGraph, nodesAfter, startsAfter, endsAfter, namesAfter, testTimes, arrivalsAfter, requiredsAfter, slacksAfter, recordOf, recordsAfter}
 use Rattle.timing.specs.Series.{heldAfter, wholeAfter}
 use Rattle.theorems.proofs.Lists.{holds, and-intro, length-upto, getD-mem}
-use Rattle.theorems.proofs.Refusals.{then-passed, unless-passed}
+use Rattle.timing.proofs.Verdicts.{then-passed, unless-passed}
 use Rattle.theorems.proofs.Runs.{Rising}
 use Rattle.theorems.proofs.Stands.{Stands, true-stands, passes-inside}
 use Rattle.theorems.proofs.Tested.{design-fits, tests-count}

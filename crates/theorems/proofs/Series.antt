@@ -21,7 +21,7 @@ use Rattle.timing.specs.Calls.{GraphSlices, graphOf, slicesOf, graphSizes, Outc
 use Rattle.timing.specs.Series.{removeNext, heldNext, verdictOf, verdicts, heldAfter, wholeNext, verdictAlone, verdictsAlone, wholeAfter, Renumbered, HeldIs, Demand3}
 use Rattle.theorems.proofs.Lists.{holds, and-intro}
 use Rattle.theorems.proofs.Counting.{Nodup}
-use Rattle.theorems.proofs.Refusals.{then-passed, unless-passed}
+use Rattle.timing.proofs.Verdicts.{then-passed, unless-passed}
 use Rattle.theorems.proofs.Stands.{Stands, true-stands}
 use Rattle.theorems.proofs.Parts.{parts-stand}
 use Rattle.theorems.proofs.Renumbering.{stands-renumbered}

@@ -17,7 +17,7 @@ use Rattle.timing.specs.Refusals.{_then_}
 use Rattle.timing.specs.Tests.{sameSizes, designSizes, designTests, nodeCount, allowedTest, graphTest}
 use Rattle.timing.specs.Calls.{GraphSlices, graphOf, graphSizes, testTimes}
 use Rattle.theorems.proofs.Lists.{and-intro, and-left, and-right, or-cases, holds}
-use Rattle.theorems.proofs.Refusals.{then-passed, unless-passed}
+use Rattle.timing.proofs.Verdicts.{then-passed, unless-passed}
 use Rattle.theorems.proofs.Tested.{design-fits, tests-count, no-delays, formed}
 use Rattle.theorems.proofs.Legal.{wellFormed-legal}
 use Rattle.times.specs.Passes.{Fit}

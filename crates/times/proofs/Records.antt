@@ -19,7 +19,7 @@ use Rattle.timing.specs.Refusals.{_then_}
 use Rattle.timing.specs.Tests.{sameSizes, nodeCount}
 use Rattle.timing.specs.Times.{larger, smaller, largest, smallest, nodeTimes}
 use Rattle.timing.specs.Calls.{testRecords, hasTimes, arrivalOf, requiredOf, slackOf, recordsAfter}
-use Rattle.theorems.proofs.Refusals.{then-passed}
+use Rattle.timing.proofs.Verdicts.{then-passed}
 use Rattle.theorems.proofs.Extremes.{larges, smalls}
 use Rattle.times.specs.Records.{withCopy, gathered, timesOf, nodeSoFar, firstOr, bettered}
 use Rattle.times.proofs.Elements.{at-each, set-place, each-same}
