@@ -1,12 +1,11 @@
 // Runs series of removals from standard input, and prints each answer, the graph if it is small, and
 // a sum over each lent slice afterwards. tests/removal_cases.py says what the input and the output are.
-mod input;
 mod output;
 
-use input::fill;
-use input::least;
-use input::number;
-use input::unpack;
+use cases::fill;
+use cases::least;
+use cases::number;
+use cases::unpack;
 use libc::STDIN_FILENO;
 use output::say_made;
 use output::say_sums;

@@ -1,6 +1,6 @@
 // What is lent before a removal, and what is printed of it afterwards.
 ghost use Prim.Native.Nat.{_≤_};
-use crate::input::least;
+use cases::least;
 use print::refused;
 use print::text;
 use timing::GraphMade;

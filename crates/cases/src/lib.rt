@@ -1,4 +1,6 @@
-// Packed numbers and slices of them, read from a block of standard input.
+// How the programs that run cases read them: packed numbers, one after the other. A slice is how many
+// numbers follow, how often the last is then repeated, and the numbers. So slices need not belong
+// together, and a long one takes few bytes.
 ghost use Prim.Native.Nat.{_+_, _≤_};
 ghost use lib.ListN.{length};
 use packed::read_number;
@@ -31,7 +33,6 @@ pub fn least(a: usize, b: usize) -> usize
     if a <= b { a } else { b }
 }
 
-// A slice is how many numbers follow, how often the last is then repeated, and the numbers.
 pub fn fill(s: &[u8], at: usize, table: &mut [u32]) -> Slice
     ensures { λ r. ⌜ r .len ≤ length (now (table .entry)) ⌝ }
 {

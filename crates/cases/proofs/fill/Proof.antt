@@ -4,8 +4,8 @@ use native.Mathlib.Omega.{arith}
 use mathlib.Core.Path.{_≡_, refl}
 use lib.ListN.{length, length-set}
 use borrow.Author.Needs.{needs}
-use Rattle.unfit_cases.proofs.fill.Statement.{statement}
-use Rattle.unfit_cases.proofs.fill.Tie as tie
+use Rattle.cases.proofs.fill.Statement.{statement}
+use Rattle.cases.proofs.fill.Tie as tie
 
 abbrev Inv-loop : tie.InvT-loop
 Inv-loop s at table₀ count len next₀ value₀ k₀ table next value k = (k ≤ len) × (len ≤ length table₀) × (length table ≡ length table₀)

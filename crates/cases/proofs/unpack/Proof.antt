@@ -4,8 +4,8 @@ use native.Mathlib.Omega.{arith}
 use mathlib.Core.Path.{_≡_, refl}
 use lib.ListN.{length, length-set}
 use borrow.Author.Needs.{needs}
-use Rattle.unfit_cases.proofs.unpack.Statement.{statement}
-use Rattle.unfit_cases.proofs.unpack.Tie as tie
+use Rattle.cases.proofs.unpack.Statement.{statement}
+use Rattle.cases.proofs.unpack.Tie as tie
 
 abbrev Inv-loop : tie.InvT-loop
 Inv-loop codes delays₀ len k₀ delays k = (k ≤ len) × (len ≤ length codes) × (len ≤ length delays₀) × (length delays ≡ length delays₀)
