@@ -1,12 +1,12 @@
 // What is lent before a removal, and what is printed of it afterwards.
-ghost use Prim.Native.Nat.{_≤_};
+ghost use Prim.Native.Nat.{_≤_, _<_};
 use cases::least;
 use print::refused;
 use print::text;
 use timing::GraphMade;
 
 // Sets place k to first + k mod 65,536, so that a word that is moved or changed is seen.
-pub fn set_pattern(first: u32, words: &mut [u32])
+fn set_pattern(first: u32, words: &mut [u32])
     requires { ⌜ first ≤ 3400000000 ⌝ }
 {
     let mut k = 0;
@@ -16,12 +16,33 @@ pub fn set_pattern(first: u32, words: &mut [u32])
     }
 }
 
+pub fn set_patterns(
+    nodes: &mut [u32],
+    from: &mut [u32],
+    to: &mut [u32],
+    via: &mut [u32],
+    scratch: &mut [u32],
+) {
+    set_pattern(3000000000, nodes);
+    set_pattern(3100000000, from);
+    set_pattern(3200000000, to);
+    set_pattern(3300000000, via);
+    set_pattern(3400000000, scratch);
+}
+
+fn mixed(h: u64, word: u32) -> u64
+    requires { ⌜ h < 4294967291 ⌝ }
+    ensures { λ r. ⌜ r < 4294967291 ⌝ }
+{
+    (h * 1000003 + word as u64) % 4294967291
+}
+
 // A sum over all words, in order.
 fn checksum(words: &[u32]) -> u64 {
     let mut h: u64 = 1;
     let mut k = 0;
     while k < words.len() {
-        h = (h * 1000003 + words[k] as u64) % 4294967291;
+        h = mixed(h, words[k]);
         k += 1;
     }
     h
@@ -32,7 +53,7 @@ fn say_sum(words: &[u32]) {
     print::number(checksum(words));
 }
 
-pub fn say_sums(nodes: &[u32], from: &[u32], to: &[u32], via: &[u32], scratch: &[u32]) {
+fn say_sums(nodes: &[u32], from: &[u32], to: &[u32], via: &[u32], scratch: &[u32]) {
     text(b"sums");
     say_sum(nodes);
     say_sum(from);
@@ -81,7 +102,7 @@ fn say_graph(copies: usize, edges: usize, nodes: &[u32], from: &[u32], to: &[u32
     }
 }
 
-pub fn say_made(made: GraphMade, nodes: &[u32], from: &[u32], to: &[u32], via: &[u32]) {
+fn say_made(made: GraphMade, nodes: &[u32], from: &[u32], to: &[u32], via: &[u32]) {
     match made {
         GraphMade::Counts { copies, edges } => {
             text(b"copies ");
@@ -96,4 +117,10 @@ pub fn say_made(made: GraphMade, nodes: &[u32], from: &[u32], to: &[u32], via: &
             text(b"\n");
         }
     }
+}
+
+// A removal's answer, the graph if it is small, and the sums.
+pub fn say(made: GraphMade, nodes: &[u32], from: &[u32], to: &[u32], via: &[u32], scratch: &[u32]) {
+    say_made(made, nodes, from, to, via);
+    say_sums(nodes, from, to, via, scratch);
 }
