@@ -1,33 +1,24 @@
 // What is lent before a removal, and what is printed of it afterwards.
 ghost use Prim.Native.Nat.{_≤_, _<_};
+ghost use lib.ListN.{length};
 use cases::least;
 use print::refused;
 use print::text;
 use timing::GraphMade;
 
-// Sets place k to first + k mod 65,536, so that a word that is moved or changed is seen.
-fn set_pattern(first: u32, words: &mut [u32])
+// Sets place k to first + k mod 65,536, so that a word that is moved or changed is seen; and answers
+// how many places are set, which is at most the count.
+pub fn set_pattern(first: u32, count: usize, words: &mut [u32]) -> usize
     requires { ⌜ first ≤ 3400000000 ⌝ }
+    ensures { λ r. ⌜ r ≤ length (now (words .exit)) ⌝ }
 {
+    let len = least(count, words.len());
     let mut k = 0;
-    while k < words.len() {
+    while k < len {
         words[k] = first + (k % 65536) as u32;
         k += 1;
     }
-}
-
-pub fn set_patterns(
-    nodes: &mut [u32],
-    from: &mut [u32],
-    to: &mut [u32],
-    via: &mut [u32],
-    scratch: &mut [u32],
-) {
-    set_pattern(3000000000, nodes);
-    set_pattern(3100000000, from);
-    set_pattern(3200000000, to);
-    set_pattern(3300000000, via);
-    set_pattern(3400000000, scratch);
+    len
 }
 
 fn mixed(h: u64, word: u32) -> u64

@@ -1,14 +1,14 @@
-use Prim.Native.Nat.{_-_, _≤_}
+use Prim.Native.Nat.{_≤_}
 use native.Mathlib.Omega.{arith}
 use borrow.Author.Needs.{needs}
 use Rattle.removal_cases.proofs.run.Statement.{statement}
 use Rattle.removal_cases.proofs.run.Tie as tie
 
 abbrev Inv-loop : tie.InvT-loop
-Inv-loop s count at₀ i₀ at i = i ≤ count .value
+Inv-loop s at₀ left₀ at left = left ≤ left₀
 
 abbrev μ-loop : tie.MeasureT-loop
-μ-loop s count at₀ i₀ at i = count .value - i
+μ-loop s at₀ left₀ at left = left
 
 number-requires : tie.Need-number-requires Inv-loop μ-loop
 number-requires c κs = search needs
@@ -19,8 +19,8 @@ loop-holds c = omega arith
 run-series-requires : tie.Need-run-series-requires Inv-loop μ-loop
 run-series-requires c κs = search needs
 
-add-i : tie.Need-add-i Inv-loop μ-loop
-add-i c = omega arith
+sub-left : tie.Need-sub-left Inv-loop μ-loop
+sub-left c = omega arith
 
 loop-less : tie.Need-loop-less Inv-loop μ-loop
 loop-less c = omega arith
@@ -40,7 +40,7 @@ run-spec =
     number-requires
     loop-holds
     run-series-requires
-    add-i
+    sub-left
     loop-less
     loop-again
     returns)

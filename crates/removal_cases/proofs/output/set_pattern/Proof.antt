@@ -7,13 +7,16 @@ use Rattle.removal_cases.proofs.output.set_pattern.Statement.{statement
 use Rattle.removal_cases.proofs.output.set_pattern.Tie as tie
 
 abbrev Inv-loop : tie.InvT-loop
-Inv-loop first words₀ k₀ words k = (k ≤ length words₀) × (length words ≡ length words₀)
+Inv-loop first count words₀ len k₀ words k = (k ≤ len) × (len ≤ length words₀) × (length words ≡ length words₀)
 
 abbrev μ-loop : tie.MeasureT-loop
-μ-loop first words₀ k₀ words k = length words₀ - k
+μ-loop first count words₀ len k₀ words k = len - k
+
+least-requires : tie.Need-least-requires Inv-loop μ-loop
+least-requires c κs = search needs
 
 loop-holds : tie.Need-loop-holds Inv-loop μ-loop
-loop-holds c = (omega arith, refl)
+loop-holds c = (omega arith, omega arith, refl)
 
 cast-words : tie.Need-cast-words Inv-loop μ-loop
 cast-words c = search needs
@@ -34,13 +37,13 @@ loop-less : tie.Need-loop-less Inv-loop μ-loop
 loop-less c = omega arith
 
 loop-again : tie.Need-loop-again Inv-loop μ-loop
-loop-again c = (omega arith, simp length-set (c .before .loop .inv .1))
+loop-again c = (omega arith, omega arith, simp length-set (c .before .loop .inv .2))
 
 same-length : tie.Need-same-length Inv-loop μ-loop
-same-length c = c .before .loop .inv .1
+same-length c = c .before .loop .inv .2
 
 returns : tie.Need-returns Inv-loop μ-loop
-returns c = search needs
+returns c = omega arith
 
 pub set-pattern-spec : {M : Type 1} → statement M
 set-pattern-spec =
@@ -48,6 +51,7 @@ set-pattern-spec =
     (tie.spec
     Inv-loop
     μ-loop
+    least-requires
     loop-holds
     cast-words
     add-words

@@ -3,8 +3,8 @@ use native.Mathlib.Omega.{arith}
 use mathlib.Core.Path.{_≡_, refl}
 use lib.ListN.{length, length-set}
 use borrow.Author.Needs.{needs}
-use Rattle.removal_cases.proofs.remove.copy.Statement.{statement}
-use Rattle.removal_cases.proofs.remove.copy.Tie as tie
+use Rattle.removal_cases.proofs.tables.copy.Statement.{statement}
+use Rattle.removal_cases.proofs.tables.copy.Tie as tie
 
 abbrev Inv-loop : tie.InvT-loop
 Inv-loop count source target₀ len k₀ target k = (k ≤ len) × (len ≤ length source) × (len ≤ length target₀) × (length target ≡ length target₀)
