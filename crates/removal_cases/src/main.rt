@@ -492,15 +492,17 @@ fn run(s: &[u8]) {
     }
 }
 
-fn main() {
+// Reads the next block, which is empty after the last one, and runs it.
+fn run_block() {
     let mut input = io::large_buffer();
+    let len = io::read_full(STDIN_FILENO, &mut input);
+    run(&input[..len]);
+}
+
+fn main() {
     let mut block: u32 = 0;
-    while block < 64 {
-        let len = io::read_full(STDIN_FILENO, &mut input);
-        if len == 0 {
-            return;
-        }
-        run(&input[..len]);
+    while block < 8 {
+        run_block();
         block += 1;
     }
 }
