@@ -3,9 +3,9 @@
  *     bench/run [--stand-in]
  *
  * Each line is one piece of work: what came out, the time of each, and the library's time over the reference's. Both are timed in turn, in
- * rounds, and the best round counts. Both are lent rooms and scratch of the same size, the scratch of just the size that test 31 asks
- * for, and both clear it. The two results are compared before any time is taken. The last table doubles the list and says how the cost
- * grows. Exit status 1 where results differ. */
+ * rounds, and the best round counts; time is the processor's, so that other processes disturb less. Both are lent rooms and scratch of
+ * the same size, the scratch of just the size that test 31 asks for, and both clear it. The two results are compared before any time is
+ * taken. The last tables double the list and say how the cost grows. Exit status 1 where results differ. */
 #define _POSIX_C_SOURCE 199309L
 #include "jaqhweni.h"
 #include "reference.h"
@@ -15,7 +15,7 @@
 #include <string.h>
 #include <time.h>
 
-enum { ROUNDS = 15, ROOM_COPIES = 16384, ROOM_EDGES = 65536, SERIES = 32, MOST_WORDS = 1 << 24 };
+enum { ROUNDS = 25, ROOM_COPIES = 16384, ROOM_EDGES = 65536, SERIES = 32, MOST_WORDS = 1 << 24 };
 static const double ROUND_SECONDS = 0.02;
 
 /* ---- Two libraries ------------------------------------------------------------------------------------------------------------ */
@@ -220,7 +220,7 @@ typedef int64_t (*work)(int which);
 static double now(void)
 {
     struct timespec t;
-    clock_gettime(CLOCK_MONOTONIC, &t);
+    clock_gettime(CLOCK_PROCESS_CPUTIME_ID, &t);
     return (double)t.tv_sec + 1e-9 * (double)t.tv_nsec;
 }
 

@@ -347,6 +347,9 @@ def main():
         try_faults(options)
         return
     library, program = (None, build_stand_in_program(0)) if options.stand_in else (LIBRARY, PROGRAM)
+    for needed in [] if options.stand_in else [PROGRAM] * (not options.no_decks) + [LIBRARY] * (not options.no_calls):
+        if not needed.exists():
+            sys.exit("against_walker: %s is not built" % needed)
     runner = None if options.no_calls else build_runner(library, not options.valgrind)
     command = [runner]
     if options.valgrind:

@@ -6,7 +6,7 @@ python3 tests/removal_cases.py --check   says whether the two files are what it 
 
 Every expected answer is that of tests/walker.py, the separate program, which walks all paths.
 
-Input: blocks of 65,536 bytes (the last may be shorter). A block is packed numbers: the count of its series, the series, and
+Input: up to eight blocks of 65,536 bytes (the last may be shorter). A block is packed numbers: the count of its series, the series, and
 zeros. A series is one design and some removals, in order:
 
     n; three slices: starts, ends, delays (as packed numbers); the count of removals; the removals
@@ -420,6 +420,7 @@ def blocks(all_series):
         held.append(data)
         size += len(data)
     found.append(held)
+    assert len(found) <= 8
     packed = [walker.write_number(len(block)) + b"".join(block) for block in found]
     return b"".join(block.ljust(expected.BUFFER, b"\0") for block in packed[:-1]) + packed[-1]
 
