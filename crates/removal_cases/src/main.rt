@@ -4,8 +4,8 @@ mod output;
 mod remove;
 mod tables;
 
-use packed::take_number;
 use libc::STDIN_FILENO;
+use packed::take_number;
 use remove::lend;
 use remove::read_sizes;
 use tables::Design;

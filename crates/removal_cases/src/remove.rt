@@ -10,8 +10,8 @@ use crate::tables::List;
 use crate::tables::keep;
 use crate::tables::part;
 use cases::least;
-use packed::take_number;
 use cases::unpack;
+use packed::take_number;
 use timing::GraphMade;
 
 // The lengths of the room's slices and of the scratch; and the place behind them.

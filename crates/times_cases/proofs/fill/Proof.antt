@@ -4,13 +4,8 @@ use native.Mathlib.Omega.{arith}
 use mathlib.Core.Path.{_≡_, refl}
 use lib.ListN.{length, length-set}
 use borrow.Author.Needs.{needs}
-<<<<<<<< HEAD:crates/times_cases/proofs/fill/Proof.antt
 use Rattle.times_cases.proofs.fill.Statement.{statement}
 use Rattle.times_cases.proofs.fill.Tie as tie
-========
-use Rattle.cases.proofs.fill.Statement.{statement}
-use Rattle.cases.proofs.fill.Tie as tie
->>>>>>>> 4210ccfb0fa850c4a841f39c8e2b959690b5bff8:crates/cases/proofs/fill/Proof.antt
 
 abbrev Inv-loop : tie.InvT-loop
 Inv-loop s at table₀ rise count len next₀ value₀ k₀ table next value k = (k ≤ len) × (len ≤ length table₀) × (length table ≡ length table₀)

@@ -4,13 +4,8 @@ use native.Mathlib.Omega.{arith}
 use mathlib.Core.Path.{_≡_, refl}
 use lib.ListN.{length, length-set}
 use borrow.Author.Needs.{needs}
-<<<<<<<< HEAD:crates/times_cases/proofs/unpack/Proof.antt
 use Rattle.times_cases.proofs.unpack.Statement.{statement}
 use Rattle.times_cases.proofs.unpack.Tie as tie
-========
-use Rattle.cases.proofs.unpack.Statement.{statement}
-use Rattle.cases.proofs.unpack.Tie as tie
->>>>>>>> 4210ccfb0fa850c4a841f39c8e2b959690b5bff8:crates/cases/proofs/unpack/Proof.antt
 
 abbrev Inv-loop : tie.InvT-loop
 Inv-loop codes delays₀ len k₀ delays k = (k ≤ len) × (len ≤ length codes) × (len ≤ length delays₀) × (length delays ≡ length delays₀)
