@@ -4,9 +4,8 @@
 python3 tests/unfit_cases.py           writes crates/unfit_cases/stdin and stdout
 python3 tests/unfit_cases.py --check   says whether the two files are what it would write
 
-Every expected answer is what tests/walker.py, the separate program, refuses the deck with, or the times that it finds on
-all paths of a graph. A deck goes in as packed numbers, its five slices each by itself, so that they need not belong
-together; then the graphs, with seven slices each (crates/unfit_cases/src/main.rt).
+Every expected answer is what tests/walker.py, the separate program, refuses the deck with. A deck goes in as packed
+numbers, its five slices each by itself, so that they need not belong together (crates/unfit_cases/src/main.rt).
 """
 import copy
 import itertools
@@ -227,141 +226,15 @@ def line(refusal):
     return "passed\n" if refusal is None else "refused %d at %d\n" % refusal
 
 
-# ---- Graphs ------------------------------------------------------------------------------
-
-GRAPH_TABLE = 64            # the program's
-GRAPH_NUMBERS = (30, 10, 12, 13, 14, 25, 32)     # 11 takes longer slices: the decks have it
-SLICES = ("starts", "ends", "delays", "copy_nodes", "copy_starts", "copy_ends", "names")
-
-
-class Given:
-    """n, T, a design's slices, a graph's, and the lengths of the slices for times."""
-
-    def __init__(self, design, graph, allowed):
-        self.nodes, self.allowed = design.nodes, allowed
-        self.starts, self.ends, self.delays = list(design.starts), list(design.ends), list(design.delays)
-        self.copy_nodes, self.names = list(graph.copy_nodes), list(graph.design_edges)
-        self.copy_starts, self.copy_ends = list(graph.starts), list(graph.ends)
-        self.rooms = [len(self.copy_nodes)] * 3
-
-    def packed(self):
-        numbers = [self.nodes, self.allowed, *self.rooms]
-        for name in SLICES:
-            part = getattr(self, name)
-            assert len(part) <= GRAPH_TABLE
-            numbers += packed_slice([walker.pack_delay(delay) for delay in part] if name == "delays" else part)
-        return b"".join(walker.write_number(number) for number in numbers)
-
-    def lines(self):
-        """What the program prints, by the separate program; and the refusal's number, or None."""
-        design = walker.Design(self.nodes, self.starts, self.ends, self.delays)
-        graph = walker.Graph(self.copy_nodes, self.copy_starts, self.copy_ends, self.names)
-        try:
-            found = walker.times(design, graph, self.allowed, self.rooms)
-        except walker.Refused as refused:
-            return line(refused.refusal), refused.refusal[0]
-        text = line(None) + "".join("%d %d %d\n" % tuple(times) for times in found)
-        for node in range(self.nodes + 1):
-            record = walker.node_record(self.nodes, self.copy_nodes, *([times[k] for times in found] for k in range(3)), node)
-            text += "node %d: %s\n" % (node, "none" if record is None else "%d %d %d" % tuple(record))
-        return text, None
-
-
-def change_a_number(given, chance):
-    part = getattr(given, chance.choice(SLICES[3:]))
-    if part:
-        k = chance.randrange(len(part))
-        part[k] = max(0, chance.choice((part[k] - 1, part[k] + 1, part[k] + 2, chance.randrange(6))))
-
-
-def drop_an_edge(given, chance):
-    if given.names:
-        k = chance.randrange(len(given.names))
-        for name in SLICES[4:]:
-            del getattr(given, name)[k]
-
-
-def swap_or_repeat_an_edge(given, chance):
-    if len(given.names) > 1:
-        k = chance.randrange(len(given.names) - 1)
-        twice = chance.random() < 0.5
-        for name in SLICES[4:]:
-            part = getattr(given, name)
-            part[k:k + 2] = [part[k]] * 2 if twice else [part[k + 1], part[k]]
-
-
-def one_more_copy(given, chance):
-    given.copy_nodes.append(chance.choice((given.nodes - 1 if given.nodes else 0, given.nodes)))
-    given.rooms = [len(given.copy_nodes)] * 3
-
-
-def one_copy_less(given, chance):
-    if given.copy_nodes:
-        given.copy_nodes.pop()
-        given.rooms = [len(given.copy_nodes)] * 3
-
-
-def other_sizes(given, chance):
-    if chance.random() < 0.5:
-        given.rooms[chance.randrange(3)] += chance.choice((1, 2))
-    else:
-        getattr(given, chance.choice(SLICES[4:])).append(0)
-
-
-def damage_the_design(given, chance):
-    name = chance.choice(("10", "12", "13", "14", "25", "30"))
-    if name == "10":
-        given.nodes = 4097
-    elif name == "25":
-        given.allowed = 1_000_000_001
-    elif name == "30":
-        given.delays.append(0)
-    elif given.starts:
-        k = chance.randrange(len(given.starts))
-        if name == "12":
-            given.ends[k] = given.nodes
-        elif name == "13":
-            given.ends[k] = given.starts[k]
-        else:
-            given.delays[k] = chance.choice((1_000_001, -1_000_001))
-
-
-DAMAGES = (change_a_number, change_a_number, drop_an_edge, swap_or_repeat_an_edge, one_more_copy, one_copy_less, other_sizes,
-           damage_the_design)
-
-
-def random_given(chance):
-    design = random_design(chance, most_nodes=7, most_edges=10)
-    paths = random_paths(chance, design, 4) if design.starts else []
-    graph = walker.true_graph(design, walker.PathList([len(path) for path in paths], [edge for path in paths for edge in path]))
-    return Given(design, graph, chance.choice((0, 10, 1_000_000_000)))
-
-
-def graph_cases():
-    chance = random.Random(32)
-    for _ in range(270):
-        yield random_given(chance)
-    for _ in range(840):
-        given = random_given(chance)
-        for _ in range(chance.choice((1, 1, 1, 2, 3))):
-            chance.choice(DAMAGES)(given, chance)
-        yield given
-
-
 def main():
     decks = list(cases())
     answers = [answer(deck) for deck in decks]
     missing = set(NUMBERS) - {refusal[0] for refusal in answers if refusal}
     assert not missing, missing
-    graphs = [given for given in graph_cases() if all(len(getattr(given, name)) <= GRAPH_TABLE for name in SLICES)]
-    found = [given.lines() for given in graphs]
-    assert set(GRAPH_NUMBERS) <= {number for _, number in found}
-    halves = [walker.write_number(len(decks)) + b"".join(packed(deck) for deck in decks),
-              walker.write_number(len(graphs)) + b"".join(given.packed() for given in graphs)]
-    assert all(len(half) <= expected.BUFFER for half in halves), [len(half) for half in halves]
-    expected.keep("unfit_cases", halves[0].ljust(expected.BUFFER, b"\0") + halves[1],
-                  ("".join(line(refusal) for refusal in answers) + "".join(text for text, _ in found)).encode())
-    print("unfit_cases: %d decks, %d graphs" % (len(decks), len(graphs)))
+    stdin = walker.write_number(len(decks)) + b"".join(packed(deck) for deck in decks)
+    assert len(stdin) <= expected.BUFFER, len(stdin)
+    expected.keep("unfit_cases", stdin, "".join(line(refusal) for refusal in answers).encode())
+    print("unfit_cases: %d decks" % len(decks))
 
 
 if __name__ == "__main__":

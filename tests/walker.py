@@ -103,9 +103,13 @@ def occurs_in(listed, run):
     return any(run[at:at + len(listed)] == listed for at in range(len(run) - len(listed) + 1))
 
 def permitted_paths(design, graph, listed):
-    """"A complete path is permitted if no listed path occurs in it as a consecutive run." """
-    return [path for path in complete_paths(design, graph)
-            if not any(occurs_in(false_path, design_edges_along(path)) for false_path in listed)]
+    """"A complete path is permitted if no listed path occurs in it as a consecutive run." Every run of a length that
+    some listed path has is looked up, which is occurs_in for all listed paths at once."""
+    false_paths, lengths = set(listed), {len(false_path) for false_path in listed}
+    def permitted(run):
+        return not any(run[at:at + length] in false_paths
+                       for length in lengths for at in range(len(run) - length + 1))
+    return [path for path in complete_paths(design, graph) if permitted(design_edges_along(path))]
 
 # ---- Copies ------------------------------------------------------------------------------
 
@@ -114,10 +118,12 @@ def tails_of(listed):
     front, not all of them. Tails equal in edges are one tail." """
     return {path[dropped:] for path in listed for dropped in range(1, len(path))}
 
-def mark_at(run, position, tails):
-    """"the longest tail that the path follows from N on, or the empty mark" """
-    followed = [tail for tail in tails if run[position:position + len(tail)] == tail]
-    return max(followed, key=len, default=())
+def mark_at(run, position, tails, lengths):
+    """"the longest tail that the path follows from N on, or the empty mark"; lengths are those of the tails, longest first."""
+    for length in lengths:
+        if run[position:position + length] in tails:
+            return run[position:position + length]
+    return ()
 
 def true_graph(design, path_list, earlier=None):
     """Removal without any test: from the design, or from an earlier graph, whose "copies
@@ -125,11 +131,12 @@ def true_graph(design, path_list, earlier=None):
     worked_on = design_as_graph(design) if earlier is None else earlier
     listed = listed_paths(path_list)
     tails = tails_of(listed)
+    lengths = sorted({len(tail) for tail in tails}, reverse=True)
     copies, joins = set(), set()
     for path in permitted_paths(design, worked_on, listed):
         run = design_edges_along(path)
         # "a copy for each pair (node, mark) that some permitted path shows, and no others"
-        shown = [(node_or_copy, mark_at(run, position, tails))
+        shown = [(node_or_copy, mark_at(run, position, tails, lengths))
                  for position, node_or_copy in enumerate(copies_along(path))]
         copies.update(shown)
         # "Along each design edge of a permitted path, the copy at its start is joined to
@@ -377,6 +384,15 @@ def node_record(nodes, copy_nodes, arrivals, requireds, slacks, node):
         return None
     return Times(max(arrivals[copy] for copy in copies), min(requireds[copy] for copy in copies),
                  min(slacks[copy] for copy in copies))
+
+def node_records(nodes, copy_nodes, arrivals, requireds, slacks, places, asked=None):
+    """The call for the records of all nodes; places are the lengths of its four result slices, one
+    place for each node. The records of the asked nodes, or of all."""
+    refuse(slices_refusal([(len(copy_nodes), len(arrivals), len(requireds), len(slacks)), (nodes,) + tuple(places)]))
+    if nodes > MOST_NODES:
+        raise Refused(10)
+    return [node_record(nodes, copy_nodes, arrivals, requireds, slacks, node)
+            for node in (range(nodes) if asked is None else asked)]
 
 # ---- Packed form ---------------------------------------------------------------------------
 

@@ -4,3 +4,4 @@ pub mod Writing
 pub mod Looking
 pub mod Reading
 pub mod RoundTrip
+mod Lent

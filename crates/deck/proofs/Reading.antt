@@ -28,10 +28,11 @@ use Rattle.timing.specs.Decks.{Deck, Tables, paths, readDeck}
 use Rattle.timing.specs.declared.DeckRead.the-variants.{Refused as NoDeck}
 use Rattle.timing.specs.Tests.{sameSizes}
 use Rattle.timing.specs.Calls.{Outcome, made, refused, parsed, filled, deckRead, deckAnswer}
-use Rattle.deck.specs.Reading.{verdictOf, valueOf, nextOf, valueAt, nextAt, numbersFrom, numbersEnd, rowAt, rowEnd, rowsFrom, rowsEnd, startsFrom, endsFrom, delaysFrom, pathEnd, edgesFrom, lengthsFrom, pathsEnd, edgesPlace, edgeCount, countPlace, pathCount, pathsPlace, deckFrom, Fits}
-use Rattle.deck.proofs.Tests.{then-passed, unless-passed}
+use Rattle.timing.specs.Looks.{valueOf, nextOf, valueAt, nextAt, rowAt, rowEnd}
+use Rattle.deck.specs.Reading.{verdictOf, numbersFrom, numbersEnd, rowsFrom, rowsEnd, startsFrom, endsFrom, delaysFrom, pathEnd, edgesFrom, lengthsFrom, pathsEnd, edgesPlace, edgeCount, countPlace, pathCount, pathsPlace, deckFrom, Fits}
+use Rattle.timing.proofs.Verdicts.{then-passed, unless-passed}
 use Rattle.deck.proofs.Looking.{count-passed}
-use Rattle.deck.proofs.Writing.{sets-append}
+use Rattle.packed.proofs.Rooms.{sets-append}
 use borrow.Author.Tests.{leb-true}
 
 -- what is so of anything that was found
@@ -139,7 +140,7 @@ is-paths s table (suc k) sum at =
 
 -- the whole deck
 abbrev DeckIs : List ℕ → Tables → Deck → ℕ → Type 0
-DeckIs s tables d next = (d ≡ deckFrom s) × Fits s tables
+DeckIs s tables d next = (d ≡ deckFrom s 0) × Fits s 0 tables
 
 module _ (s : List ℕ) (tables : Tables) where
   found-deck : (n a m b count p t e : ℕ) (rows : List Row) (list : PathList) → (n ≡ valueAt s 0) × (a ≡ nextAt s 0) → (m ≡ valueAt s a) × (b ≡ nextAt s a) → m ≤ tables .edges
@@ -151,15 +152,15 @@ module _ (s : List ℕ) (tables : Tables) where
       }) 0
   unfolding deckFrom countPlace
   found-deck n a m b count p t e rows list h g ml c r k cl l q =
-      let mi : m ≡ edgeCount s = rw (g .0, h .1) in
-      let bi : b ≡ edgesPlace s = rw (g .1, h .1) in
-      let ci : c ≡ countPlace s = rw (r .1, mi, bi) in
-      let ki : count ≡ pathCount s = rw (k .0, ci) in
-      let pi : p ≡ pathsPlace s = rw (k .1, ci) in
-      let ri : rows ≡ rowsFrom s (edgeCount s) (edgesPlace s) = rw (r .0, mi, bi) in
-      let ti : t ≡ pathsEnd s (pathCount s) (pathsPlace s) = rw (l .1, ki, pi) in
-      let li : list ≡ pathList (edgesFrom s (pathCount s) (pathsPlace s)) (lengthsFrom s (pathCount s) (pathsPlace s)) = rw (l .0, ki, pi) in
-      let fi : 0 + length (edgesFrom s (pathCount s) (pathsPlace s)) ≤ tables .listed = rw (← ki, ← pi) (l .2 (omega arith)) in (
+      let mi : m ≡ edgeCount s 0 = rw (g .0, h .1) in
+      let bi : b ≡ edgesPlace s 0 = rw (g .1, h .1) in
+      let ci : c ≡ countPlace s 0 = rw (r .1, mi, bi) in
+      let ki : count ≡ pathCount s 0 = rw (k .0, ci) in
+      let pi : p ≡ pathsPlace s 0 = rw (k .1, ci) in
+      let ri : rows ≡ rowsFrom s (edgeCount s 0) (edgesPlace s 0) = rw (r .0, mi, bi) in
+      let ti : t ≡ pathsEnd s (pathCount s 0) (pathsPlace s 0) = rw (l .1, ki, pi) in
+      let li : list ≡ pathList (edgesFrom s (pathCount s 0) (pathsPlace s 0)) (lengthsFrom s (pathCount s 0) (pathsPlace s 0)) = rw (l .0, ki, pi) in
+      let fi : 0 + length (edgesFrom s (pathCount s 0) (pathsPlace s 0)) ≤ tables .listed = rw (← ki, ← pi) (l .2 (omega arith)) in (
         rw (h .0, ri, li, q, ti),
         record { edges = rw (← mi) ml; paths = rw (← ki) cl; listed = omega arith },
       )
@@ -191,10 +192,10 @@ is-deck s tables =
     c r (k .0, tp .1 ∙ k .1) (le-table 20 count 1024 (tables .paths) (tp .0)) l (q .0)))))))))))
 
 -- what the verdict says of what was read
-pub read-passed : (s : List ℕ) (tables : Tables) → verdictOf (readDeck s tables) ≡ Passed → (parsed (readDeck s tables) ≡ made (deckFrom s)) × Fits s tables
+pub read-passed : (s : List ℕ) (tables : Tables) → verdictOf (readDeck s tables) ≡ Passed → (parsed (readDeck s tables) ≡ made (deckFrom s 0)) × Fits s 0 tables
 read-passed s tables e = by (readDeck s tables) e (is-deck s tables)
   where
-    by : (p : Parsed Deck) → verdictOf p ≡ Passed → Is (DeckIs s tables) p → (parsed p ≡ made (deckFrom s)) × Fits s tables
+    by : (p : Parsed Deck) → verdictOf p ≡ Passed → Is (DeckIs s tables) p → (parsed p ≡ made (deckFrom s 0)) × Fits s 0 tables
     by (found d at) q h = (ap made (h .0), h .1)
     by (stopped r) q h = absurd (let z : _≡_ {A = ℕ} 0 1 = cc in omega arith)
 
@@ -203,14 +204,6 @@ read-refused (found d at) r e = absurd (let z : _≡_ {A = ℕ} 0 1 = cc in omeg
 read-refused (stopped q) r e = let d : q ≡ r = cc in ap refused d
 
 -- Filling: a number at a place.
-pub take-value : (s : List ℕ) (at v next : ℕ) → readNumber s at ≡ Value v next → (v ≡ valueAt s at) × (next ≡ nextAt s at)
-unfolding valueAt nextAt
-take-value s at v next e = rw e (refl, refl)
-
-pub take-none : (s : List ℕ) (at : ℕ) (r : Refusal) → readNumber s at ≡ NotRead r → (0 ≡ valueAt s at) × (at ≡ nextAt s at)
-unfolding valueAt nextAt
-take-none s at r e = rw e (refl, refl)
-
 -- a row, number by number
 pub row-is : (s : List ℕ) (at v a w b x c : ℕ) → (v ≡ valueAt s at) × (a ≡ nextAt s at) → (w ≡ valueAt s a) × (b ≡ nextAt s a) → (x ≡ valueAt s b) × (c ≡ nextAt s b)
     → (c ≡ rowEnd s at) × (v ≡ rowAt s at .first) × (w ≡ rowAt s at .second) × (x ≡ rowAt s at .third)
@@ -316,51 +309,51 @@ sets-placed l vs h =
     sets-eq vs l 0 (omega arith) ∙ ap (λ (n : ℕ). vs ++ drop n l) d
 
 -- the deck's tables, placed
-module _ (s : List ℕ) (m at : ℕ) (mi : m ≡ edgeCount s) (ai : at ≡ edgesPlace s) where
-  pub starts-placed : (l l' : List ℕ) → m ≤ length l → l' ≡ sets l 0 (startsFrom s m at) → l' ≡ placed (deckFrom s .design .starts) l
+module _ (s : List ℕ) (from m at : ℕ) (mi : m ≡ edgeCount s from) (ai : at ≡ edgesPlace s from) where
+  pub starts-placed : (l l' : List ℕ) → m ≤ length l → l' ≡ sets l 0 (startsFrom s m at) → l' ≡ placed (deckFrom s from .design .starts) l
   unfolding deckFrom
   starts-placed l l' h e =
       let n : length (startsFrom s m at) ≡ m = length-map (rowsFrom s m at) (λ (r : Row). r .first) ∙ length-rows s m at in
       e ∙ sets-placed l (startsFrom s m at) (omega arith) ∙ rw (mi, ai)
 
-  pub ends-placed : (l l' : List ℕ) → m ≤ length l → l' ≡ sets l 0 (endsFrom s m at) → l' ≡ placed (deckFrom s .design .ends) l
+  pub ends-placed : (l l' : List ℕ) → m ≤ length l → l' ≡ sets l 0 (endsFrom s m at) → l' ≡ placed (deckFrom s from .design .ends) l
   unfolding deckFrom
   ends-placed l l' h e =
       let n : length (endsFrom s m at) ≡ m = length-map (rowsFrom s m at) (λ (r : Row). r .second) ∙ length-rows s m at in
       e ∙ sets-placed l (endsFrom s m at) (omega arith) ∙ rw (mi, ai)
 
-  pub delays-placed : (l l' : List ℤ) → m ≤ length l → l' ≡ sets l 0 (delaysFrom s m at) → l' ≡ placed (deckFrom s .design .delays) l
+  pub delays-placed : (l l' : List ℤ) → m ≤ length l → l' ≡ sets l 0 (delaysFrom s m at) → l' ≡ placed (deckFrom s from .design .delays) l
   unfolding deckFrom
   delays-placed l l' h e =
       let n : length (delaysFrom s m at) ≡ m = length-map (rowsFrom s m at) (λ (r : Row). delayOf (r .third)) ∙ length-rows s m at in
       e ∙ sets-placed l (delaysFrom s m at) (omega arith) ∙ rw (mi, ai)
 
-  pub count-place : (next : ℕ) → next ≡ rowsEnd s m at → next ≡ countPlace s
+  pub count-place : (next : ℕ) → next ≡ rowsEnd s m at → next ≡ countPlace s from
   unfolding countPlace
   count-place next e = e ∙ rw (mi, ai)
 
-module _ (s : List ℕ) (k at : ℕ) (ki : k ≡ pathCount s) (ai : at ≡ pathsPlace s) where
-  pub listed-placed : (l l' : List ℕ) → length (edgesFrom s k at) ≤ length l → l' ≡ sets l 0 (edgesFrom s k at) → l' ≡ placed (deckFrom s .list .edges) l
+module _ (s : List ℕ) (from k at : ℕ) (ki : k ≡ pathCount s from) (ai : at ≡ pathsPlace s from) where
+  pub listed-placed : (l l' : List ℕ) → length (edgesFrom s k at) ≤ length l → l' ≡ sets l 0 (edgesFrom s k at) → l' ≡ placed (deckFrom s from .list .edges) l
   unfolding deckFrom
   listed-placed l l' h e = e ∙ sets-placed l (edgesFrom s k at) h ∙ rw (ki, ai)
 
-  pub lengths-placed : (l l' : List ℕ) → k ≤ length l → l' ≡ sets l 0 (lengthsFrom s k at) → l' ≡ placed (deckFrom s .list .lengths) l
+  pub lengths-placed : (l l' : List ℕ) → k ≤ length l → l' ≡ sets l 0 (lengthsFrom s k at) → l' ≡ placed (deckFrom s from .list .lengths) l
   unfolding deckFrom
   lengths-placed l l' h e =
       let n = length-lengths s k at in
       e ∙ sets-placed l (lengthsFrom s k at) (omega arith) ∙ rw (ki, ai)
 
   -- and the answer
-  pub answer-is : (nodes edges listed t last : ℕ) → nodes ≡ valueAt s 0 → edges ≡ edgeCount s → listed ≡ length (edgesFrom s k at) → last ≡ pathsEnd s k at → t ≡ valueAt s last
-      → DeckFound nodes edges listed k t ≡ deckAnswer (made (deckFrom s))
+  pub answer-is : (nodes edges listed t last : ℕ) → nodes ≡ valueAt s from → edges ≡ edgeCount s from → listed ≡ length (edgesFrom s k at) → last ≡ pathsEnd s k at → t ≡ valueAt s last
+      → DeckFound nodes edges listed k t ≡ deckAnswer (made (deckFrom s from))
   unfolding deckFrom
   answer-is nodes edges listed t last e f g h i =
-      let n : length (startsFrom s (edgeCount s) (edgesPlace s)) ≡ edgeCount s = length-map (rowsFrom s (edgeCount s) (edgesPlace s)) (λ (r : Row). r .first) ∙ length-rows s (edgeCount s) (edgesPlace s) in
-      let p : length (lengthsFrom s (pathCount s) (pathsPlace s)) ≡ pathCount s = length-lengths s (pathCount s) (pathsPlace s) in
+      let n : length (startsFrom s (edgeCount s from) (edgesPlace s from)) ≡ edgeCount s from = length-map (rowsFrom s (edgeCount s from) (edgesPlace s from)) (λ (r : Row). r .first) ∙ length-rows s (edgeCount s from) (edgesPlace s from) in
+      let p : length (lengthsFrom s (pathCount s from) (pathsPlace s from)) ≡ pathCount s from = length-lengths s (pathCount s from) (pathsPlace s from) in
       rw (e, f, g, i, h, n, p, ki, ai)
 
-pub fits-paths : (s : List ℕ) (tables : Tables) (k at : ℕ) → k ≡ pathCount s → at ≡ pathsPlace s → Fits s tables → (length (edgesFrom s k at) ≤ tables .listed) × (k ≤ tables .paths)
-fits-paths s tables k at ki ai f = rw (ki, ai) (f .listed, f .paths)
+pub fits-paths : (s : List ℕ) (from : ℕ) (tables : Tables) (k at : ℕ) → k ≡ pathCount s from → at ≡ pathsPlace s from → Fits s from tables → (length (edgesFrom s k at) ≤ tables .listed) × (k ≤ tables .paths)
+fits-paths s from tables k at ki ai f = rw (ki, ai) (f .listed, f .paths)
 
 -- The reader as a whole: 30, then a refusal by the look, then the deck.
 module _ (s : List ℕ) (starts ends delays listed lengths : ℕ) where
@@ -374,7 +367,7 @@ module _ (s : List ℕ) (starts ends delays listed lengths : ℕ) where
   read-stopped r e f = rw e (read-refused (readDeck s (record { edges = starts; listed = listed; paths = lengths })) r f)
 
   pub read-made : sameSizes starts ends delays ≡ Passed → verdictOf (readDeck s (record { edges = starts; listed = listed; paths = lengths })) ≡ Passed
-      → deckRead s starts ends delays listed lengths ≡ made (deckFrom s)
+      → deckRead s starts ends delays listed lengths ≡ made (deckFrom s 0)
   unfolding deckRead
   read-made e f = rw e (read-passed s (record { edges = starts; listed = listed; paths = lengths }) f .0)
 

@@ -16,6 +16,7 @@ use Rattle.timing.specs.Refusals.{unless, _then_}
 use Rattle.timing.specs.Tests.{sameSizes, designSizes, listSizes, designCounts, listCounts}
 use Rattle.timing.specs.Calls.{deckWriteTests}
 use Rattle.timing.specs.Decks.{Deck}
+use Rattle.timing.proofs.Verdicts.{then-passed, unless-passed}
 use Rattle.deck.specs.Writing.{Fit}
 
 pub then-assoc : (u v w : Verdict) → ((u then v) then w) ≡ (u then v then w)
@@ -27,18 +28,6 @@ pub then-counts : (v a b x y : Verdict) (r s t u : Verdict) → r ≡ (v then a)
 then-counts Passed Passed b x y r s t u e f g h = h ∙ ap (λ (w : Verdict). w then y) (g ∙ ap (λ (w : Verdict). w then x) (f ∙ ap (λ (w : Verdict). w then b) e)) ∙ then-assoc b x y
 then-counts Passed (Refused q) b x y r s t u e f g h = h ∙ ap (λ (w : Verdict). w then y) (g ∙ ap (λ (w : Verdict). w then x) (f ∙ ap (λ (w : Verdict). w then b) e))
 then-counts (Refused q) a b x y r s t u e f g h = h ∙ ap (λ (w : Verdict). w then y) (g ∙ ap (λ (w : Verdict). w then x) (f ∙ ap (λ (w : Verdict). w then b) e))
-
-abbrev Pass : Verdict → Type 0
-Pass Passed = Unit {0}
-Pass (Refused r) = ⊥
-
-pub then-passed : (v w : Verdict) → (v then w) ≡ Passed → (v ≡ Passed) × (w ≡ Passed)
-then-passed Passed w e = (refl, e)
-then-passed (Refused r) w e = absurd (subst Pass (sym e) tt)
-
-pub unless-passed : (number : ℕ) (fit : Bool) → unless number fit ≡ Passed → fit ≡ true
-unless-passed number true e = refl
-unless-passed number false e = absurd (subst Pass (sym e) tt)
 
 both : (a b : Bool) → (a && b) ≡ true → (a ≡ true) × (b ≡ true)
 both true b e = (refl, e)

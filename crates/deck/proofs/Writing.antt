@@ -3,34 +3,33 @@ use Prim.Native.Nat.{ℕ, suc, _+_, _-_, _≤_, _<_}
 use native.Mathlib.Omega.{arith}
 use native.Mathlib.Numerals.{add-one}
 use mathlib.Core.Path.{_≡_, refl, sym, _∙_, ap}
-use mathlib.Core.List.{List, [], _∷_, _++_, flatMap, append-assoc, map}
+use mathlib.Core.List.{List, [], _∷_, _++_, flatMap, map}
 use lib.IntN.{ℤ, pos}
-use lib.ListN.{length, getD, take, drop, set, length-append, drop-of-length-le, length-drop, take-append-drop}
-use lib.Seq.{sets, sets-eq, length-sets, drop-cons, drop-drop, length-take-le}
-use borrow.Author.Tests.{le-leb, lt-leb}
+use lib.ListN.{length, getD, take, drop, drop-of-length-le, length-drop, take-append-drop}
+use lib.Seq.{sets, length-sets, drop-cons, drop-drop, length-take-le}
 use Rattle.timing.specs.declared.Refusal.{Refusal}
 use Rattle.timing.specs.declared.Verdict.{Verdict}
 use Rattle.timing.specs.declared.Verdict.the-variants.{Passed}
-use Rattle.timing.specs.declared.Verdict.the-variants.{Refused as NotPassed}
 use Rattle.timing.specs.declared.Written.the-variants.{End, Refused}
-use Rattle.timing.specs.Refusals.{refusal}
 use Rattle.timing.specs.Numbers.{packed, writeAnswer, writtenRoom}
 use Rattle.timing.specs.Delays.{packedDelay}
 use Rattle.timing.specs.Lists.{sum}
 use Rattle.timing.specs.Marks.{cut}
 use Rattle.timing.specs.Decks.{Deck, edgeNumbers, pathNumbers, deckNumbers, packedDeck}
 use Rattle.timing.specs.Calls.{writing, roomAfterWriting}
+use Rattle.packed.proofs.Sizes.{bytes-append as packed-append, size-append as packed-size-append, size-cons as packed-size-cons}
+use Rattle.packed.proofs.Rooms.{sets-append, written-sets, answer-fits}
 use Rattle.deck.specs.Writing.{Fit, bytesOf, size, Wrote, Left}
 use Rattle.deck.proofs.Tests.{sum-drop}
 
 -- the packed form of what follows stands behind what is before
 pub bytes-append : (xs ys : List ℕ) → bytesOf (xs ++ ys) ≡ bytesOf xs ++ bytesOf ys
-unfolding bytesOf flatMap
-bytes-append [] ys = refl
-bytes-append (x ∷ xs) ys = rw (bytes-append xs ys) (sym (append-assoc (packed x) (bytesOf xs) (bytesOf ys)))
+unfolding bytesOf
+bytes-append xs ys = packed-append xs ys
 
 pub size-append : (xs ys : List ℕ) → size (xs ++ ys) ≡ size xs + size ys
-size-append xs ys = rw (bytes-append xs ys) (length-append (bytesOf xs) (bytesOf ys))
+unfolding bytesOf
+size-append xs ys = packed-size-append xs ys
 
 pub bytes-one : (x : ℕ) → bytesOf (x ∷ []) ≡ packed x
 unfolding bytesOf flatMap
@@ -41,27 +40,8 @@ bytes-one x = append-nil' (packed x)
     append-nil' (y ∷ l) = ap (λ (r : List ℕ). y ∷ r) (append-nil' l)
 
 pub size-cons : (x : ℕ) (xs : List ℕ) → size (x ∷ xs) ≡ length (packed x) + size xs
-size-cons x xs = rw (← bytes-one x) (size-append (x ∷ []) xs)
-
-pub sets-append : {A : Type 0} (l : List A) (i : ℕ) (xs ys : List A) → sets l i (xs ++ ys) ≡ sets (sets l i xs) (i + length xs) ys
-sets-append l i [] ys = ap (λ (k : ℕ). sets l k ys) (omega arith)
-sets-append {A} l i (a ∷ xs) ys =
-    let d : suc i + length xs ≡ i + suc (length xs) = omega arith in
-    sets-append (set l i a) (suc i) xs ys ∙ ap (λ (k : ℕ). sets (sets (set l i a) (suc i) xs) k ys) d
-
--- where the bytes fit, the room that a writer leaves and its answer
-pub written-sets : (room : List ℕ) (at : ℕ) (bs : List ℕ) → at + length bs ≤ length room → writtenRoom room at bs ≡ sets room at bs
-unfolding writtenRoom
-written-sets room at bs h = rw (le-leb (at + length bs) (length room) h) (sym (sets-eq bs room at h ∙ append-assoc (take at room) bs (drop (at + length bs) room)))
-
-pub answer-fits : (room : List ℕ) (at : ℕ) (bs : List ℕ) → at + length bs ≤ length room → writeAnswer room at bs ≡ End (at + length bs)
-unfolding writeAnswer
-answer-fits room at bs h = rw (le-leb (at + length bs) (length room) h)
-
--- where they do not, what it answers and leaves
-pub too-long : (room bs : List ℕ) → length room < length bs → (writeAnswer room 0 bs ≡ Refused (refusal 35 0)) × (writtenRoom room 0 bs ≡ room)
-unfolding writeAnswer writtenRoom
-too-long room bs h = rw (lt-leb (0 + length bs) (length room) (omega arith)) (refl, refl)
+unfolding bytesOf
+size-cons x xs = packed-size-cons x xs
 
 -- a number that is known to fit is written, and is not refused
 pub put-one : (room room' : List ℕ) (at next x : ℕ) → at + size (x ∷ []) ≤ length room → End next ≡ writeAnswer room at (packed x) → room' ≡ writtenRoom room at (packed x)
@@ -120,12 +100,6 @@ module _ (room₀ : List ℕ) (at₀ : ℕ) (all : List ℕ) where
 pub size-none : size [] ≡ 0
 unfolding bytesOf flatMap
 size-none = refl
-
-pub size-drop : (s : List ℕ) (k : ℕ) → k < length s → size (drop k s) ≡ length (packed (getD s k 0)) + size (drop (k + 1) s)
-size-drop s k h = rw (drop-cons s k 0 h, add-one k) (size-cons (getD s k 0) (drop (suc k) s))
-
-pub size-done : (s : List ℕ) (k : ℕ) → length s ≤ k → size (drop k s) ≡ 0
-size-done s k h = rw (drop-of-length-le s h) size-none
 
 pub sizes-drop : (s : List ℤ) (k : ℕ) → k < length s → size (map packedDelay (drop k s)) ≡ length (packed (packedDelay (getD s k (pos 0)))) + size (map packedDelay (drop (k + 1) s))
 sizes-drop s k h = rw (drop-cons s k (pos 0) h, add-one k) (size-cons (packedDelay (getD s k (pos 0))) (map packedDelay (drop (suc k) s)))
@@ -251,13 +225,7 @@ size-deck d f =
 pub deck-fits : (d : Deck) (room : List ℕ) → length (packedDeck d) ≤ length room → 0 + size (designNumbers d ++ listNumbers d ++ (d .allowed ∷ [])) ≤ length room
 deck-fits d room h = rw (← deck-parts d) (omega (arith, ap length (packed-deck d)))
 
--- What the writer answers and leaves, where its tests refuse, where the deck is too long, and where it is written.
-pub write-refused : (v : Verdict) (r : Refusal) (room bs : List ℕ) → v ≡ NotPassed r → (Refused r ≡ writing v room bs) × (room ≡ roomAfterWriting v room bs)
-write-refused v r room bs e = rw e (refl, refl)
-
-pub write-long : (v : Verdict) (q : Refusal) (room bs : List ℕ) → v ≡ Passed → q ≡ refusal 35 0 → length room < length bs → (Refused q ≡ writing v room bs) × (room ≡ roomAfterWriting v room bs)
-write-long v q room bs e f h = let t = too-long room bs h in rw (e, f) (sym (t .0), sym (t .1))
-
+-- What the writer answers and leaves, where the deck is written.
 pub write-done : (v : Verdict) (d : Deck) (room room' : List ℕ) (next : ℕ) → v ≡ Passed → length (packedDeck d) ≤ length room → Wrote room room' 0 next (deckNumbers d)
     → (End next ≡ writing v room (packedDeck d)) × (room' ≡ roomAfterWriting v room (packedDeck d))
 write-done v d room room' next e h w =

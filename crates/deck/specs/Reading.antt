@@ -1,5 +1,4 @@
--- Reading in two goes. The look: where a reader of `timing` stops, whatever it found. The fill: the numbers that stand at
--- a place, taken without a test, since the look passed.
+-- Reading in two goes, a look and a fill (`Looks` of `timing`).
 use Prim.Native.Nat.{ℕ, zero, suc, _+_, _≤_}
 use mathlib.Core.Path.{_≡_}
 use mathlib.Core.List.{List, [], _∷_, _++_, map}
@@ -9,31 +8,21 @@ use lib.ListN.{length}
 use Rattle.timing.specs.declared.Verdict.{Verdict}
 use Rattle.timing.specs.declared.Verdict.the-variants.{Passed}
 use Rattle.timing.specs.declared.Verdict.the-variants.{Refused as NotPassed}
-use Rattle.timing.specs.declared.NumberRead.{NumberRead}
-use Rattle.timing.specs.declared.NumberRead.the-variants.{Value}
-use Rattle.timing.specs.declared.NumberRead.the-variants.{Refused as NotRead}
 use Rattle.timing.specs.Graphs.{design}
 use Rattle.timing.specs.Marks.{PathList, pathList}
-use Rattle.timing.specs.Numbers.{readNumber}
 use Rattle.timing.specs.Delays.{delayOf}
 use Rattle.timing.specs.Refusals.{unless, _then_}
 use Rattle.timing.specs.Parsing.{Parsed, found, stopped, Reader, onward, _>>=_, _>>_, return, tested, number, repeated, Row, row, ended}
+use Rattle.timing.specs.Looks.{valueAt, nextAt, rowAt, rowEnd}
 use Rattle.timing.specs.Decks.{Deck, Tables, paths}
-use Rattle.deck.specs.declared.Looked.{Looked}
-use Rattle.deck.specs.declared.Looked.the-variants.{At, Refused}
+use Rattle.timing.specs.Lists.{placed}
+use Rattle.timing.specs.Calls.{deckAnswer, made}
+use Rattle.timing.specs.declared.DeckRead.{DeckRead}
 
--- where a reader stopped, and whether it did
-abbrev pub looked : {A : Type 0} → Parsed A → Looked
-looked (found x at) = At at
-looked (stopped r) = Refused r
-
+-- whether a reader stopped
 abbrev pub verdictOf : {A : Type 0} → Parsed A → Verdict
 verdictOf (found x at) = Passed
 verdictOf (stopped r) = NotPassed r
-
-abbrev pub numberOf : Parsed ℕ → NumberRead
-numberOf (found x at) = Value x at
-numberOf (stopped r) = NotRead r
 
 -- a count: a number whose sum with what was counted before is at most a limit, and then at most a table
 abbrev pub countIn : List ℕ → ℕ → ℕ → ℕ → ℕ → Reader ℕ
@@ -72,21 +61,6 @@ deckIn s tables = do
   n ← countIn s 0 10 4096 4096
   edgesIn s tables
 
--- the number at a place and the place behind it
-abbrev pub valueOf : NumberRead → ℕ
-valueOf (Value v next) = v
-valueOf (NotRead r) = 0
-
-abbrev pub nextOf : ℕ → NumberRead → ℕ
-nextOf at (Value v next) = next
-nextOf at (NotRead r) = at
-
-unfoldable pub valueAt : List ℕ → ℕ → ℕ
-valueAt s at = valueOf (readNumber s at)
-
-unfoldable pub nextAt : List ℕ → ℕ → ℕ
-nextAt s at = nextOf at (readNumber s at)
-
 -- k numbers from a place on, and the place behind them
 abbrev pub numbersFrom : List ℕ → ℕ → ℕ → List ℕ
 numbersFrom s zero at = []
@@ -95,12 +69,6 @@ numbersFrom s (suc k) at = valueAt s at ∷ numbersFrom s k (nextAt s at)
 abbrev pub numbersEnd : List ℕ → ℕ → ℕ → ℕ
 numbersEnd s zero at = at
 numbersEnd s (suc k) at = numbersEnd s k (nextAt s at)
-
-abbrev pub rowAt : List ℕ → ℕ → Row
-rowAt s at = record { first = valueAt s at; second = valueAt s (nextAt s at); third = valueAt s (nextAt s (nextAt s at)) }
-
-abbrev pub rowEnd : List ℕ → ℕ → ℕ
-rowEnd s at = nextAt s (nextAt s (nextAt s at))
 
 abbrev pub rowsFrom : List ℕ → ℕ → ℕ → List Row
 rowsFrom s zero at = []
@@ -135,31 +103,41 @@ abbrev pub pathsEnd : List ℕ → ℕ → ℕ → ℕ
 pathsEnd s zero at = at
 pathsEnd s (suc k) at = pathsEnd s k (pathEnd s at)
 
--- where each part of the deck begins, and the deck
-abbrev pub edgesPlace : List ℕ → ℕ
-edgesPlace s = nextAt s (nextAt s 0)
+-- where each part of the deck at a place begins, and the deck
+abbrev pub edgesPlace : List ℕ → ℕ → ℕ
+edgesPlace s at = nextAt s (nextAt s at)
 
-abbrev pub edgeCount : List ℕ → ℕ
-edgeCount s = valueAt s (nextAt s 0)
+abbrev pub edgeCount : List ℕ → ℕ → ℕ
+edgeCount s at = valueAt s (nextAt s at)
 
-unfoldable pub countPlace : List ℕ → ℕ
-countPlace s = rowsEnd s (edgeCount s) (edgesPlace s)
+unfoldable pub countPlace : List ℕ → ℕ → ℕ
+countPlace s at = rowsEnd s (edgeCount s at) (edgesPlace s at)
 
-abbrev pub pathCount : List ℕ → ℕ
-pathCount s = valueAt s (countPlace s)
+abbrev pub pathCount : List ℕ → ℕ → ℕ
+pathCount s at = valueAt s (countPlace s at)
 
-abbrev pub pathsPlace : List ℕ → ℕ
-pathsPlace s = nextAt s (countPlace s)
+abbrev pub pathsPlace : List ℕ → ℕ → ℕ
+pathsPlace s at = nextAt s (countPlace s at)
 
-unfoldable pub deckFrom : List ℕ → Deck
-deckFrom s = record {
-  design = design (valueAt s 0) (startsFrom s (edgeCount s) (edgesPlace s)) (endsFrom s (edgeCount s) (edgesPlace s)) (delaysFrom s (edgeCount s) (edgesPlace s));
-  list = pathList (edgesFrom s (pathCount s) (pathsPlace s)) (lengthsFrom s (pathCount s) (pathsPlace s));
-  allowed = valueAt s (pathsEnd s (pathCount s) (pathsPlace s));
+unfoldable pub deckFrom : List ℕ → ℕ → Deck
+deckFrom s at = record {
+  design = design (valueAt s at) (startsFrom s (edgeCount s at) (edgesPlace s at)) (endsFrom s (edgeCount s at) (edgesPlace s at)) (delaysFrom s (edgeCount s at) (edgesPlace s at));
+  list = pathList (edgesFrom s (pathCount s at) (pathsPlace s at)) (lengthsFrom s (pathCount s at) (pathsPlace s at));
+  allowed = valueAt s (pathsEnd s (pathCount s at) (pathsPlace s at));
 }
 
 -- the deck fits the tables
-pub record Fits (s : List ℕ) (tables : Tables) : Type 0 where
-  pub edges : edgeCount s ≤ tables .edges
-  pub paths : pathCount s ≤ tables .paths
-  pub listed : length (edgesFrom s (pathCount s) (pathsPlace s)) ≤ tables .listed
+pub record Fits (s : List ℕ) (at : ℕ) (tables : Tables) : Type 0 where
+  pub edges : edgeCount s at ≤ tables .edges
+  pub paths : pathCount s at ≤ tables .paths
+  pub listed : length (edgesFrom s (pathCount s at) (pathsPlace s at)) ≤ tables .listed
+
+-- tables that a deck at a place can be put into, and what is left in them
+abbrev pub CanFill : List ℕ → ℕ → List ℕ → List ℕ → List ℤ → List ℕ → List ℕ → Type 0
+CanFill s at starts ends delays listed lengths = Fits s at (record { edges = length starts; listed = length listed; paths = length lengths }) × ((length ends ≡ length starts) × (length delays ≡ length starts))
+
+abbrev pub HasFilled : Deck → DeckRead → List ℕ → List ℕ → List ℤ → List ℕ → List ℕ → List ℕ → List ℕ → List ℤ → List ℕ → List ℕ → Type 0
+HasFilled d r starts ends delays listed lengths starts' ends' delays' listed' lengths' =
+    (r ≡ deckAnswer (made d))
+    × (((starts' ≡ placed (d .design .starts) starts) × (ends' ≡ placed (d .design .ends) ends) × (delays' ≡ placed (d .design .delays) delays))
+    × ((listed' ≡ placed (d .list .edges) listed) × (lengths' ≡ placed (d .list .lengths) lengths)))

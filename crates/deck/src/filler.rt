@@ -5,24 +5,14 @@ ghost use lib.ListN.{length, set};
 ghost use lib.Seq.{sets};
 ghost use Rattle.timing.specs.Lists.{placed};
 ghost use Rattle.timing.specs.Delays.{delayOf};
-ghost use Rattle.timing.specs.Calls.{deckAnswer, made};
-ghost use Rattle.deck.specs.Reading.{valueAt, nextAt, numbersFrom, numbersEnd, rowAt, rowEnd, startsFrom, endsFrom, delaysFrom, rowsEnd, pathEnd, edgesFrom, lengthsFrom, pathsEnd, edgesPlace, edgeCount, countPlace, deckFrom, Fits};
+ghost use Rattle.timing.specs.Looks.{valueAt, nextAt, rowAt, rowEnd};
+ghost use Rattle.deck.specs.Reading.{numbersFrom, numbersEnd, startsFrom, endsFrom, delaysFrom, rowsEnd, pathEnd, edgesFrom, lengthsFrom, pathsEnd, edgeCount, countPlace, deckFrom, CanFill, HasFilled};
 use super::Edges;
 use super::Listed;
-use super::Taken;
 use super::counts::wide;
+use packed::take_number;
 use timing::DeckRead;
-use timing::NumberRead;
-
-fn take(s: &[u8], at: usize) -> Taken
-    ensures { λ r. ⌜ (r .value ≡ valueAt (now (s .entry)) at) × (r .next ≡ nextAt (now (s .entry)) at) ⌝ }
-{
-    let r = packed::read_number(s, at);
-    match r {
-        NumberRead::Value { value, next } => Taken { value, next },
-        NumberRead::Refused(_) => Taken { value: 0, next: at },
-    }
-}
+use timing::Taken;
 
 fn set_delay(delays: &mut [i32], i: usize, x: u32)
     requires { ⌜ i < length (now delays) ⌝ }
@@ -43,11 +33,11 @@ fn fill_row(
     requires { ⌜ (i < length (now starts)) × (i < length (now ends)) × (i < length (now delays)) ⌝ }
     ensures { λ r. ⌜ (r ≡ rowEnd (now (s .entry)) at) × (now (starts .exit) ≡ set (now (starts .entry)) i (rowAt (now (s .entry)) at .first)) × (now (ends .exit) ≡ set (now (ends .entry)) i (rowAt (now (s .entry)) at .second)) × (now (delays .exit) ≡ set (now (delays .entry)) i (delayOf (rowAt (now (s .entry)) at .third))) ⌝ }
 {
-    let a = take(s, at);
+    let a = take_number(s, at);
     let second = a.next;
-    let b = take(s, second);
+    let b = take_number(s, second);
     let third = b.next;
-    let d = take(s, third);
+    let d = take_number(s, third);
     starts[i] = a.value;
     ends[i] = b.value;
     set_delay(delays, i, d.value);
@@ -82,7 +72,7 @@ fn fill_numbers(s: &[u8], at: usize, count: usize, listed: &mut [u32], from: usi
     let mut at = at;
     let mut i = 0;
     while i < count {
-        let a = take(s, at);
+        let a = take_number(s, at);
         listed[from + i] = a.value;
         at = a.next;
         i += 1;
@@ -102,7 +92,7 @@ fn fill_path(
     requires { ⌜ (from + valueAt (now s) at ≤ length (now listed)) × (k < length (now lengths)) ⌝ }
     ensures { λ r. ⌜ (r .value ≡ valueAt (now (s .entry)) at) × (r .next ≡ pathEnd (now (s .entry)) at) × (now (listed .exit) ≡ sets (now (listed .entry)) from (numbersFrom (now (s .entry)) (valueAt (now (s .entry)) at) (nextAt (now (s .entry)) at))) × (now (lengths .exit) ≡ set (now (lengths .entry)) k (valueAt (now (s .entry)) at)) ⌝ }
 {
-    let a = take(s, at);
+    let a = take_number(s, at);
     let value = a.value;
     let edges = a.next;
     lengths[k] = value;
@@ -129,15 +119,21 @@ fn fill_paths(s: &[u8], at: usize, count: usize, listed: &mut [u32], lengths: &m
     }
 }
 
-// n, and the edges.
-fn fill_design(s: &[u8], starts: &mut [u32], ends: &mut [u32], delays: &mut [i32]) -> Edges
-    requires { ⌜ (edgeCount (now s) ≤ length (now starts)) × (length (now ends) ≡ length (now starts)) × (length (now delays) ≡ length (now starts)) ⌝ }
-    ensures { λ r. ⌜ (r .nodes ≡ valueAt (now (s .entry)) 0) × (r .count ≡ edgeCount (now (s .entry))) × (r .next ≡ countPlace (now (s .entry))) ⌝ }
-    ensures { λ r. ⌜ (now (starts .exit) ≡ placed (deckFrom (now (s .entry)) .design .starts) (now (starts .entry))) × (now (ends .exit) ≡ placed (deckFrom (now (s .entry)) .design .ends) (now (ends .entry))) × (now (delays .exit) ≡ placed (deckFrom (now (s .entry)) .design .delays) (now (delays .entry))) ⌝ }
+// n, and the edges, of the deck at a place.
+fn fill_design(
+    s: &[u8],
+    at: usize,
+    starts: &mut [u32],
+    ends: &mut [u32],
+    delays: &mut [i32],
+) -> Edges
+    requires { ⌜ (edgeCount (now s) at ≤ length (now starts)) × (length (now ends) ≡ length (now starts)) × (length (now delays) ≡ length (now starts)) ⌝ }
+    ensures { λ r. ⌜ (r .nodes ≡ valueAt (now (s .entry)) at) × (r .count ≡ edgeCount (now (s .entry)) at) × (r .next ≡ countPlace (now (s .entry)) at) ⌝ }
+    ensures { λ r. ⌜ (now (starts .exit) ≡ placed (deckFrom (now (s .entry)) at .design .starts) (now (starts .entry))) × (now (ends .exit) ≡ placed (deckFrom (now (s .entry)) at .design .ends) (now (ends .entry))) × (now (delays .exit) ≡ placed (deckFrom (now (s .entry)) at .design .delays) (now (delays .entry))) ⌝ }
 {
-    let n = take(s, 0);
+    let n = take_number(s, at);
     let second = n.next;
-    let m = take(s, second);
+    let m = take_number(s, second);
     let rows = m.next;
     let count = m.value;
     let next = fill_rows(s, rows, wide(count), starts, ends, delays);
@@ -148,28 +144,27 @@ fn fill_design(s: &[u8], starts: &mut [u32], ends: &mut [u32], delays: &mut [i32
     }
 }
 
+// The deck at a place.
 pub(crate) fn fill(
     s: &[u8],
+    at: usize,
     starts: &mut [u32],
     ends: &mut [u32],
     delays: &mut [i32],
     listed: &mut [u32],
     lengths: &mut [u32],
 ) -> DeckRead
-    requires { ⌜ Fits (now s) (record { edges = length (now starts); listed = length (now listed); paths = length (now lengths) }) ⌝ }
-    requires { ⌜ (length (now ends) ≡ length (now starts)) × (length (now delays) ≡ length (now starts)) ⌝ }
-    ensures { λ r. ⌜ r ≡ deckAnswer (made (deckFrom (now (s .entry)))) ⌝ }
-    ensures { λ r. ⌜ (now (starts .exit) ≡ placed (deckFrom (now (s .entry)) .design .starts) (now (starts .entry))) × (now (ends .exit) ≡ placed (deckFrom (now (s .entry)) .design .ends) (now (ends .entry))) × (now (delays .exit) ≡ placed (deckFrom (now (s .entry)) .design .delays) (now (delays .entry))) ⌝ }
-    ensures { λ r. ⌜ (now (listed .exit) ≡ placed (deckFrom (now (s .entry)) .list .edges) (now (listed .entry))) × (now (lengths .exit) ≡ placed (deckFrom (now (s .entry)) .list .lengths) (now (lengths .entry))) ⌝ }
+    requires { ⌜ CanFill (now s) at (now starts) (now ends) (now delays) (now listed) (now lengths) ⌝ }
+    ensures { λ r. ⌜ HasFilled (deckFrom (now (s .entry)) at) r (now (starts .entry)) (now (ends .entry)) (now (delays .entry)) (now (listed .entry)) (now (lengths .entry)) (now (starts .exit)) (now (ends .exit)) (now (delays .exit)) (now (listed .exit)) (now (lengths .exit)) ⌝ }
 {
-    let d = fill_design(s, starts, ends, delays);
-    let at = d.next;
-    let c = take(s, at);
+    let d = fill_design(s, at, starts, ends, delays);
+    let second = d.next;
+    let c = take_number(s, second);
     let first = c.next;
     let count = wide(c.value);
     let l = fill_paths(s, first, count, listed, lengths);
     let last = l.next;
-    let t = take(s, last);
+    let t = take_number(s, last);
     DeckRead::Deck {
         nodes: d.nodes,
         edges: wide(d.count),

@@ -6,26 +6,14 @@ ghost use Rattle.timing.specs.Decks.{packedDeck};
 ghost use lib.ListN.{length};
 ghost use Rattle.timing.specs.Calls.{deckWriteTests, writing, roomAfterWriting, filled, deckRead, deckAnswer};
 use timing::DeckRead;
-use timing::Refusal;
 use timing::Verdict;
 use timing::Written;
 
 mod counts;
 mod filler;
 mod looker;
+mod reader;
 mod writer;
-
-// What a look answers: the place behind what it looked at.
-enum Looked {
-    At(usize),
-    Refused(Refusal),
-}
-
-// A number and the place behind it.
-struct Taken {
-    value: u32,
-    next: usize,
-}
 
 // The place behind the paths, and how many edges they list.
 struct Listed {
@@ -91,12 +79,12 @@ pub fn read_deck(
         }
         Verdict::Passed => {}
     }
-    let look = looker::look(s, starts.len(), listed.len(), lengths.len());
+    let look = reader::look_deck(s, starts.len(), listed.len(), lengths.len());
     match look {
         Verdict::Refused(r) => {
             return DeckRead::Refused(r);
         }
         Verdict::Passed => {}
     }
-    filler::fill(s, starts, ends, delays, listed, lengths)
+    reader::fill_deck(s, starts, ends, delays, listed, lengths)
 }

@@ -1,42 +1,16 @@
 // The first go of the reader: everything is parsed and tested, and nothing is written.
 ghost use mathlib.Core.Path.{_≡_};
 ghost use Prim.Native.Nat.{_+_, _≤_};
-ghost use Rattle.timing.specs.Parsing.{number, repeated, row};
-ghost use Rattle.timing.specs.Decks.{readDeck};
 ghost use Rattle.timing.specs.Decks.{paths as pathsOf};
-ghost use Rattle.deck.specs.Reading.{looked, verdictOf, numberOf, countIn, pathIn, tailIn, listIn, edgesIn};
-use super::Looked;
+ghost use Rattle.timing.specs.Looks.{looked, numberOf};
+ghost use Rattle.deck.specs.Reading.{verdictOf, countIn, pathIn, tailIn, listIn, edgesIn, deckIn};
 use super::counts::and_unless;
 use super::counts::wide;
+use packed::look_numbers;
+use packed::look_rows;
+use timing::Looked;
 use timing::NumberRead;
 use timing::Verdict;
-
-// k numbers, one after the other.
-fn look_numbers(s: &[u8], at: usize, k: usize) -> Looked
-    ensures { λ r. ⌜ r ≡ looked (repeated k (number (now (s .entry))) at) ⌝ }
-{
-    let mut at = at;
-    let mut i = 0;
-    while i < k {
-        let r = packed::read_number(s, at);
-        match r {
-            NumberRead::Value { value: _, next } => {
-                at = next;
-                i += 1;
-            }
-            NumberRead::Refused(e) => {
-                return Looked::Refused(e);
-            }
-        }
-    }
-    Looked::At(at)
-}
-
-fn look_rows(s: &[u8], at: usize, m: u32) -> Looked
-    ensures { λ r. ⌜ r ≡ looked (repeated m (row (now (s .entry))) at) ⌝ }
-{
-    look_numbers(s, at, 3 * wide(m))
-}
 
 fn added(sum: usize, n: u32) -> usize
     requires { ⌜ sum ≤ 8192 ⌝ }
@@ -156,11 +130,11 @@ fn look_edges(s: &[u8], at: usize, edges: usize, listed: usize, paths: usize) ->
     }
 }
 
-// The whole deck. The nodes have no table.
-pub(crate) fn look(s: &[u8], edges: usize, listed: usize, paths: usize) -> Verdict
-    ensures { λ r. ⌜ r ≡ verdictOf (readDeck (now (s .entry)) (record { edges = edges; listed = listed; paths = paths })) ⌝ }
+// The deck from a place on. The nodes have no table.
+pub(crate) fn look(s: &[u8], at: usize, edges: usize, listed: usize, paths: usize) -> Verdict
+    ensures { λ r. ⌜ r ≡ verdictOf (deckIn (now (s .entry)) (record { edges = edges; listed = listed; paths = paths }) at) ⌝ }
 {
-    let r = look_count(s, 0, 0, 10, 4096, 4096);
+    let r = look_count(s, at, 0, 10, 4096, 4096);
     match r {
         NumberRead::Value { value: _, next } => look_edges(s, next, edges, listed, paths),
         NumberRead::Refused(e) => Verdict::Refused(e),

@@ -13,33 +13,18 @@ ghost use Rattle.deck.specs.Writing.{deckOf, Fit, size, Wrote};
 use super::counts::wide;
 use timing::Written;
 
-// How many bytes a number takes.
+// How many bytes a number takes, and numbers: the bounds are for the sums.
 fn number_size(x: u32) -> usize
     ensures { λ r. ⌜ (r ≡ length (packed x)) × (r ≤ 5) ⌝ }
 {
-    if x < 128 {
-        return 1;
-    }
-    if x < 16384 {
-        return 2;
-    }
-    if x < 2097152 {
-        return 3;
-    }
-    if x < 268435456 { 4 } else { 5 }
+    packed::number_size(x)
 }
 
 fn numbers_size(s: &[u32]) -> usize
     requires { ⌜ length (now s) ≤ 16384 ⌝ }
     ensures { λ r. ⌜ (r ≡ size (now (s .entry))) × (r ≤ 81920) ⌝ }
 {
-    let mut total: usize = 0;
-    let mut k = 0;
-    while k < s.len() {
-        total += number_size(s[k]);
-        k += 1;
-    }
-    total
+    packed::numbers_size(s)
 }
 
 // The number that stands for the delay at an index.

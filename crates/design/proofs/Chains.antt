@@ -5,7 +5,7 @@ use Rattle.timing.specs.declared.Verdict.the-variants.{Passed, Refused}
 use Rattle.timing.specs.Refusals.{_then_}
 
 -- The code passes a verdict on from test to test, the definitions group a chain to the right: it is the same chain.
-then-assoc : (a b c : Verdict) → ((a then b) then c) ≡ (a then (b then c))
+pub then-assoc : (a b c : Verdict) → ((a then b) then c) ≡ (a then (b then c))
 then-assoc Passed b c = refl
 then-assoc (Refused r) b c = refl
 

@@ -10,7 +10,7 @@ ghost use Rattle.timing.specs.Refusals.{_then_};
 ghost use Rattle.timing.specs.Refusals.{unless as passedIf};
 ghost use Rattle.timing.specs.Graphs.{design};
 ghost use Rattle.timing.specs.Marks.{pathList};
-ghost use Rattle.timing.specs.Tests.{designSizes, listSizes, designCounts, designTests, listCounts, listTests, allowedTest};
+ghost use Rattle.timing.specs.Tests.{designSizes, listSizes, designTests, listTests};
 ghost use Rattle.timing.specs.Calls.{testDesign, testList, testDeck};
 use timing::MAX_ALLOWED_TIME;
 use timing::MAX_EDGES;
@@ -62,24 +62,12 @@ pub fn and_list_sizes(before: Verdict, listed: &[u32], lengths: &[u32]) -> Verdi
     unless(30, left == 0)
 }
 
-pub fn list_sizes(listed: &[u32], lengths: &[u32]) -> Verdict
-    ensures { λ r. ⌜ r ≡ listSizes (pathList (now (listed .entry)) (now (lengths .entry))) ⌝ }
-{
-    and_list_sizes(Verdict::Passed, listed, lengths)
-}
-
 // 10 and 11, from n and m.
 fn and_design_counts(before: Verdict, n: u32, m: usize) -> Verdict
     ensures { λ r. ⌜ r ≡ (before then (passedIf 10 (leb n 4096) then passedIf 11 (leb m 16384))) ⌝ }
 {
     let nodes = and_unless(before, 10, n <= MAX_NODES);
     and_unless(nodes, 11, m <= MAX_EDGES)
-}
-
-pub fn design_counts(n: u32, starts: &[u32]) -> Verdict
-    ensures { λ r. ⌜ ((ends : List ℕ) (delays : List ℤ) → r ≡ designCounts (design n (now (starts .entry)) ends delays)) ⌝ }
-{
-    and_design_counts(Verdict::Passed, n, starts.len())
 }
 
 // 10 to 14. The delays are tested for each edge that there is a start for.
@@ -98,24 +86,12 @@ pub fn and_design_tests(
     edges::and_in_range(rising, starts.len(), delays)
 }
 
-pub fn design_tests(n: u32, starts: &[u32], ends: &[u32], delays: &[i32]) -> Verdict
-    ensures { λ r. ⌜ r ≡ designTests (design n (now (starts .entry)) (now (ends .entry)) (now (delays .entry))) ⌝ }
-{
-    and_design_tests(Verdict::Passed, n, starts, ends, delays)
-}
-
 // 20 and 21, from the count of paths and of listed edges.
 fn and_list_counts(before: Verdict, paths: usize, edges: usize) -> Verdict
     ensures { λ r. ⌜ r ≡ (before then (passedIf 20 (leb paths 1024) then passedIf 21 (leb edges 8192))) ⌝ }
 {
     let count = and_unless(before, 20, paths <= MAX_PATHS);
     and_unless(count, 21, edges <= MAX_LISTED_EDGES)
-}
-
-pub fn list_counts(listed: &[u32], lengths: &[u32]) -> Verdict
-    ensures { λ r. ⌜ r ≡ listCounts (pathList (now (listed .entry)) (now (lengths .entry))) ⌝ }
-{
-    and_list_counts(Verdict::Passed, lengths.len(), listed.len())
 }
 
 // 20 to 24, of a list against a design of as many edges as it has starts.
@@ -132,19 +108,6 @@ pub fn and_list_tests(
     let filled = paths::and_filled(counts, listed, lengths);
     let named = paths::and_named(filled, starts.len(), listed, lengths);
     paths::and_joined(named, starts, ends, listed, lengths)
-}
-
-pub fn list_tests(starts: &[u32], ends: &[u32], listed: &[u32], lengths: &[u32]) -> Verdict
-    ensures { λ r. ⌜ ((n : ℕ) (delays : List ℤ) → r ≡ listTests (design n (now (starts .entry)) (now (ends .entry)) delays) (pathList (now (listed .entry)) (now (lengths .entry)))) ⌝ }
-{
-    and_list_tests(Verdict::Passed, starts, ends, listed, lengths)
-}
-
-// 25.
-pub fn allowed_test(t: u32) -> Verdict
-    ensures { λ r. ⌜ r ≡ allowedTest t ⌝ }
-{
-    unless(25, t <= MAX_ALLOWED_TIME)
 }
 
 // Tests a design: 30, and 10 to 14.

@@ -12,7 +12,8 @@ use Rattle.timing.specs.declared.NumberRead.the-variants.{Value}
 use Rattle.timing.specs.declared.NumberRead.the-variants.{Refused as NotRead}
 use Rattle.timing.specs.Numbers.{readNumber}
 use Rattle.timing.specs.Parsing.{Parsed, found, stopped, Reader, onward, _>>=_, return, parsedNumber, number, repeated, Row, row}
-use Rattle.graph.specs.Reading.{valueOf, nextOf, valueAt, nextAt, thingsFrom, placeAfter, numbersFrom, numbersEnd, rowAt, rowEnd, rowsFrom}
+use Rattle.timing.specs.Looks.{valueOf, nextOf, valueAt, nextAt, rowAt, rowEnd}
+use Rattle.graph.specs.Reading.{thingsFrom, placeAfter, numbersFrom, numbersEnd, rowsFrom}
 
 -- a turn of the loop over k numbers, and its ends
 module _ (s : List ℕ) (k i at : ℕ) (out : List ℕ) where

@@ -23,8 +23,9 @@ use Rattle.timing.specs.Parsing.{Parsed, found, stopped, Reader, onward, _>>=_,
 use Rattle.timing.specs.Tests.{sameSizes}
 use Rattle.timing.specs.Calls.{Outcome, made, refused, parsed, graphAnswer, graphRead, graphSlices, roomOf, nodesAfter, startsAfter, endsAfter, namesAfter}
 use Rattle.theorems.proofs.Lists.{and-left, and-right, holds}
-use Rattle.theorems.proofs.Refusals.{then-passed, unless-passed}
-use Rattle.graph.specs.Reading.{valueAt, nextAt, rowEnd, numbersFrom, numbersEnd, rowAt, rowsFrom, rowsPlace}
+use Rattle.timing.proofs.Verdicts.{then-passed, unless-passed}
+use Rattle.timing.specs.Looks.{valueAt, nextAt, rowEnd, rowAt}
+use Rattle.graph.specs.Reading.{numbersFrom, numbersEnd, rowsFrom, rowsPlace}
 use Rattle.graph.proofs.Looking.{edgeOfRow, edgesReader, repeated-length}
 use Rattle.graph.proofs.Filling.{things-length, numbers-from, rows-from, number-here}
 

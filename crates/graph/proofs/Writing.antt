@@ -1,14 +1,14 @@
 -- Numbers written one after the other: what is left to be written, and the room at the end.
-use Prim.Native.Nat.{ℕ, zero, suc, _+_, _≤_, _<_}
+use Prim.Native.Nat.{ℕ, _+_, _≤_, _<_}
 use native.Mathlib.Omega.{arith}
 use native.Mathlib.Numerals.{add-one}
 use mathlib.Core.Path.{_≡_, refl, sym, _∙_, ap}
 use mathlib.Core.Bool.{Bool, true, false, cond, _&&_}
 use mathlib.Core.List.{List, [], _∷_, _++_, flatMap, append-assoc}
 use lib.Dec.{eqb, leb, eqb→eq, leb→le}
-use lib.ListN.{length, getD, take, drop, set, length-append, length-drop, drop-of-length-le}
-use lib.Seq.{sets, sets-eq, length-sets, drop-cons, length-take-le}
-use borrow.Author.Tests.{leb-true, le-leb, lt-leb}
+use lib.ListN.{length, getD, take, drop, length-append, length-drop, drop-of-length-le}
+use lib.Seq.{sets, length-sets, drop-cons, length-take-le}
+use borrow.Author.Tests.{leb-true}
 use Rattle.timing.specs.declared.Refusal.{Refusal}
 use Rattle.timing.specs.declared.Verdict.{Verdict}
 use Rattle.timing.specs.declared.Verdict.the-variants.{Passed}
@@ -17,14 +17,15 @@ use Rattle.timing.specs.declared.Written.{Written}
 use Rattle.timing.specs.declared.Written.the-variants.{End, Refused}
 use Rattle.timing.specs.Graphs.{Graph, edgesOf}
 use Rattle.timing.specs.GraphBytes.{graphNumbers, packedGraph}
-use Rattle.timing.specs.Refusals.{refusal, _then_}
+use Rattle.timing.specs.Refusals.{_then_}
 use Rattle.timing.specs.Refusals.{unless as passedIf}
 use Rattle.timing.specs.Tests.{sameSizes}
 use Rattle.timing.specs.Calls.{graphSlices, graphOf, writing, roomAfterWriting, graphWriteTests}
 use Rattle.theorems.proofs.Lists.{and-left, and-right, holds}
-use Rattle.theorems.proofs.Refusals.{then-passed, unless-passed}
+use Rattle.timing.proofs.Verdicts.{then-passed, unless-passed}
 use Rattle.timing.specs.Numbers.{packed, writeAnswer, writtenRoom}
 use Rattle.packed.proofs.Sizes.{size-append, size-cons, size-none}
+use Rattle.packed.proofs.Rooms.{sets-append, written-sets, answer-fits}
 use Rattle.graph.proofs.Edges.{length-edges}
 use Rattle.graph.specs.Writing.{wroteNext, roomNext, wroteAll, roomAll, Wrote, rowsOf}
 
@@ -110,20 +111,6 @@ unfolding flatMap
 rows-done s t n k h = rw (drop-of-length-le s h)
 
 -- where they all fit, the answer and the room are those of one write
-sets-append : (l : List ℕ) (i : ℕ) (xs ys : List ℕ) → sets l i (xs ++ ys) ≡ sets (sets l i xs) (i + length xs) ys
-sets-append l i [] ys = ap (λ (k : ℕ). sets l k ys) (omega arith)
-sets-append l i (a ∷ xs) ys =
-    let d : suc i + length xs ≡ i + suc (length xs) = omega arith in
-    sets-append (set l i a) (suc i) xs ys ∙ ap (λ (k : ℕ). sets (sets (set l i a) (suc i) xs) k ys) d
-
-written-sets : (room : List ℕ) (at : ℕ) (bs : List ℕ) → at + length bs ≤ length room → writtenRoom room at bs ≡ sets room at bs
-unfolding writtenRoom
-written-sets room at bs h = rw (le-leb (at + length bs) (length room) h) (sym (sets-eq bs room at h ∙ append-assoc (take at room) bs (drop (at + length bs) room)))
-
-answer-fits : (room : List ℕ) (at : ℕ) (bs : List ℕ) → at + length bs ≤ length room → writeAnswer room at bs ≡ End (at + length bs)
-unfolding writeAnswer
-answer-fits room at bs h = rw (le-leb (at + length bs) (length room) h)
-
 all-sets : (room : List ℕ) (at : ℕ) (xs : List ℕ) → at + length (flatMap packed xs) ≤ length room
     → (wroteAll (End at) room xs ≡ End (at + length (flatMap packed xs))) × (roomAll (End at) room xs ≡ sets room at (flatMap packed xs))
 unfolding flatMap
@@ -234,14 +221,7 @@ tests-fit nodes gs ge gn q =
       names = sym (eqb→eq (length gs) (length gn) (and-right a b s));
     }
 
--- What the writer answers and leaves, where its tests refuse, where the graph is too long, and where it is written.
-pub write-refused : (v : Verdict) (r : Refusal) (room bs : List ℕ) → v ≡ NotPassed r → (Refused r ≡ writing v room bs) × (room ≡ roomAfterWriting v room bs)
-write-refused v r room bs e = rw e (refl, refl)
-
-pub write-long : (v : Verdict) (q : Refusal) (room bs : List ℕ) → v ≡ Passed → q ≡ refusal 35 0 → length room < length bs → (Refused q ≡ writing v room bs) × (room ≡ roomAfterWriting v room bs)
-unfolding writeAnswer writtenRoom
-write-long v q room bs e f h = rw (e, f, lt-leb (0 + length bs) (length room) (omega arith)) (refl, refl)
-
+-- What the writer answers and leaves, where the graph is written.
 pub write-done : (v : Verdict) (G : Graph) (room room′ : List ℕ) (w : Written) → v ≡ Passed → length (packedGraph G) ≤ length room → Wrote (End 0) room (graphNumbers G) w room′
     → (w ≡ writing v room (packedGraph G)) × (room′ ≡ roomAfterWriting v room (packedGraph G))
 unfolding packedGraph

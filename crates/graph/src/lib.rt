@@ -14,19 +14,12 @@ ghost use Rattle.timing.specs.GraphBytes.{packedGraph};
 ghost use Rattle.timing.specs.Calls.{graphSlices, graphOf, writing, roomAfterWriting, graphWriteTests, roomOf, graphRead, graphAnswer, nodesAfter, startsAfter, endsAfter, namesAfter};
 ghost use Rattle.graph.specs.Passes.{Marked, stands, flag, edgePasses, follows, joined, copyPasses};
 use timing::GraphMade;
-use timing::Refusal;
 use timing::Verdict;
 use timing::Written;
 use timing::number_at;
 
 mod reader;
 mod writer;
-
-// What a look answers: the place behind what it looked at.
-enum Looked {
-    At(usize),
-    Refused(Refusal),
-}
 
 fn both(a: bool, b: bool) -> bool
     ensures { λ r. ⌜ r ≡ (a && b) ⌝ }

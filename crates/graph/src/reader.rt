@@ -7,46 +7,22 @@ ghost use lib.Seq.{sets};
 ghost use lib.Dec.{leb};
 ghost use Rattle.timing.specs.Refusals.{_then_};
 ghost use Rattle.timing.specs.Refusals.{unless as passedIf};
-ghost use Rattle.timing.specs.Parsing.{number, repeated, row};
 ghost use Rattle.timing.specs.GraphBytes.{readGraph};
 ghost use Rattle.timing.specs.Calls.{parsed, graphAnswer};
-ghost use Rattle.graph.specs.Reading.{looked, numberOf, countIn, madeOf, edgesIn, valueAt, nextAt, numbersFrom, numbersEnd, rowAt, rowEnd, rowsFrom, rowsPlace};
-use super::Looked;
+ghost use Rattle.timing.specs.Looks.{numberOf, nextAt, rowAt, rowEnd};
+ghost use Rattle.graph.specs.Reading.{countIn, madeOf, edgesIn, numbersFrom, numbersEnd, rowsFrom, rowsPlace};
+use packed::look_numbers;
+use packed::look_rows;
+use packed::take_number;
 use timing::GraphMade;
+use timing::Looked;
 use timing::NumberRead;
 use timing::Verdict;
-
-// k numbers, one after the other.
-fn look_numbers(s: &[u8], at: usize, k: usize) -> Looked
-    ensures { λ r. ⌜ r ≡ looked (repeated k (number (now (s .entry))) at) ⌝ }
-{
-    let mut here = at;
-    let mut i = 0;
-    while i < k {
-        let r = packed::read_number(s, here);
-        match r {
-            NumberRead::Value { value: _, next } => {
-                here = next;
-                i += 1;
-            }
-            NumberRead::Refused(e) => {
-                return Looked::Refused(e);
-            }
-        }
-    }
-    Looked::At(here)
-}
 
 fn wide(x: u32) -> usize
     ensures { λ r. ⌜ r ≡ x ⌝ }
 {
     x as usize
-}
-
-fn look_rows(s: &[u8], at: usize, m: u32) -> Looked
-    ensures { λ r. ⌜ r ≡ looked (repeated m (row (now (s .entry))) at) ⌝ }
-{
-    look_numbers(s, at, 3 * wide(m))
 }
 
 // 32, and then the number of the room.
@@ -117,26 +93,10 @@ pub(crate) fn look(s: &[u8], copies: usize, edges: usize) -> GraphMade
     }
 }
 
-// The number at a place, and the place behind it.
-struct Found {
-    value: u32,
-    next: usize,
-}
-
-fn found_at(s: &[u8], at: usize) -> Found
-    ensures { λ r. ⌜ (r .value ≡ valueAt (now (s .entry)) at) × (r .next ≡ nextAt (now (s .entry)) at) ⌝ }
-{
-    let r = packed::read_number(s, at);
-    match r {
-        NumberRead::Value { value, next } => Found { value, next },
-        NumberRead::Refused(_) => Found { value: 0, next: at },
-    }
-}
-
 pub(crate) fn next_at(s: &[u8], at: usize) -> usize
     ensures { λ r. ⌜ r ≡ nextAt (now (s .entry)) at ⌝ }
 {
-    let f = found_at(s, at);
+    let f = take_number(s, at);
     f.next
 }
 
@@ -148,7 +108,7 @@ pub(crate) fn fill_numbers(s: &[u8], at: usize, k: usize, out: &mut [u32]) -> us
     let mut here = at;
     let mut i = 0;
     while i < k {
-        let f = found_at(s, here);
+        let f = take_number(s, here);
         out[i] = f.value;
         here = f.next;
         i += 1;
@@ -164,11 +124,11 @@ fn fill_row(s: &[u8], at: usize, i: usize, gs: &mut [u32], ge: &mut [u32], gn: &
     ensures { λ r. ⌜ now (ge .exit) ≡ set (now (ge .entry)) i (rowAt (now (s .entry)) at .second) ⌝ }
     ensures { λ r. ⌜ now (gn .exit) ≡ set (now (gn .entry)) i (rowAt (now (s .entry)) at .third) ⌝ }
 {
-    let a = found_at(s, at);
+    let a = take_number(s, at);
     let second = a.next;
-    let b = found_at(s, second);
+    let b = take_number(s, second);
     let third = b.next;
-    let c = found_at(s, third);
+    let c = take_number(s, third);
     gs[i] = a.value;
     ge[i] = b.value;
     gn[i] = c.value;

@@ -18,7 +18,7 @@ use Rattle.timing.specs.Refusals.{refusal, unless, firstBad, _then_}
 use Rattle.timing.specs.Tests.{sameSizes, designSizes, listSizes, nodeCount, designCounts, strays, falls, tooSlow, designTests, listCounts, meets, listTests, allowedTest, graphTest, candidates, scratchTest, Room, roomSizes, roomTests}
 use Rattle.timing.specs.Calls.{GraphSlices, graphOf, graphSizes, Outcome, outcome, Removal, removalTests, removeFromDesign, removeFromGraph, graphAnswer, testTimes}
 use Rattle.theorems.proofs.Lists.{holds, length-upto}
-use Rattle.theorems.proofs.Refusals.{then-passed, unless-passed}
+use Rattle.timing.proofs.Verdicts.{then-passed, unless-passed}
 use Rattle.design.proofs.Laws.{length-cut}
 use Rattle.jaqhweni.specs.Small.{SmallRefusal, SmallGraph, Small}
 

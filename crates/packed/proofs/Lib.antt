@@ -2,3 +2,5 @@
 pub mod Numbers
 pub mod Delays
 pub mod Sizes
+pub mod Looking
+pub mod Rooms

@@ -1,4 +1,4 @@
-// Numbers and delays to bytes and back.
+// Numbers and delays to bytes and back; and numbers one after the other.
 ghost use mathlib.Core.Path.{_≡_};
 ghost use Prim.Native.Nat.{ℕ, _+_, _≤_};
 ghost use lib.ListN.{length, take, drop};
@@ -6,8 +6,12 @@ ghost use mathlib.Core.List.{flatMap};
 ghost use lib.IntN.{ℤ};
 ghost use Rattle.timing.specs.Numbers.{packed, groupsIn, readNumber, writeAnswer, writtenRoom};
 ghost use Rattle.timing.specs.Delays.{packedDelay, delayOf};
+ghost use Rattle.timing.specs.Parsing.{number, repeated, row};
+ghost use Rattle.timing.specs.Looks.{looked, valueAt, nextAt};
 use timing::Groups;
+use timing::Looked;
 use timing::NumberRead;
+use timing::Taken;
 use timing::Written;
 
 // The number at a place, with at most `g` groups after its first. The highest group comes back
@@ -155,4 +159,44 @@ pub fn numbers_size(s: &[u32]) -> usize
         i += 1;
     }
     total
+}
+
+// k numbers, one after the other.
+pub fn look_numbers(s: &[u8], at: usize, k: usize) -> Looked
+    ensures { λ r. ⌜ r ≡ looked (repeated k (number (now (s .entry))) at) ⌝ }
+{
+    let mut here = at;
+    let mut i = 0;
+    while i < k {
+        let r = read_number(s, here);
+        match r {
+            NumberRead::Value { value: _, next } => {
+                here = next;
+                i += 1;
+            }
+            NumberRead::Refused(e) => {
+                return Looked::Refused(e);
+            }
+        }
+    }
+    Looked::At(here)
+}
+
+// m times three numbers.
+pub fn look_rows(s: &[u8], at: usize, m: u32) -> Looked
+    ensures { λ r. ⌜ r ≡ looked (repeated m (row (now (s .entry))) at) ⌝ }
+{
+    let rows = m as usize;
+    look_numbers(s, at, 3 * rows)
+}
+
+// The number at a place, where a look has passed over it.
+pub fn take_number(s: &[u8], at: usize) -> Taken
+    ensures { λ r. ⌜ (r .value ≡ valueAt (now (s .entry)) at) × (r .next ≡ nextAt (now (s .entry)) at) ⌝ }
+{
+    let r = read_number(s, at);
+    match r {
+        NumberRead::Value { value, next } => Taken { value, next },
+        NumberRead::Refused(_) => Taken { value: 0, next: at },
+    }
 }

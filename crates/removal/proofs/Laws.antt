@@ -23,7 +23,7 @@ use Rattle.timing.specs.Refusals.{refusal, unless, firstBad, _then_}
 use Rattle.timing.specs.Tests.{sameSizes, designSizes, listSizes, nodeCount, designCounts, strays, falls, tooSlow, designTests, listCounts, meets, listTests, graphTest}
 use Rattle.timing.specs.Calls.{GraphSlices, graphSlices, graphOf, graphSizes, Outcome, refused, outcome, Removal, lentRemoval, removalTests, removeFromDesign, removeFromGraph, graphAnswer, nodesAfter, startsAfter, endsAfter, namesAfter, scratchAfter}
 use Rattle.theorems.proofs.Lists.{and-left, and-right, holds, length-upto}
-use Rattle.theorems.proofs.Refusals.{then-passed, unless-passed}
+use Rattle.timing.proofs.Verdicts.{then-passed, unless-passed}
 use Rattle.theorems.proofs.Tested.{DesignFits, design-fits, ListFits, list-fits, Formed, formed, tests-count, no-delays}
 use Rattle.theorems.proofs.Legal.{Legal, fits-legal, formed-legal}
 use Rattle.removal_passes.specs.Fill.{SameRooms}

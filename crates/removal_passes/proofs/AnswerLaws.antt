@@ -19,7 +19,7 @@ use Rattle.timing.specs.Refusals.{refusal, unless, _then_}
 use Rattle.timing.specs.Tests.{candidates, scratchTest, Room, roomTests}
 use Rattle.timing.specs.Calls.{Outcome, outcome, graphSlices, roomOf, scratchAfter}
 use Rattle.theorems.proofs.Lists.{holds}
-use Rattle.theorems.proofs.Refusals.{then-passed, unless-passed}
+use Rattle.timing.proofs.Verdicts.{then-passed, unless-passed}
 use Rattle.theorems.proofs.Tested.{ListFits}
 use Rattle.removal_passes.specs.declared.rows.Layout.{Layout}
 use Rattle.removal_passes.specs.Rows.{Tabled}

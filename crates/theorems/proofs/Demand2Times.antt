@@ -135,7 +135,7 @@ module _ (G H : Graph) (L : List (List ℕ)) (up : Rising G) (S : Stands G L H) 
         less e = ap (λ (z : ℤ). t -ℤ z) e
 
     -- where n is such that a path passes v only if v is below it
-    record-below : (n : ℕ) → ((p q : List Edge) → PassesNode G L v p q → v < n) → PathTimes d t (PassesNode G L v) (nodeTimesAt d t H n v)
+    pub record-below : (n : ℕ) → ((p q : List Edge) → PassesNode G L v p q → v < n) → PathTimes d t (PassesNode G L v) (nodeTimesAt d t H n v)
     record-below n below =
         record {
           none = (

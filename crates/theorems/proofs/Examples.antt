@@ -1,21 +1,23 @@
 -- The hypotheses of the theorems can be met: deck A passes every test, its true graph is well formed, and both parts of M6
 -- pass in a series.
 use mathlib.Core.Path.{_≡_, refl}
-use mathlib.Core.List.{[], _∷_, flatMap}
+use mathlib.Core.List.{List, [], _∷_, flatMap}
 use mathlib.Core.Option.{none, some}
 use lib.Dec.{T}
-use lib.IntN.{pos}
+use lib.IntN.{ℤ, pos}
 use Rattle.timing.specs.declared.Verdict.the-variants.{Passed}
 use Rattle.timing.specs.Graphs.{Design, design, designGraph, edgesIn, edgesOut, runsFrom, completeRuns}
 use Rattle.timing.specs.Marks.{PathList, pathList, pathsOf, permitted, tails, mark}
 use Rattle.timing.specs.TrueGraphs.{permittedRuns, copies, joins, trueGraph}
 use Rattle.timing.specs.WellFormed.{wellFormed}
 use Rattle.timing.specs.Tests.{designSizes, listSizes, designTests, listTests, candidates, scratchTest, roomTests}
-use Rattle.timing.specs.Calls.{Removal, removal, removeFromDesign, removeFromGraph}
+use Rattle.timing.specs.Calls.{Removal, removal, removeFromDesign, removeFromGraph, testTimes}
 use Rattle.timing.specs.Series.{verdicts, HeldIs, heldAfter}
 use Rattle.theorems.proofs.Stands.{Stands, true-stands}
 use Rattle.theorems.proofs.Legal.{Legal, design-legal}
 use Rattle.theorems.proofs.Demand2.{Demand2, design-demand2, graph-demand2}
+use Rattle.theorems.proofs.Demand2Times.{PassesAt}
+use Rattle.theorems.proofs.Records.{RecordOfPaths, removed-record}
 use Rattle.theorems.proofs.Series.{AllPassed, listsOf, cut-list}
 
 abbrev deckA : Design
@@ -41,12 +43,20 @@ formed : T (wellFormed deckA (trueGraph (designGraph deckA) (pathsOf listA)))
 unfolding flatMap designGraph edgesIn edgesOut runsFrom completeRuns permitted tails mark permittedRuns copies joins trueGraph wellFormed
 formed = tt
 
+abbrev part : PathList → Removal
+part L = removal L (record { nodes = 512; starts = 2048; ends = 2048; names = 2048 }) 16384
+
+-- the record of node 2, after the removal and `times` in slices of six places
+abbrev six : List ℤ
+six = pos 0 ∷ pos 0 ∷ pos 0 ∷ pos 0 ∷ pos 0 ∷ pos 0 ∷ []
+
+pub deckA-record : RecordOfPaths deckA (trueGraph (designGraph deckA) (pathsOf listA)) 10 six six six 2 (PassesAt deckA (pathsOf listA) 2)
+unfolding flatMap designGraph edgesIn edgesOut runsFrom completeRuns permitted tails mark permittedRuns copies joins trueGraph wellFormed designTests listTests candidates scratchTest roomTests removeFromDesign testTimes
+deckA-record = removed-record deckA (trueGraph (designGraph deckA) (pathsOf listA)) 10 six six six refl (part listA) refl 2
+
 -- and 0,3 removed from that graph
 pub deckA-further : Demand2 (trueGraph (designGraph deckA) (pathsOf listA)) ((0 ∷ 3 ∷ []) ∷ []) (trueGraph (trueGraph (designGraph deckA) (pathsOf listA)) ((0 ∷ 3 ∷ []) ∷ []))
 deckA-further = graph-demand2 deckA (trueGraph (designGraph deckA) (pathsOf listA)) ((0 ∷ 3 ∷ []) ∷ []) (fits .0) (fits .1) formed
-
-abbrev part : PathList → Removal
-part L = removal L (record { nodes = 512; starts = 2048; ends = 2048; names = 2048 }) 16384
 
 m6-passed : AllPassed (verdicts deckA none (part listA ∷ part (pathList (0 ∷ 3 ∷ []) (2 ∷ [])) ∷ []))
 unfolding flatMap designGraph edgesIn edgesOut runsFrom completeRuns permitted tails mark permittedRuns copies joins trueGraph wellFormed designTests listTests candidates scratchTest roomTests removeFromDesign removeFromGraph

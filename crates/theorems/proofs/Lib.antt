@@ -25,5 +25,6 @@ pub mod Extremes
 pub mod Times
 pub mod Nodes
 pub mod Demand2Times
+pub mod Records
 -- the hypotheses can be met
 pub mod Examples

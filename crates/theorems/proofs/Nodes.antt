@@ -19,11 +19,11 @@ use Rattle.theorems.proofs.Runs.{Rising, Way}
 use Rattle.theorems.proofs.Extremes.{AtMost, AtLeast, Some, not-nil, Best, Picks, best-moved, best-nested, best-value, larges, smalls}
 use Rattle.theorems.proofs.Times.{To, Through, arrival-best, required-best, slack-best}
 
--- a time of each copy, read back
-pub at-copy : (f : ℕ → ℤ) (n i c : ℕ) → c < n → getD (map f (upto n i)) c (pos 0) ≡ f (i + c)
-at-copy f zero i c h = absurd (omega arith)
-at-copy f (suc n) i zero h = ap f (omega arith)
-at-copy f (suc n) i (suc c) h = at-copy f n (suc i) c (omega arith) ∙ ap f (omega arith)
+-- what is held of each copy, read back
+pub at-copy : {A : Type 0} (z : A) (f : ℕ → A) (n i c : ℕ) → c < n → getD (map f (upto n i)) c z ≡ f (i + c)
+at-copy z f zero i c h = absurd (omega arith)
+at-copy z f (suc n) i zero h = ap f (omega arith)
+at-copy z f (suc n) i (suc c) h = at-copy z f n (suc i) c (omega arith) ∙ ap f (omega arith)
 
 map-on : {A B : Type 0} (f g : A → B) (l : List A) → ((x : A) → List·Memᴰ x l → f x ≡ g x) → map f l ≡ map g l
 map-on f g [] e = refl
@@ -78,7 +78,7 @@ module _ (d : ℕ → ℤ) (t : ℤ) (G : Graph) (n v : ℕ) where
   read-back : (f : ℕ → ℤ) → map (λ c. getD (map f (upto (length (G .nodes)) 0)) c (pos 0)) (copiesOf G v) ≡ map f (copiesOf G v)
   read-back f =
       map-on (λ c. getD (map f (upto (length (G .nodes)) 0)) c (pos 0)) f (copiesOf G v)
-      (λ c m. at-copy f (length (G .nodes)) 0 c (mem-copies G v c .0 m .0) ∙ ap f (omega arith))
+      (λ c m. at-copy (pos 0) f (length (G .nodes)) 0 c (mem-copies G v c .0 m .0) ∙ ap f (omega arith))
 
   -- a node below n that has copies
   pub node-times : Rising G → v < n → Some (copiesOf G v)

@@ -1,29 +1,12 @@
--- What it says that a test passed.
+-- What it says that no element of a list failed.
 use Prim.Native.Nat.{ℕ, suc}
-use mathlib.Core.Path.{_≡_, refl, sym, subst}
+use mathlib.Core.Path.{_≡_, refl}
 use mathlib.Core.Logic.{⊎-elim}
 use mathlib.Core.Bool.{Bool, true, false, cond}
 use mathlib.Core.List.{List, [], _∷_, List·Memᴰ, List·Memᴰ·not-nil, List·Memᴰ·cases-cons}
-use Rattle.timing.specs.declared.Refusal.{Refusal}
-use Rattle.timing.specs.declared.Verdict.{Verdict}
 use Rattle.timing.specs.declared.Verdict.the-variants.{Passed, Refused}
-use Rattle.timing.specs.Refusals.{refusal, _then_, unless, firstBad}
-
-abbrev Pass : Verdict → Type 0
-Pass Passed = Unit {0}
-Pass (Refused r) = ⊥
-
--- a refusal is no pass
-pub refused-passed : (r : Refusal) → Refused r ≡ Passed → ⊥
-refused-passed r e = subst Pass (sym e) tt
-
-pub then-passed : (v w : Verdict) → (v then w) ≡ Passed → (v ≡ Passed) × (w ≡ Passed)
-then-passed Passed w e = (refl, e)
-then-passed (Refused r) w e = absurd (refused-passed r e)
-
-pub unless-passed : (number : ℕ) (fit : Bool) → unless number fit ≡ Passed → fit ≡ true
-unless-passed number true e = refl
-unless-passed number false e = absurd (refused-passed (refusal number 0) e)
+use Rattle.timing.specs.Refusals.{refusal, firstBad}
+use Rattle.timing.proofs.Verdicts.{refused-passed}
 
 pub firstBad-passed : {A : Type 0} (number : ℕ) (bad : A → Bool) (k : ℕ) (xs : List A) → firstBad number bad k xs ≡ Passed
     → (x : A) → List·Memᴰ x xs → bad x ≡ false

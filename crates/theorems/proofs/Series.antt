@@ -17,11 +17,11 @@ use Rattle.timing.specs.TrueGraphs.{trueGraph}
 use Rattle.timing.specs.WellFormed.{fewEnough, wellFormed}
 use Rattle.timing.specs.Refusals.{unless, _then_}
 use Rattle.timing.specs.Tests.{designSizes, listSizes, designTests, listTests, graphTest, candidates, scratchTest, Room, roomSizes, roomTests}
-use Rattle.timing.specs.Calls.{GraphSlices, graphOf, slicesOf, graphSizes, Outcome, outcome, Removal, removalTests, removeFromDesign, removeFromGraph}
+use Rattle.timing.specs.Calls.{GraphSlices, graphOf, slicesOf, graphSizes, Outcome, made, refused, outcome, Removal, removalTests, removeFromDesign, removeFromGraph}
 use Rattle.timing.specs.Series.{removeNext, heldNext, verdictOf, verdicts, heldAfter, wholeNext, verdictAlone, verdictsAlone, wholeAfter, Renumbered, HeldIs, Demand3}
 use Rattle.theorems.proofs.Lists.{holds, and-intro}
 use Rattle.theorems.proofs.Counting.{Nodup}
-use Rattle.theorems.proofs.Refusals.{then-passed, unless-passed}
+use Rattle.timing.proofs.Verdicts.{then-passed, unless-passed}
 use Rattle.theorems.proofs.Stands.{Stands, true-stands}
 use Rattle.theorems.proofs.Parts.{parts-stand}
 use Rattle.theorems.proofs.Renumbering.{stands-renumbered}
@@ -77,6 +77,19 @@ from-graph : (D : Design) (H : Graph) (r : Removal) → removeFromGraph D (slice
 unfolding removeFromGraph graphVerdict
 from-graph D H r = λ i. outcome (graphVerdict D (slicesOf H) r) (trueGraph (graph-slices H i) (pathsOf (r .list)))
 
+-- what was made, from an outcome
+pub outcome-made : {A : Type 0} (v : Verdict) (x y : A) → outcome v x ≡ made y → (v ≡ Passed) × (x ≡ y)
+outcome-made {A} Passed x y e = (refl, ap of e)
+  where
+    of : Outcome A → A
+    of (made z) = z
+    of (refused r) = x
+outcome-made {A} (Refused r) x y e = absurd (subst IsRefused e tt)
+  where
+    IsRefused : Outcome A → Type 0
+    IsRefused (made z) = ⊥
+    IsRefused (refused q) = Unit {0}
+
 verdict-outcome : (v : Verdict) (G : Graph) → verdictOf (outcome v G) ≡ v
 verdict-outcome Passed G = refl
 verdict-outcome (Refused x) G = refl
@@ -92,7 +105,7 @@ few-rooms R G e =
     let y = leb→le (length (G .edges)) (min (R .starts) 65536) (holds b (unless-passed 34 b (t .1))) in
     and-intro (leb (length (G .nodes)) 16384) (leb (length (G .edges)) 65536) (le→leb (length (G .nodes)) 16384 (omega arith)) (le→leb (length (G .edges)) 65536 (omega arith))
 
-removal-few : (D : Design) (G : Graph) (r : Removal) → removalTests D G r ≡ Passed → T (fewEnough (trueGraph G (pathsOf (r .list))))
+pub removal-few : (D : Design) (G : Graph) (r : Removal) → removalTests D G r ≡ Passed → T (fewEnough (trueGraph G (pathsOf (r .list))))
 removal-few D G r e =
     few-rooms (r .room) (trueGraph G (pathsOf (r .list)))
     (then-passed (scratchTest D G (r .list) (r .scratch)) (roomTests (r .room) (trueGraph G (pathsOf (r .list)))) e .1)
@@ -251,6 +264,15 @@ series D (r ∷ rs) whole held h =
     let s = step D whole held r h in
     let n = series D rs (wholeNext whole r (verdictAlone D whole r)) (heldNext held (removeNext D held r)) (s .1) in
     (λ i. s .0 i ∷ n .0 i, n .1)
+
+-- the graph held after a series is held for the whole list
+pub series-held : (D : Design) (rs : List Removal) (H : Graph) → heldAfter D none rs ≡ some H
+    → (L : List (List ℕ)) × (wholeAfter D none rs ≡ some L) × Held D L H
+series-held D rs H e = go (wholeAfter D none rs) (subst (Related D (wholeAfter D none rs)) e (series D rs none none tt .1))
+  where
+    go : (whole : Option (List (List ℕ))) → Related D whole (some H) → (L : List (List ℕ)) × (whole ≡ some L) × Held D L H
+    go none h = absurd h
+    go (some L) h = (L, refl, h)
 
 related-is : (D : Design) (whole : Option (List (List ℕ))) (held : Option Graph) → Related D whole held → HeldIs D whole held
 related-is D none none h = tt

@@ -17,7 +17,8 @@ use Rattle.timing.specs.WellFormed.{fewEnough, nodesFit, edgeFits, edgeRises, o
 use Rattle.timing.specs.Refusals.{unless, firstBad, _then_}
 use Rattle.timing.specs.Tests.{designSizes, listSizes, nodeCount, designCounts, strays, falls, tooSlow, designTests, listCounts, meets, listTests, graphTest}
 use Rattle.theorems.proofs.Lists.{and-intro, and-left, and-right, holds, mem-upto, of-upto, allOf-elim, allOf-intro, anyOf-false}
-use Rattle.theorems.proofs.Refusals.{then-passed, unless-passed, firstBad-passed}
+use Rattle.timing.proofs.Verdicts.{then-passed, unless-passed}
+use Rattle.theorems.proofs.Refusals.{firstBad-passed}
 
 -- what tests 30 and 10 to 14 say of a design
 pub record DesignFits (D : Design) : Type 0 where

@@ -1,10 +1,10 @@
--- Slices of times that a loop fills place by place, and slices that hold a time for each copy.
+-- Slices that a loop fills place by place, and slices with a place for each copy or node.
 use Prim.Native.Nat.{ℕ, _+_, _≤_, _<_, _^_}
 use native.Mathlib.Omega.{arith}
 use native.Mathlib.Decide.{ℕ-discrete}
 use mathlib.Core.Path.{_≡_, refl, sym, _∙_, ap}
 use mathlib.Core.List.{List, map}
-use lib.IntN.{ℤ, pos}
+use lib.IntN.{ℤ}
 use lib.ListN.{length, getD, set, length-set, length-map}
 use lib.Seq.{getD-set-same, getD-set-other, ext-getD}
 use lib.Signed.{mag}
@@ -19,51 +19,58 @@ use Rattle.theorems.proofs.Nodes.{at-copy}
 pub read-back : (z : ℤ) → mag z < 2 ^ hbits w64 → toZ w64 (ofZ w64 z) ≡ z
 read-back z h = toZ-ofZ {w = w64} {z = z} (record { sfits = h })
 
--- the places below i hold their new times, and the others still their old ones
-pub record Done (f : ℕ → ℤ) (i : ℕ) (old times : List ℤ) : Type 0 where
-  pub size : length times ≡ length old
-  pub below : (c : ℕ) → c < i → getD times c (pos 0) ≡ f c
-  pub above : (c : ℕ) → i ≤ c → getD times c (pos 0) ≡ getD old c (pos 0)
-
-pub done-none : (f : ℕ → ℤ) (l : List ℤ) → Done f 0 l l
-done-none f l = record { size = refl; below = λ c h. absurd (omega arith); above = λ c h. refl }
-
-pub done-next : (f : ℕ → ℤ) (i : ℕ) (old l : List ℤ) (x : ℤ) → i < length l → x ≡ f i → Done f i old l → Done f (i + 1) old (set l i x)
-done-next f i old l x h e d = record {
-  size = length-set l i x ∙ d .size;
-  below = λ c k. go c k (ℕ-discrete c i);
-  above = λ c k. getD-set-other l i c x (pos 0) (λ q. omega arith) ∙ d .above c (omega arith);
-}
-  where
-    go : (c : ℕ) → c < i + 1 → Dec (c ≡ i) → getD (set l i x) c (pos 0) ≡ f c
-    go c k (yes q) = rw q (getD-set-same l i x (pos 0) h ∙ e)
-    go c k (no q) = getD-set-other l i c x (pos 0) q ∙ d .below c (omega arith)
-
--- a time for each of n copies: its length, and what it holds
-pub size-each : (f : ℕ → ℤ) (n : ℕ) → length (map f (upto n 0)) ≡ n
+-- the length of a list with a place for each of n
+pub size-each : {A : Type 0} (f : ℕ → A) (n : ℕ) → length (map f (upto n 0)) ≡ n
 size-each f n = length-map (upto n 0) f ∙ length-upto n 0
 
-pub at-each : (f : ℕ → ℤ) (n c : ℕ) → c < n → getD (map f (upto n 0)) c (pos 0) ≡ f c
-at-each f n c h = let z : 0 + c ≡ c = omega arith in at-copy f n 0 c h ∙ ap f z
+-- z is what a list reads past its end
+module _ {A : Type 0} (z : A) where
+  -- the places below i hold what they are to hold, and the others still what they held
+  pub record Done (f : ℕ → A) (i : ℕ) (old l : List A) : Type 0 where
+    pub size : length l ≡ length old
+    pub below : (c : ℕ) → c < i → getD l c z ≡ f c
+    pub above : (c : ℕ) → i ≤ c → getD l c z ≡ getD old c z
 
-pub is-each : (f : ℕ → ℤ) (n : ℕ) (l : List ℤ) → length l ≡ n → ((c : ℕ) → c < n → getD l c (pos 0) ≡ f c) → l ≡ map f (upto n 0)
-is-each f n l s e =
-    ext-getD (pos 0) l (map f (upto n 0)) (s ∙ sym (size-each f n))
-    (λ c h. let k : c < n = omega arith in e c k ∙ sym (at-each f n c k))
+  pub done-none : (f : ℕ → A) (l : List A) → Done f 0 l l
+  done-none f l = record { size = refl; below = λ c h. absurd (omega arith); above = λ c h. refl }
 
-pub done-all : (f : ℕ → ℤ) (i : ℕ) (old l : List ℤ) → length old ≤ i → Done f i old l → l ≡ map f (upto (length old) 0)
-done-all f i old l h d = is-each f (length old) l (d .size) (λ c k. d .below c (omega arith))
+  pub done-next : (f : ℕ → A) (i : ℕ) (old l : List A) (x : A) → i < length l → x ≡ f i → Done f i old l → Done f (i + 1) old (set l i x)
+  done-next f i old l x h e d = record {
+    size = length-set l i x ∙ d .size;
+    below = λ c k. go c k (ℕ-discrete c i);
+    above = λ c k. getD-set-other l i c x z (λ q. omega arith) ∙ d .above c (omega arith);
+  }
+    where
+      go : (c : ℕ) → c < i + 1 → Dec (c ≡ i) → getD (set l i x) c z ≡ f c
+      go c k (yes q) = rw q (getD-set-same l i x z h ∙ e)
+      go c k (no q) = getD-set-other l i c x z q ∙ d .below c (omega arith)
 
--- a store at a copy changes the time of that copy alone
-pub set-each : (f g : ℕ → ℤ) (n b : ℕ) (x : ℤ) → b < n → x ≡ g b → ((c : ℕ) → (c ≡ b → ⊥) → f c ≡ g c)
-    → set (map f (upto n 0)) b x ≡ map g (upto n 0)
-set-each f g n b x h e same =
-    is-each g n (set (map f (upto n 0)) b x) (length-set (map f (upto n 0)) b x ∙ size-each f n) (λ c k. go c k (ℕ-discrete c b))
-  where
-    go : (c : ℕ) → c < n → Dec (c ≡ b) → getD (set (map f (upto n 0)) b x) c (pos 0) ≡ g c
-    go c k (yes q) = rw q (getD-set-same (map f (upto n 0)) b x (pos 0) (omega (arith, size-each f n)) ∙ e)
-    go c k (no q) = getD-set-other (map f (upto n 0)) b c x (pos 0) q ∙ at-each f n c k ∙ same c q
+  -- what a list with a place for each of n holds
+  pub at-each : (f : ℕ → A) (n c : ℕ) → c < n → getD (map f (upto n 0)) c z ≡ f c
+  at-each f n c h = let k : 0 + c ≡ c = omega arith in at-copy z f n 0 c h ∙ ap f k
 
--- the same copies and the same times
-pub each-same : (f g : ℕ → ℤ) (n : ℕ) → ((c : ℕ) → c < n → f c ≡ g c) → map f (upto n 0) ≡ map g (upto n 0)
-each-same f g n e = is-each g n (map f (upto n 0)) (size-each f n) (λ c h. at-each f n c h ∙ e c h)
+  pub is-each : (f : ℕ → A) (n : ℕ) (l : List A) → length l ≡ n → ((c : ℕ) → c < n → getD l c z ≡ f c) → l ≡ map f (upto n 0)
+  is-each f n l s e =
+      ext-getD z l (map f (upto n 0)) (s ∙ sym (size-each f n))
+      (λ c h. let k : c < n = omega arith in e c k ∙ sym (at-each f n c k))
+
+  pub done-all : (f : ℕ → A) (i : ℕ) (old l : List A) → length old ≤ i → Done f i old l → l ≡ map f (upto (length old) 0)
+  done-all f i old l h d = is-each f (length old) l (d .size) (λ c k. d .below c (omega arith))
+
+  -- a store at b changes what is held there alone, and nothing where b has no place
+  pub set-place : (f g : ℕ → A) (n b : ℕ) (x : A) → (b < n → x ≡ g b) → ((c : ℕ) → c < n → (c ≡ b → ⊥) → f c ≡ g c)
+      → set (map f (upto n 0)) b x ≡ map g (upto n 0)
+  set-place f g n b x e same =
+      is-each g n (set (map f (upto n 0)) b x) (length-set (map f (upto n 0)) b x ∙ size-each f n) (λ c k. go c k (ℕ-discrete c b))
+    where
+      go : (c : ℕ) → c < n → Dec (c ≡ b) → getD (set (map f (upto n 0)) b x) c z ≡ g c
+      go c k (yes q) = rw q (getD-set-same (map f (upto n 0)) b x z (omega (arith, size-each f n)) ∙ e (omega arith))
+      go c k (no q) = getD-set-other (map f (upto n 0)) b c x z q ∙ at-each f n c k ∙ same c k q
+
+  pub set-each : (f g : ℕ → A) (n b : ℕ) (x : A) → b < n → x ≡ g b → ((c : ℕ) → (c ≡ b → ⊥) → f c ≡ g c)
+      → set (map f (upto n 0)) b x ≡ map g (upto n 0)
+  set-each f g n b x h e same = set-place f g n b x (λ k. e) (λ c k q. same c q)
+
+  -- the same places and the same in each
+  pub each-same : (f g : ℕ → A) (n : ℕ) → ((c : ℕ) → c < n → f c ≡ g c) → map f (upto n 0) ≡ map g (upto n 0)
+  each-same f g n e = is-each g n (map f (upto n 0)) (size-each f n) (λ c h. at-each f n c h ∙ e c h)

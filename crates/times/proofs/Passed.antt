@@ -10,15 +10,15 @@ use lib.IntN.{ℤ}
 use lib.ListN.{length}
 use Rattle.timing.specs.declared.Verdict.{Verdict}
 use Rattle.timing.specs.declared.Verdict.the-variants.{Passed, Refused}
-use Rattle.timing.specs.Lists.{eachNext, upto}
-use Rattle.timing.specs.Graphs.{Design, Edge, Graph, designGraph, design}
+use Rattle.timing.specs.Lists.{eachNext}
+use Rattle.timing.specs.Graphs.{Design, Edge, design}
 use Rattle.timing.specs.WellFormed.{edgeRises, wellFormed}
-use Rattle.timing.specs.Refusals.{_then_, unless, firstBad}
-use Rattle.timing.specs.Tests.{sameSizes, designSizes, designTests, designCounts, nodeCount, strays, falls, tooSlow, allowedTest, graphTest}
+use Rattle.timing.specs.Refusals.{_then_}
+use Rattle.timing.specs.Tests.{sameSizes, designSizes, designTests, nodeCount, allowedTest, graphTest}
 use Rattle.timing.specs.Calls.{GraphSlices, graphOf, graphSizes, testTimes}
 use Rattle.theorems.proofs.Lists.{and-intro, and-left, and-right, or-cases, holds}
-use Rattle.theorems.proofs.Refusals.{then-passed, unless-passed}
-use Rattle.theorems.proofs.Tested.{design-fits, formed}
+use Rattle.timing.proofs.Verdicts.{then-passed, unless-passed}
+use Rattle.theorems.proofs.Tested.{design-fits, tests-count, no-delays, formed}
 use Rattle.theorems.proofs.Legal.{wellFormed-legal}
 use Rattle.times.specs.Passes.{Fit}
 
@@ -29,7 +29,7 @@ pub record Ready (D : Design) (S : GraphSlices) (t arrivals requireds slacks : �
   pub requireds-size : requireds ≡ length (S .nodes)
   pub slacks-size : slacks ≡ length (S .nodes)
 
-same-passed : (a b c : ℕ) → sameSizes a b c ≡ Passed → (b ≡ a) × (c ≡ a)
+pub same-passed : (a b c : ℕ) → sameSizes a b c ≡ Passed → (b ≡ a) × (c ≡ a)
 same-passed a b c e =
     let t = holds (eqb a b && eqb a c) (unless-passed 30 (eqb a b && eqb a c) e) in
     (sym (eqb→eq a b (and-left (eqb a b) (eqb a c) t)), sym (eqb→eq a c (and-right (eqb a b) (eqb a c) t)))
@@ -95,18 +95,6 @@ chain Passed Passed Passed (Refused x) e t c w f = refl
 chain Passed Passed Passed Passed (Refused x) t c w f = refl
 chain Passed Passed Passed Passed Passed (Refused x) c w f = refl
 chain Passed Passed Passed Passed Passed Passed c w f = ap (λ (v : Verdict). v then w) (f refl)
-
-tests-count : (D : Design) → designTests D ≡ Passed → nodeCount (D .nodes) ≡ Passed
-unfolding designTests
-tests-count D e =
-    let ks = upto (length (D .starts)) 0 in
-    then-passed (nodeCount (D .nodes)) (unless 11 (leb (length (D .starts)) 16384))
-    (then-passed (designCounts D) (firstBad 12 (strays D) 0 ks then firstBad 13 (falls D) 0 ks then firstBad 14 (tooSlow D) 0 ks) e .0) .0
-
--- 32 asks no delays
-no-delays : (n : ℕ) (starts ends : List ℕ) (delays : List ℤ) (G : Graph) → graphTest (design n starts ends []) G ≡ graphTest (design n starts ends delays) G
-unfolding wellFormed designGraph
-no-delays n starts ends delays G = refl
 
 pub called-tests : (n : ℕ) (starts ends : List ℕ) (delays : List ℤ) (S : GraphSlices) (t a r s : ℕ)
     → let D = design n starts ends delays in

@@ -63,7 +63,7 @@ small-each : (f : ℕ → ℤ) (n : ℕ) → ((c : ℕ) → c < n → natAbs (f 
 small-each f n h = record { bound = λ c. go c (decLt c n) }
   where
     go : (c : ℕ) → Dec (c < n) → natAbs (getD (map f (upto n 0)) c (pos 0)) ≤ 20000000000
-    go c (yes k) = rw (at-each f n c k) (h c k)
+    go c (yes k) = rw (at-each (pos 0) f n c k) (h c k)
     go c (no k) =
         let past : length (map f (upto n 0)) ≤ c = omega (arith, size-each f n) in
         rw (List·getD-eq-default (map f (upto n 0)) (pos 0) past) (omega arith)
@@ -204,7 +204,7 @@ module _ (delays : List ℤ) (S : GraphSlices) (F : Fit delays S) where
   found-arrival : (k : ℕ) (h : k < length (S .starts)) → timeOr noArrival (pos 0) (getD (map (reached k) (upto n 0)) (getD (S .starts) k 0) (pos 0)) ≡ arrivalAt d (pos 0) (graphOf S) (getD (S .starts) k 0)
   found-arrival k h =
       ap (timeOr noArrival (pos 0))
-      (at-each (reached k) n (getD (S .starts) k 0) (start-in k h) ∙ ap (λ (l : List Edge). largest (noArrival ∷ map inSum l)) (into-start k h))
+      (at-each (pos 0) (reached k) n (getD (S .starts) k 0) (start-in k h) ∙ ap (λ (l : List Edge). largest (noArrival ∷ map inSum l)) (into-start k h))
       ∙ settled-arrival (getD (S .starts) k 0) (start-in k h)
 
   pub raises-in : (k : ℕ) → k < length (S .starts)
@@ -220,8 +220,8 @@ module _ (delays : List ℤ) (S : GraphSlices) (F : Fit delays S) where
       → raised (map (reached k) (upto n 0)) (getD (S .starts) k 0) (getD (S .ends) k 0) (d (getD (S .names) k 0)) ≡ map (reached (k + 1)) (upto n 0)
   unfolding raised overIn
   raised-next k h =
-      set-each (reached k) (reached (k + 1)) n (getD (S .ends) k 0) _ (end-in k h)
-      (ap₂ larger (at-each (reached k) n (getD (S .ends) k 0) (end-in k h)) (ap (λ (z : ℤ). z +ℤ d (getD (S .names) k 0)) (found-arrival k h))
+      set-each (pos 0) (reached k) (reached (k + 1)) n (getD (S .ends) k 0) _ (end-in k h)
+      (ap₂ larger (at-each (pos 0) (reached k) n (getD (S .ends) k 0) (end-in k h)) (ap (λ (z : ℤ). z +ℤ d (getD (S .names) k 0)) (found-arrival k h))
       ∙ sym (best-snoc larges inSum noArrival (keep (at (getD (S .ends) k 0)) (take k (graphOf S .edges))) (edgeAt S k))
       ∙ ap (λ (l : List Edge). largest (noArrival ∷ map inSum l))
       (sym (ap (keep (at (getD (S .ends) k 0))) (front k h) ∙ keep-yes (at (getD (S .ends) k 0)) (take k (graphOf S .edges)) (edgeAt S k) (eq-eqb (getD (S .ends) k 0) (getD (S .ends) k 0) refl))))
@@ -236,10 +236,10 @@ module _ (delays : List ℤ) (S : GraphSlices) (F : Fit delays S) where
       → map (λ c. timeOr noArrival (pos 0) (getD (map (reached k) (upto n 0)) c (pos 0))) (upto n 0) ≡ map (arrivalAt d (pos 0) (graphOf S)) (upto n 0)
   unfolding edgesIn
   arrivals-settled k h =
-      each-same (λ c. timeOr noArrival (pos 0) (getD (map (reached k) (upto n 0)) c (pos 0))) (arrivalAt d (pos 0) (graphOf S)) n
+      each-same (pos 0) (λ c. timeOr noArrival (pos 0) (getD (map (reached k) (upto n 0)) c (pos 0))) (arrivalAt d (pos 0) (graphOf S)) n
       (λ c l.
       ap (timeOr noArrival (pos 0))
-      (at-each (reached k) n c l
+      (at-each (pos 0) (reached k) n c l
       ∙ ap (λ (es : List Edge). largest (noArrival ∷ map inSum (keep (λ e. eqb (e .end) c) es))) (take-all k (graphOf S .edges) (omega (arith, edges-size))))
       ∙ settled-arrival c l)
 
@@ -286,7 +286,7 @@ module _ (delays : List ℤ) (S : GraphSlices) (F : Fit delays S) where
     found-required : (k : ℕ) (h : k < length (S .starts)) → timeOr noRequired (pos t) (getD (map (left (k + 1)) (upto n 0)) (getD (S .ends) k 0) (pos 0)) ≡ requiredAt d (pos t) (graphOf S) (getD (S .ends) k 0)
     found-required k h =
         ap (timeOr noRequired (pos t))
-        (at-each (left (k + 1)) n (getD (S .ends) k 0) (end-in k h) ∙ ap (λ (l : List Edge). smallest (map outSum l ++ (noRequired ∷ []))) (out-of-end k h))
+        (at-each (pos 0) (left (k + 1)) n (getD (S .ends) k 0) (end-in k h) ∙ ap (λ (l : List Edge). smallest (map outSum l ++ (noRequired ∷ []))) (out-of-end k h))
         ∙ settled-required (getD (S .ends) k 0) (end-in k h)
 
     pub lowers-in : (k : ℕ) → k < length (S .starts)
@@ -302,8 +302,8 @@ module _ (delays : List ℤ) (S : GraphSlices) (F : Fit delays S) where
         → lowered (pos t) (map (left (k + 1)) (upto n 0)) (getD (S .starts) k 0) (getD (S .ends) k 0) (d (getD (S .names) k 0)) ≡ map (left k) (upto n 0)
     unfolding lowered overOut
     lowered-next k h =
-        set-each (left (k + 1)) (left k) n (getD (S .starts) k 0) _ (start-in k h)
-        (ap₂ smaller (ap (λ (z : ℤ). z -ℤ d (getD (S .names) k 0)) (found-required k h)) (at-each (left (k + 1)) n (getD (S .starts) k 0) (start-in k h))
+        set-each (pos 0) (left (k + 1)) (left k) n (getD (S .starts) k 0) _ (start-in k h)
+        (ap₂ smaller (ap (λ (z : ℤ). z -ℤ d (getD (S .names) k 0)) (found-required k h)) (at-each (pos 0) (left (k + 1)) n (getD (S .starts) k 0) (start-in k h))
         ∙ sym (best-cons smalls (outSum (edgeAt S k)) (map outSum (keep (at (getD (S .starts) k 0)) (drop (k + 1) (graphOf S .edges)))) noRequired)
         ∙ ap (λ (l : List Edge). smallest (map outSum l ++ (noRequired ∷ [])))
         (sym (ap (keep (at (getD (S .starts) k 0))) (back k h) ∙ ap (λ (b : Bool). cond b (edgeAt S k ∷ keep (at (getD (S .starts) k 0)) (drop (k + 1) (graphOf S .edges))) (keep (at (getD (S .starts) k 0)) (drop (k + 1) (graphOf S .edges)))) (eq-eqb (getD (S .starts) k 0) (getD (S .starts) k 0) refl))))
@@ -316,14 +316,14 @@ module _ (delays : List ℤ) (S : GraphSlices) (F : Fit delays S) where
     -- before the first edge, and after the last
     pub left-none : (k : ℕ) → length (S .starts) ≤ k → map (λ (c : ℕ). noRequired) (upto n 0) ≡ map (left k) (upto n 0)
     left-none k h =
-        each-same (λ c. noRequired) (left k) n
+        each-same (pos 0) (λ c. noRequired) (left k) n
         (λ c l. sym (ap (λ (es : List Edge). smallest (map outSum (keep (λ e. eqb (e .start) c) es) ++ (noRequired ∷ []))) (drop-of-length-le (graphOf S .edges) {i = k} (omega (arith, edges-size)))))
 
     pub requireds-settled : map (λ c. timeOr noRequired (pos t) (getD (map (left 0) (upto n 0)) c (pos 0))) (upto n 0) ≡ map (requiredAt d (pos t) (graphOf S)) (upto n 0)
     unfolding edgesOut
     requireds-settled =
-        each-same (λ c. timeOr noRequired (pos t) (getD (map (left 0) (upto n 0)) c (pos 0))) (requiredAt d (pos t) (graphOf S)) n
-        (λ c l. ap (timeOr noRequired (pos t)) (at-each (left 0) n c l) ∙ settled-required c l)
+        each-same (pos 0) (λ c. timeOr noRequired (pos t) (getD (map (left 0) (upto n 0)) c (pos 0))) (requiredAt d (pos t) (graphOf S)) n
+        (λ c l. ap (timeOr noRequired (pos t)) (at-each (pos 0) (left 0) n c l) ∙ settled-required c l)
 
 -- arrival does not ask T; slack is of the other two
 module _ (delays : List ℤ) (S : GraphSlices) (t : ℕ) where
@@ -337,7 +337,7 @@ module _ (delays : List ℤ) (S : GraphSlices) (t : ℕ) where
   unfolding slackAt
   slacks-are ats rts m e f q =
       ap (λ (i : ℕ). map (λ c. getD rts c (pos 0) -ℤ getD ats c (pos 0)) (upto i 0)) q
-      ∙ each-same (λ c. getD rts c (pos 0) -ℤ getD ats c (pos 0)) (slackAt (delayOf delays) (pos t) (graphOf S)) (length (S .nodes))
+      ∙ each-same (pos 0) (λ c. getD rts c (pos 0) -ℤ getD ats c (pos 0)) (slackAt (delayOf delays) (pos t) (graphOf S)) (length (S .nodes))
       (λ c h. ap₂ _-ℤ_
-      (ap (λ (l : List ℤ). getD l c (pos 0)) f ∙ at-each (requiredAt (delayOf delays) (pos t) (graphOf S)) (length (S .nodes)) c h)
-      (ap (λ (l : List ℤ). getD l c (pos 0)) (e ∙ arrivals-any) ∙ at-each (arrivalAt (delayOf delays) (pos t) (graphOf S)) (length (S .nodes)) c h))
+      (ap (λ (l : List ℤ). getD l c (pos 0)) f ∙ at-each (pos 0) (requiredAt (delayOf delays) (pos t) (graphOf S)) (length (S .nodes)) c h)
+      (ap (λ (l : List ℤ). getD l c (pos 0)) (e ∙ arrivals-any) ∙ at-each (pos 0) (arrivalAt (delayOf delays) (pos t) (graphOf S)) (length (S .nodes)) c h))

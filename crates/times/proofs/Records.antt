@@ -2,19 +2,28 @@
 use Prim.Native.Nat.{ℕ, suc, _+_, _≤_}
 use native.Mathlib.Omega.{arith}
 use native.Mathlib.Numerals.{add-one}
-use mathlib.Core.Path.{_≡_, refl, sym, _∙_, ap}
+use mathlib.Core.Path.{_≡_, refl, sym, _∙_, ap, ap₂}
 use mathlib.Core.Bool.{Bool, true, false, cond, not}
 use mathlib.Core.List.{List, [], _∷_, _++_, map}
 use lib.Dec.{eqb}
 use lib.IntN.{ℤ, pos}
-use lib.ListN.{length, getD}
-use borrow.Author.Tests.{lt-ltb, le-ltb}
+use lib.ListN.{length, getD, set}
+use borrow.Author.Tests.{lt-ltb, le-ltb, eq-eqb, ne-eqb}
+use Rattle.timing.specs.declared.Refusal.{Refusal}
+use Rattle.timing.specs.declared.Verdict.{Verdict}
+use Rattle.timing.specs.declared.Verdict.the-variants.{Passed, Refused}
 use Rattle.timing.specs.declared.NodeTimes.{NodeTimes}
 use Rattle.timing.specs.declared.NodeTimes.the-variants.{Times, None}
 use Rattle.timing.specs.Lists.{isNil, keep, upto}
-use Rattle.timing.specs.Times.{largest, smallest, nodeTimes}
+use Rattle.timing.specs.Refusals.{_then_}
+use Rattle.timing.specs.Tests.{sameSizes, nodeCount}
+use Rattle.timing.specs.Times.{larger, smaller, largest, smallest, nodeTimes}
+use Rattle.timing.specs.Calls.{testRecords, hasTimes, arrivalOf, requiredOf, slackOf, recordsAfter}
+use Rattle.timing.proofs.Verdicts.{then-passed}
 use Rattle.theorems.proofs.Extremes.{larges, smalls}
-use Rattle.times.specs.Records.{withCopy, gathered, timesOf}
+use Rattle.times.specs.Records.{withCopy, gathered, timesOf, nodeSoFar, firstOr, bettered}
+use Rattle.times.proofs.Elements.{at-each, set-place, each-same}
+use Rattle.times.proofs.Passed.{same-passed}
 use Rattle.times.proofs.Lists.{upto-next, keep-yes, keep-no, best-snoc}
 
 pub three : {a b c x y z : ℤ} → a ≡ x → b ≡ y → c ≡ z → _≡_ {A = NodeTimes} (Times a b c) (Times x y z)
@@ -56,3 +65,99 @@ module _ (nodes : List ℕ) (ats rts sts : List ℤ) (v : ℕ) where
   pub node-past : (n : ℕ) → n ≤ v → None ≡ nodeTimes n nodes ats rts sts v
   unfolding nodeTimes
   node-past n h = rw (le-ltb v n h)
+
+-- All nodes at once: a copy counts for its node, and changes nothing at the others.
+module _ (nodes : List ℕ) (ats rts sts : List ℤ) where
+  abbrev soFar : ℕ → ℕ → NodeTimes
+  soFar = nodeSoFar nodes ats rts sts
+
+  abbrev counted : NodeTimes → ℕ → NodeTimes
+  counted t c = withCopy t (getD ats c (pos 0)) (getD rts c (pos 0)) (getD sts c (pos 0))
+
+  met-here : (c : ℕ) → counted (soFar c (getD nodes c 0)) c ≡ soFar (c + 1) (getD nodes c 0)
+  met-here c =
+      ap (λ (b : Bool). cond b (counted (soFar c (getD nodes c 0)) c) (soFar c (getD nodes c 0))) (sym (eq-eqb (getD nodes c 0) (getD nodes c 0) refl))
+      ∙ copy-next nodes ats rts sts (getD nodes c 0) c
+
+  met-other : (c v : ℕ) → (v ≡ getD nodes c 0 → ⊥) → soFar c v ≡ soFar (c + 1) v
+  met-other c v f =
+      ap (λ (b : Bool). cond b (counted (soFar c v) c) (soFar c v)) (sym (ne-eqb (getD nodes c 0) v (λ q. f (sym q)))) ∙ copy-next nodes ats rts sts v c
+
+  pub known-next : (n c : ℕ) → set (map (λ v. hasTimes (soFar c v)) (upto n 0)) (getD nodes c 0) 1 ≡ map (λ v. hasTimes (soFar (c + 1) v)) (upto n 0)
+  known-next n c =
+      set-place 0 (λ v. hasTimes (soFar c v)) (λ v. hasTimes (soFar (c + 1) v)) n (getD nodes c 0) 1
+      (λ h. has (soFar c (getD nodes c 0)) ∙ ap hasTimes (met-here c)) (λ v h q. ap hasTimes (met-other c v q))
+    where
+      has : (t : NodeTimes) → 1 ≡ hasTimes (counted t c)
+      has (Times a r s) = refl
+      has None = refl
+
+  -- one of the three times, which one more copy makes better
+  better-next : (pick : ℤ → ℤ → ℤ) (part : NodeTimes → ℤ) (n c : ℕ) (t : ℤ) → ((x : NodeTimes) → firstOr pick (hasTimes x) (part x) t ≡ part (counted x c))
+      → bettered pick (map (λ v. hasTimes (soFar c v)) (upto n 0)) (map (λ v. part (soFar c v)) (upto n 0)) (getD nodes c 0) t
+      ≡ map (λ v. part (soFar (c + 1) v)) (upto n 0)
+  better-next pick part n c t one =
+      set-place (pos 0) (λ v. part (soFar c v)) (λ v. part (soFar (c + 1) v)) n (getD nodes c 0) _
+      (λ h.
+      ap₂ (λ (k : ℕ) (z : ℤ). firstOr pick k z t)
+      (at-each 0 (λ v. hasTimes (soFar c v)) n (getD nodes c 0) h)
+      (at-each (pos 0) (λ v. part (soFar c v)) n (getD nodes c 0) h)
+      ∙ one (soFar c (getD nodes c 0))
+      ∙ ap part (met-here c))
+      (λ v h q. ap part (met-other c v q))
+
+  pub arrival-next : (n c : ℕ)
+      → bettered larger (map (λ v. hasTimes (soFar c v)) (upto n 0)) (map (λ v. arrivalOf (soFar c v)) (upto n 0)) (getD nodes c 0) (getD ats c (pos 0))
+      ≡ map (λ v. arrivalOf (soFar (c + 1) v)) (upto n 0)
+  arrival-next n c = better-next larger arrivalOf n c (getD ats c (pos 0)) one
+    where
+      one : (x : NodeTimes) → firstOr larger (hasTimes x) (arrivalOf x) (getD ats c (pos 0)) ≡ arrivalOf (counted x c)
+      one (Times a r s) = refl
+      one None = refl
+
+  pub required-next : (n c : ℕ)
+      → bettered smaller (map (λ v. hasTimes (soFar c v)) (upto n 0)) (map (λ v. requiredOf (soFar c v)) (upto n 0)) (getD nodes c 0) (getD rts c (pos 0))
+      ≡ map (λ v. requiredOf (soFar (c + 1) v)) (upto n 0)
+  required-next n c = better-next smaller requiredOf n c (getD rts c (pos 0)) one
+    where
+      one : (x : NodeTimes) → firstOr smaller (hasTimes x) (requiredOf x) (getD rts c (pos 0)) ≡ requiredOf (counted x c)
+      one (Times a r s) = refl
+      one None = refl
+
+  pub slack-next : (n c : ℕ)
+      → bettered smaller (map (λ v. hasTimes (soFar c v)) (upto n 0)) (map (λ v. slackOf (soFar c v)) (upto n 0)) (getD nodes c 0) (getD sts c (pos 0))
+      ≡ map (λ v. slackOf (soFar (c + 1) v)) (upto n 0)
+  slack-next n c = better-next smaller slackOf n c (getD sts c (pos 0)) one
+    where
+      one : (x : NodeTimes) → firstOr smaller (hasTimes x) (slackOf x) (getD sts c (pos 0)) ≡ slackOf (counted x c)
+      one (Times a r s) = refl
+      one None = refl
+
+  -- after the last copy, and after a refusal
+  module _ {A : Type 0} (z : A) (f : NodeTimes → A) (n : ℕ) (room : List A) where
+    pub records-filled : (m : ℕ) (tested : Verdict) → m ≡ n → tested ≡ Passed
+        → map (λ v. f (soFar (length nodes) v)) (upto m 0) ≡ recordsAfter f n nodes ats rts sts tested room
+    unfolding recordsAfter
+    records-filled m tested e told =
+        ap (λ (k : ℕ). map (λ v. f (soFar (length nodes) v)) (upto k 0)) e
+        ∙ each-same z (λ v. f (soFar (length nodes) v)) (λ v. f (nodeTimes n nodes ats rts sts v)) n (λ v h. ap f (node-is nodes ats rts sts v n h))
+        ∙ ap (λ (v : Verdict). recordsAfter f n nodes ats rts sts v room) (sym told)
+
+    pub records-kept : (tested : Verdict) (r : Refusal) → tested ≡ Refused r → room ≡ recordsAfter f n nodes ats rts sts tested room
+    unfolding recordsAfter
+    records-kept tested r told = ap (λ (v : Verdict). recordsAfter f n nodes ats rts sts v room) (sym told)
+
+  -- where the tests pass, each lent slice has a place for each node
+  pub records-sizes : (n k a r s : ℕ) → testRecords n nodes ats rts sts k a r s ≡ Passed → (k ≡ n) × (a ≡ n) × (r ≡ n) × (s ≡ n)
+  unfolding testRecords
+  records-sizes n k a r s e =
+      let m = length nodes in
+      let v₂ : Verdict = sameSizes n r s then nodeCount n in
+      let v₁ : Verdict = sameSizes n k a then v₂ in
+      let e₁ = then-passed (sameSizes m (length ats) (length rts)) (sameSizes m m (length sts) then v₁) e in
+      let e₂ = then-passed (sameSizes m m (length sts)) v₁ (e₁ .1) in
+      let e₃ = then-passed (sameSizes n k a) v₂ (e₂ .1) in
+      let e₄ = then-passed (sameSizes n r s) (nodeCount n) (e₃ .1) in
+      let p = same-passed n k a (e₃ .0) in
+      let q = same-passed n r s (e₄ .0) in
+      (p .0, p .1, q .0, q .1)

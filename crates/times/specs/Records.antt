@@ -4,9 +4,10 @@ use mathlib.Core.Bool.{cond}
 use mathlib.Core.List.{List, [], _∷_, map}
 use lib.Dec.{eqb}
 use lib.IntN.{ℤ, pos}
-use lib.ListN.{getD}
+use lib.ListN.{getD, set}
 use Rattle.timing.specs.declared.NodeTimes.{NodeTimes}
 use Rattle.timing.specs.declared.NodeTimes.the-variants.{Times, None}
+use Rattle.timing.specs.Lists.{keep, upto}
 use Rattle.timing.specs.Times.{larger, smaller, largest, smallest}
 
 -- the times of a node with one more copy
@@ -27,3 +28,15 @@ timesOf ats rts sts (c ∷ cs) =
     (largest (map (λ i. getD ats i (pos 0)) (c ∷ cs)))
     (smallest (map (λ i. getD rts i (pos 0)) (c ∷ cs)))
     (smallest (map (λ i. getD sts i (pos 0)) (c ∷ cs)))
+
+-- the times of node v over the copies below c
+abbrev pub nodeSoFar : List ℕ → List ℤ → List ℤ → List ℤ → ℕ → ℕ → NodeTimes
+nodeSoFar nodes ats rts sts c v = timesOf ats rts sts (keep (λ i. eqb (getD nodes i 0) v) (upto c 0))
+
+-- a time of a node with one more copy whose time is t: the first one counts, and then the better one
+abbrev pub firstOr : (ℤ → ℤ → ℤ) → ℕ → ℤ → ℤ → ℤ
+firstOr pick known old t = cond (eqb known 0) t (pick old t)
+
+-- a time of each node, after a copy of node v
+abbrev pub bettered : (ℤ → ℤ → ℤ) → List ℕ → List ℤ → ℕ → ℤ → List ℤ
+bettered pick known times v t = set times v (firstOr pick (getD known v 0) (getD times v (pos 0)) t)

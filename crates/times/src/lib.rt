@@ -14,13 +14,17 @@ ghost use Rattle.timing.specs.Tests.{sameSizes, designSizes, nodeCount};
 ghost use Rattle.timing.specs.Times.{arrivalAt, requiredAt, slackAt, nodeTimes};
 ghost use Rattle.timing.specs.Times.{larger as largerTime, smaller as smallerTime};
 ghost use Rattle.timing.specs.Graphs.{design};
-ghost use Rattle.timing.specs.Calls.{graphSlices, graphOf, testTimes, arrivalsAfter, requiredsAfter, slacksAfter, recordOf};
+ghost use Rattle.timing.specs.Calls.{graphSlices, graphOf, testTimes, arrivalsAfter, requiredsAfter, slacksAfter, recordOf, testRecords, hasTimes, arrivalOf, requiredOf, slackOf, recordsAfter};
 ghost use Rattle.times.specs.Passes.{noArrival, noRequired, timeOr, Step, raised, lowered, delayOf, Fit, Small};
 ghost use Rattle.times.specs.Records.{withCopy, gathered, timesOf};
+
+mod gather;
+
 use timing::NodeAnswer;
 use timing::NodeRecord;
 use timing::NodeTimes;
 use timing::Verdict;
+use timing::then;
 
 const NO_ARRIVAL: i64 = -9223372036854775808;
 
@@ -302,9 +306,8 @@ fn times_sizes(
 {
     let first = design::design_sizes(starts, ends, delays);
     let joined = timing::same_sizes(gs.len(), ge.len(), gn.len());
-    let lent = timing::same_sizes(copies, arrivals, requireds);
-    let third = timing::same_sizes(copies, copies, slacks);
-    then(first, then(joined, then(lent, third)))
+    let lent = copy_sizes(copies, arrivals, requireds, slacks);
+    then(first, then(joined, lent))
 }
 
 fn times_tests(
@@ -456,23 +459,21 @@ fn over_copies(
     t
 }
 
-// One test, and the next where it passes.
-fn then(first: Verdict, next: Verdict) -> Verdict
-    ensures { λ r. ⌜ r ≡ (first then next) ⌝ }
+// 30 for the slices that hold what is known of each copy.
+fn copy_sizes(copies: usize, arrivals: usize, requireds: usize, slacks: usize) -> Verdict
+    ensures { λ r. ⌜ r ≡ (sameSizes copies arrivals requireds then sameSizes copies copies slacks) ⌝ }
 {
-    match first {
-        Verdict::Passed => next,
-        Verdict::Refused(r) => Verdict::Refused(r),
-    }
+    let sizes = timing::same_sizes(copies, arrivals, requireds);
+    let more = timing::same_sizes(copies, copies, slacks);
+    then(sizes, more)
 }
 
 fn record_tests(n: u32, copies: usize, arrivals: usize, requireds: usize, slacks: usize) -> Verdict
     ensures { λ r. ⌜ r ≡ (sameSizes copies arrivals requireds then sameSizes copies copies slacks then nodeCount n) ⌝ }
 {
-    let sizes = timing::same_sizes(copies, arrivals, requireds);
-    let more = timing::same_sizes(copies, copies, slacks);
+    let sizes = copy_sizes(copies, arrivals, requireds, slacks);
     let count = timing::unless(10, n <= 4096);
-    then(sizes, then(more, count))
+    then(sizes, count)
 }
 
 fn node_times(
@@ -516,4 +517,100 @@ pub fn node_record(
         }
         Verdict::Refused(r) => NodeAnswer::Refused(r),
     }
+}
+
+fn records_tests(
+    n: u32,
+    copies: usize,
+    arrivals: usize,
+    requireds: usize,
+    slacks: usize,
+    known: usize,
+    na: usize,
+    nr: usize,
+    ns: usize,
+) -> Verdict
+    ensures { λ r. ⌜ r ≡ (sameSizes copies arrivals requireds then sameSizes copies copies slacks then sameSizes n known na then sameSizes n nr ns then nodeCount n) ⌝ }
+{
+    let places = n as usize;
+    let sizes = copy_sizes(copies, arrivals, requireds, slacks);
+    let lent = timing::same_sizes(places, known, na);
+    let others = timing::same_sizes(places, nr, ns);
+    let count = timing::unless(10, n <= 4096);
+    then(sizes, then(lent, then(others, count)))
+}
+
+// The answer of `node_records`, and the slices afterwards, from what its tests answered.
+fn records_where(
+    tested: Verdict,
+    n: u32,
+    nodes: &[u32],
+    arrivals: &[i64],
+    requireds: &[i64],
+    slacks: &[i64],
+    known: &mut [u32],
+    na: &mut [i64],
+    nr: &mut [i64],
+    ns: &mut [i64],
+) -> Verdict
+    requires { ⌜ tested ≡ testRecords n (now nodes) (now arrivals) (now requireds) (now slacks) (length (now known)) (length (now na)) (length (now nr)) (length (now ns)) ⌝ }
+    ensures { λ r. ⌜ r ≡ tested ⌝ }
+    ensures { λ r. ⌜ now (known .exit) ≡ recordsAfter hasTimes n (now (nodes .entry)) (now (arrivals .entry)) (now (requireds .entry)) (now (slacks .entry)) tested (now (known .entry)) ⌝ }
+    ensures { λ r. ⌜ now (na .exit) ≡ recordsAfter arrivalOf n (now (nodes .entry)) (now (arrivals .entry)) (now (requireds .entry)) (now (slacks .entry)) tested (now (na .entry)) ⌝ }
+    ensures { λ r. ⌜ now (nr .exit) ≡ recordsAfter requiredOf n (now (nodes .entry)) (now (arrivals .entry)) (now (requireds .entry)) (now (slacks .entry)) tested (now (nr .entry)) ⌝ }
+    ensures { λ r. ⌜ now (ns .exit) ≡ recordsAfter slackOf n (now (nodes .entry)) (now (arrivals .entry)) (now (requireds .entry)) (now (slacks .entry)) tested (now (ns .entry)) ⌝ }
+{
+    match tested {
+        Verdict::Passed => {
+            gather::fill_records(nodes, arrivals, requireds, slacks, known, na, nr, ns);
+            Verdict::Passed
+        }
+        Verdict::Refused(r) => Verdict::Refused(r),
+    }
+}
+
+// The records of all nodes, from n and the node and the three times of each copy, in one pass over
+// the copies. Each lent slice has one place for each node: `known` says 1 where the node has times
+// and 0 where it has none, and `na`, `nr`, `ns` are its arrival, required time and slack, or 0.
+// A refusal changes nothing.
+pub fn node_records(
+    n: u32,
+    nodes: &[u32],
+    arrivals: &[i64],
+    requireds: &[i64],
+    slacks: &[i64],
+    known: &mut [u32],
+    na: &mut [i64],
+    nr: &mut [i64],
+    ns: &mut [i64],
+) -> Verdict
+    ensures { λ r. ⌜ r ≡ testRecords n (now (nodes .entry)) (now (arrivals .entry)) (now (requireds .entry)) (now (slacks .entry)) (length (now (known .entry))) (length (now (na .entry))) (length (now (nr .entry))) (length (now (ns .entry))) ⌝ }
+    ensures { λ r. ⌜ now (known .exit) ≡ recordsAfter hasTimes n (now (nodes .entry)) (now (arrivals .entry)) (now (requireds .entry)) (now (slacks .entry)) (testRecords n (now (nodes .entry)) (now (arrivals .entry)) (now (requireds .entry)) (now (slacks .entry)) (length (now (known .entry))) (length (now (na .entry))) (length (now (nr .entry))) (length (now (ns .entry)))) (now (known .entry)) ⌝ }
+    ensures { λ r. ⌜ now (na .exit) ≡ recordsAfter arrivalOf n (now (nodes .entry)) (now (arrivals .entry)) (now (requireds .entry)) (now (slacks .entry)) (testRecords n (now (nodes .entry)) (now (arrivals .entry)) (now (requireds .entry)) (now (slacks .entry)) (length (now (known .entry))) (length (now (na .entry))) (length (now (nr .entry))) (length (now (ns .entry)))) (now (na .entry)) ⌝ }
+    ensures { λ r. ⌜ now (nr .exit) ≡ recordsAfter requiredOf n (now (nodes .entry)) (now (arrivals .entry)) (now (requireds .entry)) (now (slacks .entry)) (testRecords n (now (nodes .entry)) (now (arrivals .entry)) (now (requireds .entry)) (now (slacks .entry)) (length (now (known .entry))) (length (now (na .entry))) (length (now (nr .entry))) (length (now (ns .entry)))) (now (nr .entry)) ⌝ }
+    ensures { λ r. ⌜ now (ns .exit) ≡ recordsAfter slackOf n (now (nodes .entry)) (now (arrivals .entry)) (now (requireds .entry)) (now (slacks .entry)) (testRecords n (now (nodes .entry)) (now (arrivals .entry)) (now (requireds .entry)) (now (slacks .entry)) (length (now (known .entry))) (length (now (na .entry))) (length (now (nr .entry))) (length (now (ns .entry)))) (now (ns .entry)) ⌝ }
+{
+    let tested = records_tests(
+        n,
+        nodes.len(),
+        arrivals.len(),
+        requireds.len(),
+        slacks.len(),
+        known.len(),
+        na.len(),
+        nr.len(),
+        ns.len(),
+    );
+    records_where(
+        tested,
+        n,
+        nodes,
+        arrivals,
+        requireds,
+        slacks,
+        known,
+        na,
+        nr,
+        ns,
+    )
 }

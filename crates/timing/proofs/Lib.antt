@@ -3,3 +3,4 @@ pub mod Choice
 pub mod Ints
 pub mod FirstBad
 pub mod Marked
+pub mod Verdicts

@@ -19,6 +19,8 @@ use Rattle.timing.specs.declared.DeckRead.the-variants.{Refused as NoDec
 use Rattle.timing.specs.declared.GraphMade.{GraphMade}
 use Rattle.timing.specs.declared.GraphMade.the-variants.{Counts}
 use Rattle.timing.specs.declared.GraphMade.the-variants.{Refused as NoGraph}
+use Rattle.timing.specs.declared.NodeTimes.{NodeTimes}
+use Rattle.timing.specs.declared.NodeTimes.the-variants.{Times, None}
 use Rattle.timing.specs.declared.NodeAnswer.{NodeAnswer}
 use Rattle.timing.specs.declared.NodeAnswer.the-variants.{Record}
 use Rattle.timing.specs.declared.NodeAnswer.the-variants.{Refused as NoRecord}
@@ -143,19 +145,19 @@ testTimes D S T arrivals requireds slacks =
     designSizes D then graphSizes S then sameSizes n arrivals requireds then sameSizes n n slacks
     then designTests D then allowedTest T then graphTest D (graphOf S)
 
--- the slices afterwards: the time of each copy
-abbrev pub timesAfter : Verdict → (ℕ → ℤ) → ℕ → List ℤ → List ℤ
-timesAfter Passed time copies ts = map time (upto copies 0)
-timesAfter (Refused r) time copies ts = ts
+-- a slice with one place for each of n copies or nodes, afterwards: what f says of each
+abbrev pub eachAfter : {A : Type 0} → Verdict → (ℕ → A) → ℕ → List A → List A
+eachAfter Passed f n room = map f (upto n 0)
+eachAfter (Refused r) f n room = room
 
 unfoldable pub arrivalsAfter : Design → GraphSlices → ℕ → Verdict → List ℤ → List ℤ
-arrivalsAfter D S T v ts = timesAfter v (arrivalAt (edgeDelay D) (pos T) (graphOf S)) (length (S .nodes)) ts
+arrivalsAfter D S T v ts = eachAfter v (arrivalAt (edgeDelay D) (pos T) (graphOf S)) (length (S .nodes)) ts
 
 unfoldable pub requiredsAfter : Design → GraphSlices → ℕ → Verdict → List ℤ → List ℤ
-requiredsAfter D S T v ts = timesAfter v (requiredAt (edgeDelay D) (pos T) (graphOf S)) (length (S .nodes)) ts
+requiredsAfter D S T v ts = eachAfter v (requiredAt (edgeDelay D) (pos T) (graphOf S)) (length (S .nodes)) ts
 
 unfoldable pub slacksAfter : Design → GraphSlices → ℕ → Verdict → List ℤ → List ℤ
-slacksAfter D S T v ts = timesAfter v (slackAt (edgeDelay D) (pos T) (graphOf S)) (length (S .nodes)) ts
+slacksAfter D S T v ts = eachAfter v (slackAt (edgeDelay D) (pos T) (graphOf S)) (length (S .nodes)) ts
 
 -- The record of a node, from n and what is known of each copy.
 abbrev pub recordAnswer : ℕ → List ℕ → List ℤ → List ℤ → List ℤ → ℕ → Verdict → NodeAnswer
@@ -166,6 +168,33 @@ unfoldable pub recordOf : ℕ → List ℕ → List ℤ → List ℤ → List �
 recordOf n nodes ats rts sts v =
     recordAnswer n nodes ats rts sts v
     (sameSizes (length nodes) (length ats) (length rts) then sameSizes (length nodes) (length nodes) (length sts) then nodeCount n)
+
+-- The records of all nodes, from n and what is known of each copy, into four lent slices with one place for each node: 1
+-- where it has times and 0 where it has none; its arrival, its required time and its slack, which are 0 where it has none.
+unfoldable pub testRecords : ℕ → List ℕ → List ℤ → List ℤ → List ℤ → ℕ → ℕ → ℕ → ℕ → Verdict
+testRecords n nodes ats rts sts known arrivals requireds slacks =
+    sameSizes (length nodes) (length ats) (length rts) then sameSizes (length nodes) (length nodes) (length sts)
+    then sameSizes n known arrivals then sameSizes n requireds slacks then nodeCount n
+
+abbrev pub hasTimes : NodeTimes → ℕ
+hasTimes (Times a r s) = 1
+hasTimes None = 0
+
+abbrev pub arrivalOf : NodeTimes → ℤ
+arrivalOf (Times a r s) = a
+arrivalOf None = pos 0
+
+abbrev pub requiredOf : NodeTimes → ℤ
+requiredOf (Times a r s) = r
+requiredOf None = pos 0
+
+abbrev pub slackOf : NodeTimes → ℤ
+slackOf (Times a r s) = s
+slackOf None = pos 0
+
+-- the slices afterwards, where f is what the slice tells of a record's times
+unfoldable pub recordsAfter : {A : Type 0} → (NodeTimes → A) → ℕ → List ℕ → List ℤ → List ℤ → List ℤ → Verdict → List A → List A
+recordsAfter f n nodes ats rts sts tested room = eachAfter tested (λ v. f (nodeRecord n nodes ats rts sts v .times)) n room
 
 -- Reading: what was parsed, and then what is done with it.
 abbrev pub parsed : {A : Type 0} → Parsed A → Outcome A

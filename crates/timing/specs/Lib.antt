@@ -11,6 +11,7 @@ pub mod Times
 pub mod Numbers
 pub mod Delays
 pub mod Parsing
+pub mod Looks
 pub mod Decks
 pub mod GraphBytes
 -- who can cause a refusal

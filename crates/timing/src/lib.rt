@@ -103,6 +103,18 @@ pub enum NumberRead {
     Refused(Refusal),
 }
 
+// A number and the place behind it, where it is known to stand there.
+pub struct Taken {
+    pub value: u32,
+    pub next: usize,
+}
+
+// How far a look at bytes gets: the place behind what it looked at.
+pub enum Looked {
+    At(usize),
+    Refused(Refusal),
+}
+
 // What a writer answers: the place behind the last byte that it wrote.
 pub enum Written {
     End(usize),

@@ -34,8 +34,8 @@ returns c =
 enum-told : tie.Need-enum-told
 enum-told c = search needs
 
-look-requires : tie.Need-look-requires
-look-requires c κs = search needs
+look-deck-requires : tie.Need-look-deck-requires
+look-deck-requires c κs = search needs
 
 enum-known-look : tie.Need-enum-known-look
 enum-known-look c = search needs
@@ -48,20 +48,20 @@ returns-2 c =
     let a = st .args in
     tables-kept (a .starts .now) (a .ends .now) (a .delays .now) (a .listed .now) (a .lengths .now) (outcomeAt st) _
     (read-stopped (a .s .now) (length (a .starts .now)) (length (a .ends .now)) (length (a .delays .now)) (length (a .listed .now)) (length (a .lengths .now)) _
-    (sym (z .same-sizes .ensures) ∙ k .before .enum-told .given .1) (sym (k .look .ensures) ∙ c .before .look2 .given .1))
+    (sym (z .same-sizes .ensures) ∙ k .before .enum-told .given .1) (sym (k .look-deck .ensures) ∙ c .before .look .given .1))
 
 enum-told-2 : tie.Need-enum-told-2
 enum-told-2 c = search needs
 
-fill-requires : tie.Need-fill-requires
-fill-requires c κs =
+fill-deck-requires : tie.Need-fill-deck-requires
+fill-deck-requires c κs =
     let t = c .before .before .before .before .before in
     let k = t .before .before in
     let z = k .before .before .before in
     let st = z .before .before .before .before .before .before in
     let a = st .args in
     let q = same-passed (length (a .starts .now)) (length (a .ends .now)) (length (a .delays .now)) (sym (z .same-sizes .ensures) ∙ k .before .enum-told .given .1) in
-    (read-passed (a .s .now) (tablesAt st) (sym (k .look .ensures) ∙ t .enum-told2 .given .1) .1, (q .0, q .1))
+    (read-passed (a .s .now) (tablesAt st) (sym (k .look-deck .ensures) ∙ t .enum-told2 .given .1) .1, (q .0, q .1))
 
 same-length : tie.Need-same-length
 same-length c = search needs
@@ -86,10 +86,10 @@ returns-3 c =
     let z = k .before .before .before in
     let st = z .before .before .before .before .before .before in
     let a = st .args in
-    let e = f .fill .ensures in
-    tables-filled (a .starts .now) (a .ends .now) (a .delays .now) (a .listed .now) (a .lengths .now) (outcomeAt st) (deckFrom (a .s .now)) _ _ _ _ _ _
+    let e = f .fill-deck .ensures in
+    tables-filled (a .starts .now) (a .ends .now) (a .delays .now) (a .listed .now) (a .lengths .now) (outcomeAt st) (deckFrom (a .s .now) 0) _ _ _ _ _ _
     (read-made (a .s .now) (length (a .starts .now)) (length (a .ends .now)) (length (a .delays .now)) (length (a .listed .now)) (length (a .lengths .now))
-    (sym (z .same-sizes .ensures) ∙ k .before .enum-told .given .1) (sym (k .look .ensures) ∙ t .enum-told2 .given .1)) (e .0) (e .1 .0) (e .1 .1)
+    (sym (z .same-sizes .ensures) ∙ k .before .enum-told .given .1) (sym (k .look-deck .ensures) ∙ t .enum-told2 .given .1)) (e .0) (e .1 .0) (e .1 .1)
 
 pub read-deck-spec : {M : Type 1} → statement M
 read-deck-spec =
@@ -99,11 +99,11 @@ read-deck-spec =
     enum-known-sizes
     returns
     enum-told
-    look-requires
+    look-deck-requires
     enum-known-look
     returns-2
     enum-told-2
-    fill-requires
+    fill-deck-requires
     same-length
     same-length-2
     same-length-3

@@ -5,7 +5,8 @@ use Rattle.timing.specs.Decks.{Deck}
 use Rattle.timing.specs.Calls.{deckWriteTests}
 use Rattle.deck.specs.Writing.{deckOf}
 use Rattle.deck.proofs.Tests.{fit-of, tests-untimed}
-use Rattle.deck.proofs.Writing.{write-refused, write-long, write-done}
+use Rattle.packed.proofs.Rooms.{write-refused, write-long}
+use Rattle.deck.proofs.Writing.{write-done}
 use borrow.Author.Needs.{needs}
 use Rattle.deck.proofs.write_deck.Statement.{statement}
 use Rattle.deck.proofs.write_deck.Tie as tie

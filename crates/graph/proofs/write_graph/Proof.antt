@@ -5,7 +5,8 @@ use lib.ListN.{length}
 use borrow.Author.Needs.{needs}
 use Rattle.timing.specs.declared.Verdict.the-variants.{Passed}
 use Rattle.timing.specs.Calls.{GraphSlices, graphSlices, graphOf, graphWriteTests}
-use Rattle.graph.proofs.Writing.{Fits, tests-are, tests-fit, write-refused, write-long, write-done}
+use Rattle.graph.proofs.Writing.{Fits, tests-are, tests-fit, write-done}
+use Rattle.packed.proofs.Rooms.{write-refused, write-long}
 use Rattle.graph.proofs.write_graph.Statement.{statement}
 use Rattle.graph.proofs.write_graph.Tie as tie
 

@@ -2,6 +2,7 @@
 use Prim.Native.Nat.{ℕ, _-_, _≤_}
 use native.Mathlib.Omega.{arith}
 use mathlib.Core.Path.{refl}
+use lib.IntN.{pos}
 use lib.ListN.{length}
 use borrow.Author.Needs.{needs}
 use mir.Syntax.{w64}
@@ -12,13 +13,13 @@ use Rattle.times.proofs.fill.Statement.{statement}
 use Rattle.times.proofs.fill.Tie as tie
 
 abbrev Inv-loop : tie.InvT-loop
-Inv-loop times₀ t i₀ times i = (i ≤ length times₀) × Done (λ (c : ℕ). toZ w64 t) i times₀ times
+Inv-loop times₀ t i₀ times i = (i ≤ length times₀) × Done (pos 0) (λ (c : ℕ). toZ w64 t) i times₀ times
 
 abbrev μ-loop : tie.MeasureT-loop
 μ-loop times₀ t i₀ times i = length times₀ - i
 
 loop-holds : tie.Need-loop-holds Inv-loop μ-loop
-loop-holds c = (omega arith, done-none _ _)
+loop-holds c = (omega arith, done-none (pos 0) _ _)
 
 mul-t : tie.Need-mul-t Inv-loop μ-loop
 mul-t c = search needs
@@ -33,13 +34,13 @@ loop-less : tie.Need-loop-less Inv-loop μ-loop
 loop-less c = omega arith
 
 loop-again : tie.Need-loop-again Inv-loop μ-loop
-loop-again c = (omega arith, done-next _ _ _ _ _ (omega (arith, c .before .loop .inv .1 .size)) refl (c .before .loop .inv .1))
+loop-again c = (omega arith, done-next (pos 0) _ _ _ _ _ (omega (arith, c .before .loop .inv .1 .size)) refl (c .before .loop .inv .1))
 
 same-length : tie.Need-same-length Inv-loop μ-loop
 same-length c = c .before .loop .inv .1 .size
 
 returns : tie.Need-returns Inv-loop μ-loop
-returns c = rw (toZ-ofZ (c .before .before .fits .t)) at (done-all _ _ _ _ (omega (arith, c .before .loop .inv .1 .size)) (c .before .loop .inv .1))
+returns c = rw (toZ-ofZ (c .before .before .fits .t)) at (done-all (pos 0) _ _ _ _ (omega (arith, c .before .loop .inv .1 .size)) (c .before .loop .inv .1))
 
 pub fill-spec : {M : Type 1} → statement M
 fill-spec =

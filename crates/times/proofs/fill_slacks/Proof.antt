@@ -10,13 +10,13 @@ use Rattle.times.proofs.fill_slacks.Statement.{statement}
 use Rattle.times.proofs.fill_slacks.Tie as tie
 
 abbrev Inv-loop : tie.InvT-loop
-Inv-loop arrivals requireds slacks₀ i₀ slacks i = (i ≤ length slacks₀) × Done (λ (c : ℕ). getD requireds c (pos 0) -ℤ getD arrivals c (pos 0)) i slacks₀ slacks
+Inv-loop arrivals requireds slacks₀ i₀ slacks i = (i ≤ length slacks₀) × Done (pos 0) (λ (c : ℕ). getD requireds c (pos 0) -ℤ getD arrivals c (pos 0)) i slacks₀ slacks
 
 abbrev μ-loop : tie.MeasureT-loop
 μ-loop arrivals requireds slacks₀ i₀ slacks i = length slacks₀ - i
 
 loop-holds : tie.Need-loop-holds Inv-loop μ-loop
-loop-holds c = (omega arith, done-none _ _)
+loop-holds c = (omega arith, done-none (pos 0) _ _)
 
 time-at-requires : tie.Need-time-at-requires Inv-loop μ-loop
 time-at-requires c κs = search needs
@@ -49,7 +49,7 @@ loop-again c =
     let a = b .before in
     let l = a .before .before .loop in (
       omega arith,
-      done-next _ _ _ _ _ (omega (arith, l .inv .1 .size))
+      done-next (pos 0) _ _ _ _ _ (omega (arith, l .inv .1 .size))
           (read-back (c .less .result) (c .less .ok) ∙ c .less .ensures
           ∙ ap₂ _-ℤ_ (read-back (a .time-at .result) (a .time-at .ok) ∙ a .time-at .ensures) (read-back (b .time-at2 .result) (b .time-at2 .ok) ∙ b .time-at2 .ensures))
           (l .inv .1),
@@ -59,7 +59,7 @@ same-length : tie.Need-same-length Inv-loop μ-loop
 same-length c = c .before .loop .inv .1 .size
 
 returns : tie.Need-returns Inv-loop μ-loop
-returns c = done-all _ _ _ _ (omega (arith, c .before .loop .inv .1 .size)) (c .before .loop .inv .1)
+returns c = done-all (pos 0) _ _ _ _ (omega (arith, c .before .loop .inv .1 .size)) (c .before .loop .inv .1)
 
 pub fill-slacks-spec : {M : Type 1} → statement M
 fill-slacks-spec =

@@ -1,13 +1,14 @@
--- The three tests one after the other.
+-- The tests one after the other; the definition groups them to the right.
+use mathlib.Core.Path.{_∙_}
+use Rattle.timing.specs.Refusals.{_then_}
+use Rattle.timing.specs.Tests.{sameSizes, nodeCount}
+use Rattle.design.proofs.Chains.{then-assoc}
 use borrow.Author.Needs.{needs}
 use Rattle.times.proofs.record_tests.Statement.{statement}
 use Rattle.times.proofs.record_tests.Tie as tie
 
-same-sizes-requires : tie.Need-same-sizes-requires
-same-sizes-requires c κs = search needs
-
-same-sizes-requires-2 : tie.Need-same-sizes-requires-2
-same-sizes-requires-2 c κs = search needs
+copy-sizes-requires : tie.Need-copy-sizes-requires
+copy-sizes-requires c κs = search needs
 
 unless-requires : tie.Need-unless-requires
 unless-requires c κs = search needs
@@ -15,19 +16,11 @@ unless-requires c κs = search needs
 then-requires : tie.Need-then-requires
 then-requires c κs = search needs
 
-then-requires-2 : tie.Need-then-requires-2
-then-requires-2 c κs = search needs
-
 returns : tie.Need-returns
-returns c = rw (c .then2 .ensures, c .before .then .ensures, c .before .before .unless .ensures, c .before .before .before .same-sizes2 .ensures, c .before .before .before .before .same-sizes .ensures)
+returns c =
+    let a = c .before .before .before .args in
+    rw (c .then .ensures, c .before .unless .ensures, c .before .before .copy-sizes .ensures)
+    (then-assoc (sameSizes (a .copies) (a .arrivals) (a .requireds)) (sameSizes (a .copies) (a .copies) (a .slacks)) (nodeCount (a .n)))
 
 pub record-tests-spec : {M : Type 1} → statement M
-record-tests-spec =
-    tie.close
-    (tie.spec
-    same-sizes-requires
-    same-sizes-requires-2
-    unless-requires
-    then-requires
-    then-requires-2
-    returns)
+record-tests-spec = tie.close (tie.spec copy-sizes-requires unless-requires then-requires returns)

@@ -14,13 +14,13 @@ use Rattle.times.proofs.settle.Statement.{statement}
 use Rattle.times.proofs.settle.Tie as tie
 
 abbrev Inv-loop : tie.InvT-loop
-Inv-loop times₀ none first i₀ times i = (i ≤ length times₀) × Done (λ (c : ℕ). timeOr (toZ w64 none) (toZ w64 first) (getD times₀ c (pos 0))) i times₀ times
+Inv-loop times₀ none first i₀ times i = (i ≤ length times₀) × Done (pos 0) (λ (c : ℕ). timeOr (toZ w64 none) (toZ w64 first) (getD times₀ c (pos 0))) i times₀ times
 
 abbrev μ-loop : tie.MeasureT-loop
 μ-loop times₀ none first i₀ times i = length times₀ - i
 
 loop-holds : tie.Need-loop-holds Inv-loop μ-loop
-loop-holds c = (omega arith, done-none _ _)
+loop-holds c = (omega arith, done-none (pos 0) _ _)
 
 mul-time-or : tie.Need-mul-time-or Inv-loop μ-loop
 mul-time-or c = search needs
@@ -47,7 +47,7 @@ loop-again : tie.Need-loop-again Inv-loop μ-loop
 loop-again c =
     let l = c .before .before .before .loop in (
       omega arith,
-      done-next _ _ _ _ _ (omega (arith, l .inv .1 .size))
+      done-next (pos 0) _ _ _ _ _ (omega (arith, l .inv .1 .size))
           (read-back (c .time-or .result) (c .time-or .ok) ∙ c .time-or .ensures
           ∙ ap (timeOr _ _) (read-back (getD (l .times) (l .i) (pos 0)) (c .before .time-or-arg .given) ∙ l .inv .1 .above (l .i) (omega arith)))
           (l .inv .1),
@@ -59,7 +59,7 @@ same-length c = c .before .loop .inv .1 .size
 returns : tie.Need-returns Inv-loop μ-loop
 returns c =
     let f = c .before .before .fits in
-    rw (toZ-ofZ (f .none), toZ-ofZ (f .first)) at (done-all _ _ _ _ (omega (arith, c .before .loop .inv .1 .size)) (c .before .loop .inv .1))
+    rw (toZ-ofZ (f .none), toZ-ofZ (f .first)) at (done-all (pos 0) _ _ _ _ (omega (arith, c .before .loop .inv .1 .size)) (c .before .loop .inv .1))
 
 pub settle-spec : {M : Type 1} → statement M
 settle-spec =

@@ -5,11 +5,11 @@ use borrow.Author.Needs.{needs}
 use Rattle.unfit_cases.proofs.case.Statement.{statement}
 use Rattle.unfit_cases.proofs.case.Tie as tie
 
-number-requires : tie.Need-number-requires
-number-requires c κs = search needs
+take-number-requires : tie.Need-take-number-requires
+take-number-requires c κs = search needs
 
-number-requires-2 : tie.Need-number-requires-2
-number-requires-2 c κs = search needs
+take-number-requires-2 : tie.Need-take-number-requires-2
+take-number-requires-2 c κs = search needs
 
 slice-aggregate-fill : tie.Need-slice-aggregate-fill
 slice-aggregate-fill c = search needs
@@ -96,8 +96,8 @@ pub case-spec : {M : Type 1} → statement M
 case-spec =
     tie.close
     (tie.spec
-    number-requires
-    number-requires-2
+    take-number-requires
+    take-number-requires-2
     slice-aggregate-fill
     fill-requires
     slice-aggregate-fill-2

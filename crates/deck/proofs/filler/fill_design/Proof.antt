@@ -2,28 +2,29 @@
 use Prim.Native.Nat.{ℕ}
 use native.Mathlib.Omega.{arith}
 use mathlib.Core.Path.{_≡_, sym, _∙_, ap}
-use Rattle.deck.specs.Reading.{valueAt, nextAt, edgeCount, edgesPlace}
+use Rattle.timing.specs.Looks.{valueAt, nextAt}
+use Rattle.deck.specs.Reading.{edgeCount, edgesPlace}
 use Rattle.deck.proofs.Reading.{starts-placed, ends-placed, delays-placed, count-place}
 use borrow.Author.Needs.{needs}
 use Rattle.deck.proofs.filler.fill_design.Statement.{statement}
 use Rattle.deck.proofs.filler.fill_design.Tie as tie
 
 -- the count of edges and their place
-count-is : (c : tie.After-wide) → c .wide .result ≡ edgeCount (c .before .before .before .before .before .before .args .s .now)
+count-is : (c : tie.After-wide) → c .wide .result ≡ edgeCount (c .before .before .before .before .before .before .args .s .now) (c .before .before .before .before .before .before .args .at)
 count-is c =
     let s = c .before .before .before .before .before .before .args .s .now in
-    c .wide .ensures ∙ c .before .take2 .ensures .0 ∙ ap (λ (n : ℕ). valueAt s n) (c .before .before .take .ensures .1)
+    c .wide .ensures ∙ c .before .take-number2 .ensures .0 ∙ ap (λ (n : ℕ). valueAt s n) (c .before .before .take-number .ensures .1)
 
-place-is : (c : tie.After-wide) → c .before .take2 .result .next ≡ edgesPlace (c .before .before .before .before .before .before .args .s .now)
+place-is : (c : tie.After-wide) → c .before .take-number2 .result .next ≡ edgesPlace (c .before .before .before .before .before .before .args .s .now) (c .before .before .before .before .before .before .args .at)
 place-is c =
     let s = c .before .before .before .before .before .before .args .s .now in
-    c .before .take2 .ensures .1 ∙ ap (λ (n : ℕ). nextAt s n) (c .before .before .take .ensures .1)
+    c .before .take-number2 .ensures .1 ∙ ap (λ (n : ℕ). nextAt s n) (c .before .before .take-number .ensures .1)
 
-take-requires : tie.Need-take-requires
-take-requires c κs = search needs
+take-number-requires : tie.Need-take-number-requires
+take-number-requires c κs = search needs
 
-take-requires-2 : tie.Need-take-requires-2
-take-requires-2 c κs = search needs
+take-number-requires-2 : tie.Need-take-number-requires-2
+take-number-requires-2 c κs = search needs
 
 wide-requires : tie.Need-wide-requires
 wide-requires c κs = search needs
@@ -55,11 +56,11 @@ returns c =
     let mi = count-is w in
     let ai = place-is w in
     let s = a .s .now in (
-      (w .before .before .take .ensures .0, sym (w .wide .ensures) ∙ mi, count-place s _ _ mi ai _ (e .0)),
+      (w .before .before .take-number .ensures .0, sym (w .wide .ensures) ∙ mi, count-place s _ _ _ mi ai _ (e .0)),
       (
-        starts-placed s _ _ mi ai (a .starts .now) _ (omega (arith, p)) (e .1),
-        ends-placed s _ _ mi ai (a .ends .now) _ (omega (arith, p)) (e .2),
-        delays-placed s _ _ mi ai (a .delays .now) _ (omega (arith, p)) (e .3),
+        starts-placed s _ _ _ mi ai (a .starts .now) _ (omega (arith, p)) (e .1),
+        ends-placed s _ _ _ mi ai (a .ends .now) _ (omega (arith, p)) (e .2),
+        delays-placed s _ _ _ mi ai (a .delays .now) _ (omega (arith, p)) (e .3),
       ),
     )
 
@@ -67,8 +68,8 @@ pub fill-design-spec : {M : Type 1} → statement M
 fill-design-spec =
     tie.close
     (tie.spec
-    take-requires
-    take-requires-2
+    take-number-requires
+    take-number-requires-2
     wide-requires
     fill-rows-requires
     same-length

@@ -22,8 +22,8 @@ loop-holds c =
     let w = numbers-whole (a .s .now) (a .count) (a .at) (a .listed .now) (a .from) in
     (omega arith, refl, w .0, w .1)
 
-take-requires : tie.Need-take-requires Inv-loop μ-loop
-take-requires c κs = search needs
+take-number-requires : tie.Need-take-number-requires Inv-loop μ-loop
+take-number-requires c κs = search needs
 
 add-listed : tie.Need-add-listed Inv-loop μ-loop
 add-listed c = omega arith
@@ -44,7 +44,7 @@ loop-again : tie.Need-loop-again Inv-loop μ-loop
 loop-again c =
     let l = c .before .before in
     let a = l .before .before .before .args in
-    let w = numbers-step (a .s .now) (a .count) (l .loop .i) (l .loop .at) (l .loop .listed) (a .from) (c .take .result .value) (c .take .result .next) (omega arith) (c .take .ensures) in
+    let w = numbers-step (a .s .now) (a .count) (l .loop .i) (l .loop .at) (l .loop .listed) (a .from) (c .take-number .result .value) (c .take-number .result .next) (omega arith) (c .take-number .ensures) in
     (omega arith, simp length-set (l .loop .inv .1), w .0 ∙ l .loop .inv .2, w .1 ∙ l .loop .inv .3)
 
 same-length : tie.Need-same-length Inv-loop μ-loop
@@ -64,7 +64,7 @@ fill-numbers-spec =
     Inv-loop
     μ-loop
     loop-holds
-    take-requires
+    take-number-requires
     add-listed
     mul-listed
     slice-write-listed

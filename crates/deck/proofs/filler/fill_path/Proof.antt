@@ -7,8 +7,8 @@ use borrow.Author.Needs.{needs}
 use Rattle.deck.proofs.filler.fill_path.Statement.{statement}
 use Rattle.deck.proofs.filler.fill_path.Tie as tie
 
-take-requires : tie.Need-take-requires
-take-requires c κs = search needs
+take-number-requires : tie.Need-take-number-requires
+take-number-requires c κs = search needs
 
 mul-lengths : tie.Need-mul-lengths
 mul-lengths c = search needs
@@ -20,7 +20,7 @@ wide-requires : tie.Need-wide-requires
 wide-requires c κs = search needs
 
 fill-numbers-requires : tie.Need-fill-numbers-requires
-fill-numbers-requires c κs = omega (arith, c .before .wide .ensures, c .before .before .take .ensures .0)
+fill-numbers-requires c κs = omega (arith, c .before .wide .ensures, c .before .before .take-number .ensures .0)
 
 same-length : tie.Need-same-length
 same-length c = search needs
@@ -34,19 +34,19 @@ returns c =
     let w = f .before .before in
     let t = w .before in
     let a = t .before .before .before .before .args in
-    let v = w .wide .ensures ∙ t .take .ensures .0 in
-    let n = t .take .ensures .1 in (
-      t .take .ensures .0,
+    let v = w .wide .ensures ∙ t .take-number .ensures .0 in
+    let n = t .take-number .ensures .1 in (
+      t .take-number .ensures .0,
       f .fill-numbers .ensures .0 ∙ rw (v, n),
       f .fill-numbers .ensures .1 ∙ rw (v, n),
-      ap (λ (x : ℕ). set (a .lengths .now) (a .k) x) (t .take .ensures .0),
+      ap (λ (x : ℕ). set (a .lengths .now) (a .k) x) (t .take-number .ensures .0),
     )
 
 pub fill-path-spec : {M : Type 1} → statement M
 fill-path-spec =
     tie.close
     (tie.spec
-    take-requires
+    take-number-requires
     mul-lengths
     slice-write-lengths
     wide-requires

@@ -5,7 +5,8 @@ use mathlib.Core.Path.{_≡_, refl, sym, _∙_, ap}
 use lib.ListN.{length, length-set}
 use lib.Seq.{sets, length-sets}
 use borrow.Author.Needs.{needs}
-use Rattle.deck.specs.Reading.{valueAt, nextAt, numbersFrom, edgesFrom, lengthsFrom, pathsEnd}
+use Rattle.timing.specs.Looks.{valueAt, nextAt}
+use Rattle.deck.specs.Reading.{numbersFrom, edgesFrom, lengthsFrom, pathsEnd}
 use Rattle.deck.proofs.Reading.{paths-sum, paths-next, edges-step, lengths-step, paths-whole, paths-none}
 use Rattle.deck.proofs.filler.fill_paths.Statement.{statement}
 use Rattle.deck.proofs.filler.fill_paths.Tie as tie

@@ -8,14 +8,14 @@ use borrow.Author.Needs.{needs}
 use Rattle.deck.proofs.filler.fill_row.Statement.{statement}
 use Rattle.deck.proofs.filler.fill_row.Tie as tie
 
-take-requires : tie.Need-take-requires
-take-requires c κs = search needs
+take-number-requires : tie.Need-take-number-requires
+take-number-requires c κs = search needs
 
-take-requires-2 : tie.Need-take-requires-2
-take-requires-2 c κs = search needs
+take-number-requires-2 : tie.Need-take-number-requires-2
+take-number-requires-2 c κs = search needs
 
-take-requires-3 : tie.Need-take-requires-3
-take-requires-3 c κs = search needs
+take-number-requires-3 : tie.Need-take-number-requires-3
+take-number-requires-3 c κs = search needs
 
 mul-starts : tie.Need-mul-starts
 mul-starts c = search needs
@@ -47,7 +47,7 @@ returns c =
     let t2 = t3 .before in
     let t1 = t2 .before in
     let a = t1 .before .before .before .before .args in
-    let r = row-is (a .s .now) (a .at) (t1 .take .result .value) (t1 .take .result .next) (t2 .take2 .result .value) (t2 .take2 .result .next) (t3 .take3 .result .value) (t3 .take3 .result .next) (t1 .take .ensures) (t2 .take2 .ensures) (t3 .take3 .ensures) in (
+    let r = row-is (a .s .now) (a .at) (t1 .take-number .result .value) (t1 .take-number .result .next) (t2 .take-number2 .result .value) (t2 .take-number2 .result .next) (t3 .take-number3 .result .value) (t3 .take-number3 .result .next) (t1 .take-number .ensures) (t2 .take-number2 .ensures) (t3 .take-number3 .ensures) in (
       r .0,
       ap (λ (v : ℕ). set (a .starts .now) (a .i) v) (r .1),
       ap (λ (v : ℕ). set (a .ends .now) (a .i) v) (r .2),
@@ -58,9 +58,9 @@ pub fill-row-spec : {M : Type 1} → statement M
 fill-row-spec =
     tie.close
     (tie.spec
-    take-requires
-    take-requires-2
-    take-requires-3
+    take-number-requires
+    take-number-requires-2
+    take-number-requires-3
     mul-starts
     slice-write-starts
     mul-ends

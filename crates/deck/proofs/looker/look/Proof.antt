@@ -1,8 +1,8 @@
--- n, then the edges: the verdict of the reader itself.
+-- n, then the edges.
 use mathlib.Core.Path.{sym, _∙_}
 use Rattle.timing.specs.Decks.{Tables}
 use Rattle.deck.specs.Reading.{countIn, edgesIn}
-use Rattle.deck.proofs.Looking.{number-at, number-stop, look-is}
+use Rattle.deck.proofs.Looking.{number-at, number-stop}
 use borrow.Author.Needs.{needs}
 use Rattle.deck.proofs.looker.look.Statement.{statement}
 use Rattle.deck.proofs.looker.look.Tie as tie
@@ -28,16 +28,14 @@ returns c =
     let r = c .before .before in
     let st = r .before .before .before .before in
     let s = st .args .s .now in
-    number-at (countIn s 0 10 4096 4096 0) (λ n. edgesIn s (tablesAt st)) (r .r .given .0 .0) (r .r .given .0 .1 .0) _ (sym (r .before .before .look-count .ensures) ∙ r .r .given .1) (c .look-edges .ensures)
-    ∙ look-is s (tablesAt st)
+    number-at (countIn s 0 10 4096 4096 (st .args .at)) (λ n. edgesIn s (tablesAt st)) (r .r .given .0 .0) (r .r .given .0 .1 .0) _ (sym (r .before .before .look-count .ensures) ∙ r .r .given .1) (c .look-edges .ensures)
 
 returns-2 : tie.Need-returns-2
 returns-2 c =
     let n = c .before .before .before in
     let st = n .before .before in
     let s = st .args .s .now in
-    number-stop (countIn s 0 10 4096 4096 0) (λ n. edgesIn s (tablesAt st)) _ (sym (n .look-count .ensures) ∙ c .before .r2 .given .1)
-    ∙ look-is s (tablesAt st)
+    number-stop (countIn s 0 10 4096 4096 (st .args .at)) (λ n. edgesIn s (tablesAt st)) _ (sym (n .look-count .ensures) ∙ c .before .r2 .given .1)
 
 pub look-spec : {M : Type 1} → statement M
 look-spec =

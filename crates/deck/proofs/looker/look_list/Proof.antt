@@ -3,7 +3,8 @@ use Prim.Native.Nat.{ℕ}
 use mathlib.Core.Path.{_≡_, sym, _∙_, ap}
 use Rattle.timing.specs.Parsing.{_>>=_}
 use Rattle.timing.specs.Decks.{paths}
-use Rattle.deck.specs.Reading.{looked, countIn, tailIn}
+use Rattle.timing.specs.Looks.{looked}
+use Rattle.deck.specs.Reading.{countIn, tailIn}
 use Rattle.deck.proofs.Looking.{then-at, then-stop, number-at, number-stop}
 use borrow.Author.Needs.{needs}
 use Rattle.deck.proofs.looker.look_list.Statement.{statement}

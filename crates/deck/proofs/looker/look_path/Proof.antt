@@ -2,7 +2,7 @@
 use Prim.Native.Nat.{ℕ}
 use mathlib.Core.Path.{_≡_, sym, _∙_, ap}
 use Rattle.timing.specs.Parsing.{number, repeated}
-use Rattle.deck.specs.Reading.{looked}
+use Rattle.timing.specs.Looks.{looked}
 use Rattle.deck.proofs.Looking.{path-at, path-stop, path-none, path-is}
 use borrow.Author.Needs.{needs}
 use Rattle.deck.proofs.looker.look_path.Statement.{statement}

@@ -4,7 +4,7 @@ use native.Mathlib.Omega.{arith}
 use mathlib.Core.Path.{_≡_, sym, _∙_}
 use borrow.Author.Needs.{needs}
 use Rattle.timing.specs.Decks.{paths}
-use Rattle.deck.specs.Reading.{looked}
+use Rattle.timing.specs.Looks.{looked}
 use Rattle.deck.proofs.Looking.{path-small, paths-all, paths-turn, paths-stop, paths-end}
 use Rattle.deck.proofs.looker.look_paths.Statement.{statement}
 use Rattle.deck.proofs.looker.look_paths.Tie as tie

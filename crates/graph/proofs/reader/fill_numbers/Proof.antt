@@ -23,8 +23,8 @@ loop-holds c =
     let f = fill-all (a .s .now) (a .k) (a .at) (a .out .now) in
     (omega arith, refl, f .0, f .1)
 
-found-at-requires : tie.Need-found-at-requires Inv-loop μ-loop
-found-at-requires c κs = search needs
+take-number-requires : tie.Need-take-number-requires Inv-loop μ-loop
+take-number-requires c κs = search needs
 
 mul-out : tie.Need-mul-out Inv-loop μ-loop
 mul-out c = omega arith
@@ -43,7 +43,7 @@ loop-again c =
     let l = c .before .before in
     let a = l .before .before .before .args in
     let h = c .before .loop-test .taken in
-    let e = c .found-at .ensures in (
+    let e = c .take-number .ensures in (
       omega arith,
       simp length-set (l .loop .inv .1),
       rw (e .1) (fill-end (a .s .now) (a .k) (l .loop .i) (l .loop .here) (l .loop .out) h ∙ l .loop .inv .2),
@@ -67,7 +67,7 @@ fill-numbers-spec =
     Inv-loop
     μ-loop
     loop-holds
-    found-at-requires
+    take-number-requires
     mul-out
     slice-write-out
     add-i

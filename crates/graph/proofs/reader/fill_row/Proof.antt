@@ -3,14 +3,14 @@ use borrow.Author.Needs.{needs}
 use Rattle.graph.proofs.reader.fill_row.Statement.{statement}
 use Rattle.graph.proofs.reader.fill_row.Tie as tie
 
-found-at-requires : tie.Need-found-at-requires
-found-at-requires c κs = search needs
+take-number-requires : tie.Need-take-number-requires
+take-number-requires c κs = search needs
 
-found-at-requires-2 : tie.Need-found-at-requires-2
-found-at-requires-2 c κs = search needs
+take-number-requires-2 : tie.Need-take-number-requires-2
+take-number-requires-2 c κs = search needs
 
-found-at-requires-3 : tie.Need-found-at-requires-3
-found-at-requires-3 c κs = search needs
+take-number-requires-3 : tie.Need-take-number-requires-3
+take-number-requires-3 c κs = search needs
 
 mul-gs : tie.Need-mul-gs
 mul-gs c = search needs
@@ -46,9 +46,9 @@ pub fill-row-spec : {M : Type 1} → statement M
 fill-row-spec =
     tie.close
     (tie.spec
-    found-at-requires
-    found-at-requires-2
-    found-at-requires-3
+    take-number-requires
+    take-number-requires-2
+    take-number-requires-3
     mul-gs
     slice-write-gs
     mul-ge

@@ -1,0 +1,475 @@
+/* The library's calls against the reference program's, on the same input and machine.
+ *
+ *     bench/run [--stand-in]
+ *
+ * Each line is one piece of work: what came out, the time of each, and the library's time over the reference's. Both are timed in turn, in
+ * rounds, and the best round counts; time is the processor's, so that other processes disturb less. Both are lent rooms and scratch of
+ * the same size, the scratch of just the size that test 31 asks for, and both clear it. The two results are compared before any time is
+ * taken. The last tables double the list and say how the cost grows. Exit status 1 where results differ. */
+#define _POSIX_C_SOURCE 199309L
+#include "jaqhweni.h"
+#include "reference.h"
+
+#include <stdio.h>
+#include <stdlib.h>
+#include <string.h>
+#include <time.h>
+
+enum { ROUNDS = 25, ROOM_COPIES = 16384, ROOM_EDGES = 65536, SERIES = 32, MOST_WORDS = 1 << 24 };
+static const double ROUND_SECONDS = 0.02;
+
+/* ---- Two libraries ------------------------------------------------------------------------------------------------------------ */
+
+typedef struct {
+    int64_t (*true_graph)(const uint8_t *, size_t, uint8_t *, size_t);
+    int64_t (*remove_from_design)(uint32_t, const uint32_t *, size_t, const uint32_t *, size_t, const int32_t *, size_t,
+                                  const uint32_t *, size_t, const uint32_t *, size_t, uint32_t *, size_t, uint32_t *, size_t,
+                                  uint32_t *, size_t, uint32_t *, size_t, uint32_t *, size_t);
+    int64_t (*remove_from_graph)(uint32_t, const uint32_t *, size_t, const uint32_t *, size_t, const int32_t *, size_t,
+                                 const uint32_t *, size_t, const uint32_t *, size_t, const uint32_t *, size_t, const uint32_t *, size_t,
+                                 const uint32_t *, size_t, const uint32_t *, size_t, uint32_t *, size_t, uint32_t *, size_t,
+                                 uint32_t *, size_t, uint32_t *, size_t, uint32_t *, size_t);
+    int64_t (*times)(uint32_t, const uint32_t *, size_t, const uint32_t *, size_t, const int32_t *, size_t, uint32_t, const uint32_t *,
+                     size_t, const uint32_t *, size_t, const uint32_t *, size_t, const uint32_t *, size_t, int64_t *, size_t, int64_t *,
+                     size_t, int64_t *, size_t);
+} calls;
+
+static const calls LIBRARY = {jaqhweni_true_graph, jaqhweni_remove_from_design, jaqhweni_remove_from_graph, jaqhweni_times};
+static const calls REFERENCE = {reference_true_graph, reference_remove_from_design, reference_remove_from_graph, reference_times};
+
+/* ---- Input -------------------------------------------------------------------------------------------------------------------- */
+
+typedef struct {
+    uint32_t n;
+    size_t m;
+    uint32_t starts[JAQHWENI_MAX_EDGES], ends[JAQHWENI_MAX_EDGES];
+    int32_t delays[JAQHWENI_MAX_EDGES];
+} design;
+
+typedef struct {
+    size_t listed, paths;
+    uint32_t edges[JAQHWENI_MAX_LISTED_EDGES], lengths[JAQHWENI_MAX_PATHS];
+} path_list;
+
+typedef struct {
+    size_t copies, edges;
+    uint32_t nodes[ROOM_COPIES], from[ROOM_EDGES], to[ROOM_EDGES], via[ROOM_EDGES];
+} graph;
+
+static uint64_t state = 88172645463325252u;
+
+static uint32_t below(uint32_t bound)
+{
+    state ^= state << 13;
+    state ^= state >> 7;
+    state ^= state << 17;
+    return (uint32_t)((state >> 32) * bound >> 32);
+}
+
+static void add_edge(design *d, uint32_t start, uint32_t end)
+{
+    d->starts[d->m] = start;
+    d->ends[d->m] = end;
+    d->delays[d->m] = (int32_t)below(2001) - 1000;
+    d->m++;
+}
+
+/* Every node but the last has an edge to one of the next `span`; the rest of the edges are anywhere within `span`. */
+static void random_design(design *d, uint32_t n, size_t m, uint32_t span)
+{
+    d->n = n;
+    d->m = 0;
+    for (uint32_t k = 0; d->m < m; k++) {
+        uint32_t start = k < n - 1 ? k : below(n - 1);
+        uint32_t most = n - 1 - start < span ? n - 1 - start : span;
+        add_edge(d, start, start + 1 + below(most));
+    }
+}
+
+/* Runs of up to `length` edges from random edges on. */
+static void random_paths(path_list *l, const design *d, size_t paths, size_t length)
+{
+    static uint32_t first[JAQHWENI_MAX_NODES + 2], out[JAQHWENI_MAX_EDGES];
+    memset(first, 0, sizeof first);
+    for (size_t e = 0; e < d->m; e++) first[d->starts[e] + 2]++;
+    for (uint32_t v = 2; v < d->n + 1; v++) first[v] += first[v - 1];
+    for (size_t e = 0; e < d->m; e++) out[first[d->starts[e] + 1]++] = (uint32_t)e;
+    l->listed = l->paths = 0;
+    while (l->paths < paths) {
+        uint32_t e = below((uint32_t)d->m);
+        size_t size = 0;
+        for (;;) {
+            l->edges[l->listed + size++] = e;
+            uint32_t v = d->ends[e], count = first[v + 1] - first[v];
+            if (size == length || count == 0) break;
+            e = out[first[v] + below(count)];
+        }
+        if (size < length && below(8) != 0) continue;       /* mostly whole ones */
+        l->lengths[l->paths++] = (uint32_t)size;
+        l->listed += size;
+    }
+}
+
+static size_t words_needed(const design *d, const path_list *l, const graph *old)
+{
+    static size_t starting[JAQHWENI_MAX_NODES];
+    size_t units = l->listed + (old ? old->edges + old->copies : d->m + d->n), at = 0;
+    memset(starting, 0, sizeof starting);
+    for (size_t p = 0; p < l->paths; at += l->lengths[p++])
+        for (size_t k = 1; k < l->lengths[p]; k++) starting[d->starts[l->edges[at + k]]]++;
+    if (old)
+        for (size_t c = 0; c < old->copies; c++) units += starting[old->nodes[c]];
+    else
+        units += l->listed - l->paths;
+    return JAQHWENI_WORDS_PER_UNIT * units;
+}
+
+static void pack_number(uint8_t *bytes, size_t *length, uint32_t value)
+{
+    for (; value >= 0x80; value >>= 7) bytes[(*length)++] = (uint8_t)(value | 0x80);
+    bytes[(*length)++] = (uint8_t)value;
+}
+
+static size_t pack_deck(uint8_t *bytes, const design *d, const path_list *l)
+{
+    size_t length = 0, at = 0;
+    pack_number(bytes, &length, d->n);
+    pack_number(bytes, &length, (uint32_t)d->m);
+    for (size_t e = 0; e < d->m; e++) {
+        pack_number(bytes, &length, d->starts[e]);
+        pack_number(bytes, &length, d->ends[e]);
+        pack_number(bytes, &length, d->delays[e] < 0 ? (uint32_t)(-2 * d->delays[e] - 1) : (uint32_t)(2 * d->delays[e]));
+    }
+    pack_number(bytes, &length, (uint32_t)l->paths);
+    for (size_t p = 0; p < l->paths; p++) {
+        pack_number(bytes, &length, l->lengths[p]);
+        for (size_t k = 0; k < l->lengths[p]; k++) pack_number(bytes, &length, l->edges[at++]);
+    }
+    pack_number(bytes, &length, 1000000);
+    return length;
+}
+
+/* ---- Work ---------------------------------------------------------------------------------------------------------------------- */
+
+static design d;
+static path_list list, lists[SERIES];
+static graph earlier, rooms[2][2];                  /* of each library, two to take turns in a series */
+static size_t words[SERIES];
+static uint32_t *scratch;
+static uint8_t deck[JAQHWENI_MAX_DECK_BYTES], packed[2][JAQHWENI_MAX_DECK_BYTES];
+static size_t deck_length;
+static int64_t times[2][3][ROOM_COPIES];
+
+static int64_t remove_list(const calls *by, const path_list *l, const graph *old, graph *room, size_t scratch_length)
+{
+    int64_t made;
+    if (old)
+        made = by->remove_from_graph(d.n, d.starts, d.m, d.ends, d.m, d.delays, d.m, l->edges, l->listed, l->lengths, l->paths, old->nodes,
+                                     old->copies, old->from, old->edges, old->to, old->edges, old->via, old->edges, room->nodes,
+                                     ROOM_COPIES, room->from, ROOM_EDGES, room->to, ROOM_EDGES, room->via, ROOM_EDGES, scratch,
+                                     scratch_length);
+    else
+        made = by->remove_from_design(d.n, d.starts, d.m, d.ends, d.m, d.delays, d.m, l->edges, l->listed, l->lengths, l->paths,
+                                      room->nodes, ROOM_COPIES, room->from, ROOM_EDGES, room->to, ROOM_EDGES, room->via, ROOM_EDGES,
+                                      scratch, scratch_length);
+    if (made >= 0) {
+        room->copies = (uint32_t)made;
+        room->edges = (size_t)(made >> 32);
+    }
+    return made;
+}
+
+static int64_t do_deck(int which)
+{
+    return (which ? LIBRARY : REFERENCE).true_graph(deck, deck_length, packed[which], sizeof packed[which]);
+}
+
+static int64_t do_design(int which)
+{
+    return remove_list(which ? &LIBRARY : &REFERENCE, &list, NULL, &rooms[which][0], words[0]);
+}
+
+static int64_t do_graph(int which)
+{
+    return remove_list(which ? &LIBRARY : &REFERENCE, &list, &earlier, &rooms[which][0], words[0]);
+}
+
+static int64_t do_series(int which)
+{
+    const graph *held = NULL;
+    int64_t made = 0;
+    for (size_t k = 0; k < SERIES; k++) {
+        graph *room = &rooms[which][k % 2];
+        made = remove_list(which ? &LIBRARY : &REFERENCE, &lists[k], held, room, words[k]);
+        if (made < 0) return made;
+        held = room;
+    }
+    return made;
+}
+
+static int64_t do_times(int which)
+{
+    int64_t (*t)[ROOM_COPIES] = times[which];
+    return (which ? LIBRARY : REFERENCE).times(d.n, d.starts, d.m, d.ends, d.m, d.delays, d.m, 1000000, earlier.nodes, earlier.copies,
+                                               earlier.from, earlier.edges, earlier.to, earlier.edges, earlier.via, earlier.edges, t[0],
+                                               earlier.copies, t[1], earlier.copies, t[2], earlier.copies);
+}
+
+typedef int64_t (*work)(int which);
+
+static double now(void)
+{
+    struct timespec t;
+    clock_gettime(CLOCK_PROCESS_CPUTIME_ID, &t);
+    return (double)t.tv_sec + 1e-9 * (double)t.tv_nsec;
+}
+
+/* Seconds of one call, over so many. */
+static double time_of(work w, int which, size_t repeats)
+{
+    double begin = now();
+    for (size_t k = 0; k < repeats; k++) w(which);
+    return (now() - begin) / (double)repeats;
+}
+
+static double worst_ratio, slowest;
+static int differ;
+
+static int same_results(void)
+{
+    int same = memcmp(packed[0], packed[1], sizeof packed[0]) == 0 && memcmp(times[0], times[1], sizeof times[0]) == 0;
+    for (int turn = 0; turn < 2; turn++) {
+        const graph *a = &rooms[0][turn], *b = &rooms[1][turn];
+        same = same && a->copies == b->copies && a->edges == b->edges && memcmp(a->nodes, b->nodes, sizeof a->nodes) == 0
+            && memcmp(a->from, b->from, sizeof a->from) == 0 && memcmp(a->to, b->to, sizeof a->to) == 0
+            && memcmp(a->via, b->via, sizeof a->via) == 0;
+    }
+    return same;
+}
+
+/* Prints a line; returns the library's time. */
+static double measure(const char *name, work w)
+{
+    memset(rooms, 0, sizeof rooms);
+    memset(packed, 0, sizeof packed);
+    memset(times, 0, sizeof times);
+    memset(scratch, 0, MOST_WORDS * sizeof *scratch);
+    int64_t answers[2] = {w(0), w(1)};
+    char made[40];
+    if (answers[0] < 0) snprintf(made, sizeof made, "refused %d", (int)(-answers[0] % 256));
+    else if (w == do_deck) snprintf(made, sizeof made, "%d bytes", (int)answers[0]);
+    else if (w == do_times) snprintf(made, sizeof made, "%zu copies", earlier.copies);
+    else snprintf(made, sizeof made, "%d copies, %d edges", (int)(uint32_t)answers[0], (int)(answers[0] >> 32));
+    if (answers[0] != answers[1] || !same_results()) {
+        printf("%-44s %-28s RESULTS DIFFER\n", name, made);
+        differ = 1;
+        return 0;
+    }
+    double once = time_of(w, 0, 1), best[2] = {1e9, 1e9};
+    size_t repeats = once > ROUND_SECONDS ? 1 : (size_t)(ROUND_SECONDS / once) + 1;
+    for (int round = 0; round < ROUNDS; round++)
+        for (int which = 0; which < 2; which++) {
+            double seconds = time_of(w, which, repeats);
+            if (seconds < best[which]) best[which] = seconds;
+        }
+    double ratio = best[1] / best[0];
+    if (ratio > worst_ratio) worst_ratio = ratio;
+    if (best[1] > slowest) slowest = best[1];
+    printf("%-44s %-28s %11.1f %11.1f %7.2f%s\n", name, made, 1e6 * best[0], 1e6 * best[1], ratio, ratio > 1.25 ? "  *" : "");
+    fflush(stdout);
+    return best[1];
+}
+
+/* ---- Cases --------------------------------------------------------------------------------------------------------------------- */
+
+static void hub(uint32_t into, uint32_t out_of, uint32_t listed)
+{
+    d.n = 3;
+    d.m = 0;
+    for (uint32_t k = 0; k < into; k++) add_edge(&d, 0, 1);
+    for (uint32_t k = 0; k < out_of; k++) add_edge(&d, 1, 2);
+    list.paths = list.listed = 0;
+    for (uint32_t k = 0; k < listed; k++) {
+        list.edges[list.listed++] = k % 2;
+        list.edges[list.listed++] = into + k;
+        list.lengths[list.paths++] = 2;
+    }
+}
+
+/* Hubs one after the other, joined by `width` parallel edges; each path takes three of them. */
+static void row_of_hubs(uint32_t hubs, uint32_t width, size_t paths)
+{
+    d.n = hubs + 1;
+    d.m = 0;
+    for (uint32_t v = 0; v < hubs; v++)
+        for (uint32_t k = 0; k < width; k++) add_edge(&d, v, v + 1);
+    list.paths = list.listed = 0;
+    while (list.paths < paths) {
+        uint32_t v = below(hubs - 2);
+        for (uint32_t k = 0; k < 3; k++) list.edges[list.listed++] = (v + k) * width + below(width);
+        list.lengths[list.paths++] = 3;
+    }
+}
+
+/* A row of nodes joined by two edges each; paths of `length` edges, mostly along the first ones. */
+static void long_paths(uint32_t nodes, size_t paths, size_t length)
+{
+    d.n = nodes;
+    d.m = 0;
+    for (uint32_t v = 0; v + 1 < nodes; v++)
+        for (uint32_t k = 0; k < 2; k++) add_edge(&d, v, v + 1);
+    list.paths = list.listed = 0;
+    while (list.paths < paths) {
+        uint32_t v = length < nodes - 1 ? below((uint32_t)(nodes - length)) : 0;
+        for (uint32_t k = 0; k < length; k++) list.edges[list.listed++] = 2 * (v + k) + (below(200) == 0);
+        list.lengths[list.paths++] = (uint32_t)length;
+    }
+}
+
+static void on_design(const char *name)
+{
+    words[0] = words_needed(&d, &list, NULL);
+    measure(name, do_design);
+}
+
+static void on_deck(const char *name)
+{
+    deck_length = pack_deck(deck, &d, &list);
+    measure(name, do_deck);
+}
+
+static void make_earlier(void)
+{
+    if (remove_list(&REFERENCE, &list, NULL, &earlier, words_needed(&d, &list, NULL)) < 0) {
+        printf("the earlier graph was refused\n");
+        exit(1);
+    }
+}
+
+static void deck_sizes(void)
+{
+    hub(2, 2, 1);
+    on_deck("deck of 4 edges");
+    random_design(&d, 60, 150, 10);
+    random_paths(&list, &d, 20, 4);
+    on_deck("deck of 150 edges, 20 paths");
+    random_design(&d, 150, 450, 12);
+    random_paths(&list, &d, 40, 5);
+    on_deck("deck of 450 edges, 40 paths");
+    d.n = 2;
+    d.m = list.paths = list.listed = 0;
+    while (d.m < 1000) add_edge(&d, 0, 1);
+    on_deck("deck of 1,000 parallel edges, no path");
+}
+
+static void full_limits(void)
+{
+    random_design(&d, 4096, 16384, 64);
+    random_paths(&list, &d, 0, 8);
+    on_design("4,096 nodes, 16,384 edges, no path");
+    random_paths(&list, &d, 1024, 8);
+    on_design("the same, 1,024 paths of 8");
+    make_earlier();
+    measure("times of that graph", do_times);
+    random_design(&d, 4096, 16384, 4000);
+    random_paths(&list, &d, 1024, 8);
+    on_design("full limits, edges of any span");
+}
+
+static void hubs(void)
+{
+    hub(1820, 51, 35);
+    on_design("hub: 1,820 edges in, 51 out, 35 paths");
+    hub(60, 1100, 1024);
+    on_design("hub: 60 edges in, 1,100 out, 1,024 paths");
+    hub(8000, 1024, 1024);
+    on_design("hub: 8,000 edges in, 1,024 paths (34)");
+    row_of_hubs(200, 20, 1000);
+    on_design("200 hubs of 20 edges, 1,000 paths of 3");
+    row_of_hubs(16, 100, 300);
+    on_design("16 hubs of 100 edges, 300 paths of 3");
+}
+
+static void long_ones(void)
+{
+    long_paths(4096, 2, 4095);
+    on_design("4,096 in a row, 2 paths of 4,095");
+    long_paths(4096, 8, 1024);
+    on_design("4,096 in a row, 8 paths of 1,024");
+    long_paths(1025, 8, 1024);
+    on_design("1,025 in a row, 8 paths of 1,024");
+    long_paths(4096, 128, 64);
+    on_design("4,096 in a row, 128 paths of 64");
+}
+
+static void from_earlier(void)
+{
+    random_design(&d, 4096, 16000, 64);
+    random_paths(&list, &d, 880, 8);
+    make_earlier();
+    char name[80];
+    snprintf(name, sizeof name, "earlier graph of %zu copies, ", earlier.copies);
+    size_t end = strlen(name);
+    for (size_t paths = 0; paths <= 512; paths = paths ? 8 * paths : 8) {
+        snprintf(name + end, sizeof name - end, "%zu paths of 4", paths);
+        random_paths(&list, &d, paths, 4);
+        words[0] = words_needed(&d, &list, &earlier);
+        measure(name, do_graph);
+    }
+    measure("times of that graph", do_times);
+}
+
+static void series(void)
+{
+    random_design(&d, 4096, 12000, 64);
+    for (size_t k = 0; k < SERIES; k++) {
+        random_paths(&lists[k], &d, 32, 8);
+        words[k] = words_needed(&d, &lists[k], k ? &rooms[0][(k - 1) % 2] : NULL);
+        if (remove_list(&REFERENCE, &lists[k], k ? &rooms[0][(k - 1) % 2] : NULL, &rooms[0][k % 2], words[k]) < 0) exit(1);
+    }
+    measure("series of 32 removals, 32 paths of 8 each", do_series);
+}
+
+static void growth(void)
+{
+    double before = 0;
+    random_design(&d, 4096, 16384, 64);
+    printf("\nThe list doubles (4,096 nodes, 16,384 edges, paths of 8):\n");
+    for (size_t paths = 16; paths <= 1024; paths *= 2) {
+        char name[80];
+        random_paths(&list, &d, paths, 8);
+        words[0] = words_needed(&d, &list, NULL);
+        snprintf(name, sizeof name, "%zu paths", paths);
+        double seconds = measure(name, do_design);
+        if (before > 0) printf("%-44s cost grows by %.2f\n", "", seconds / before);
+        before = seconds;
+    }
+    before = 0;
+    printf("\nThe list doubles at one hub (60 edges in, 1,100 out):\n");
+    for (uint32_t paths = 16; paths <= 1024; paths *= 2) {
+        char name[80];
+        hub(60, 1100, paths);
+        words[0] = words_needed(&d, &list, NULL);
+        snprintf(name, sizeof name, "%u paths", paths);
+        double seconds = measure(name, do_design);
+        if (before > 0) printf("%-44s cost grows by %.2f\n", "", seconds / before);
+        before = seconds;
+    }
+}
+
+int main(void)
+{
+    scratch = calloc(MOST_WORDS, sizeof *scratch);
+    if (scratch == NULL) return 1;
+    printf("%-44s %-28s %11s %11s %7s\n", "work", "result", "C, us", "library, us", "ratio");
+    deck_sizes();
+    full_limits();
+    hubs();
+    long_ones();
+    from_earlier();
+    series();
+    growth();
+    printf("\nlargest ratio %.2f (* marks those above 1.25); slowest call %.1f ms\n", worst_ratio, 1e3 * slowest);
+    free(scratch);
+    return differ;
+}

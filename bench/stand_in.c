@@ -1,0 +1,97 @@
+/* The calls of jaqhweni.h by the reference program: stands in for libjaqhweni.a where a test or the benchmark is itself tried. FAULT, if
+ * defined, is a number that puts an error in on purpose (tests/against_walker.py --try-faults). */
+#include "../include/jaqhweni.h"
+#include "reference.h"
+
+#include <string.h>
+
+#ifndef FAULT
+#define FAULT 0
+#endif
+
+#define DESIGN_SLICES n, starts, starts_length, ends, ends_length, delays, delays_length
+#define LIST_SLICES listed, listed_length, lengths, lengths_length
+#define OLD_SLICES old_nodes, old_nodes_length, old_from, old_from_length, old_to, old_to_length, old_via, old_via_length
+#define GRAPH_SLICES nodes, nodes_length, from, from_length, to, to_length, via, via_length
+
+int64_t jaqhweni_true_graph(const uint8_t *deck, size_t deck_length, uint8_t *room, size_t room_length)
+{
+    int64_t made = reference_true_graph(deck, deck_length, room, room_length);
+    if (FAULT == 1 && made < 0 && room_length > 0) room[0] = 0;                             /* writes on a refusal */
+    if (FAULT == 2 && made > 0 && (size_t)made < room_length) room[made] ^= 1;             /* writes past the result */
+    if (FAULT == 3 && made == -(3 + 256 * 19)) return -3;                                   /* loses a place */
+    return made;
+}
+
+int64_t jaqhweni_remove_from_design(
+    uint32_t n,
+    const uint32_t *starts, size_t starts_length,
+    const uint32_t *ends, size_t ends_length,
+    const int32_t *delays, size_t delays_length,
+    const uint32_t *listed, size_t listed_length,
+    const uint32_t *lengths, size_t lengths_length,
+    uint32_t *nodes, size_t nodes_length,
+    uint32_t *from, size_t from_length,
+    uint32_t *to, size_t to_length,
+    uint32_t *via, size_t via_length,
+    uint32_t *scratch, size_t scratch_length)
+{
+    int64_t made = reference_remove_from_design(DESIGN_SLICES, LIST_SLICES, GRAPH_SLICES, scratch, scratch_length);
+    if (FAULT == 4 && made == -31) memset(scratch, 0, scratch_length * sizeof *scratch);    /* clears where it must not */
+    if (FAULT == 5 && made >> 32 > 2) {                                                     /* two edges out of order */
+        size_t last = (size_t)(made >> 32) - 1;
+        uint32_t name = via[last];
+        via[last] = via[last - 1];
+        via[last - 1] = name;
+    }
+    if (FAULT == 6 && made == -34) return -33;
+    if (FAULT == 7 && made > 0 && nodes_length > 0) nodes[nodes_length] = 0;                /* one place past the room */
+    return made;
+}
+
+int64_t jaqhweni_remove_from_graph(
+    uint32_t n,
+    const uint32_t *starts, size_t starts_length,
+    const uint32_t *ends, size_t ends_length,
+    const int32_t *delays, size_t delays_length,
+    const uint32_t *listed, size_t listed_length,
+    const uint32_t *lengths, size_t lengths_length,
+    const uint32_t *old_nodes, size_t old_nodes_length,
+    const uint32_t *old_from, size_t old_from_length,
+    const uint32_t *old_to, size_t old_to_length,
+    const uint32_t *old_via, size_t old_via_length,
+    uint32_t *nodes, size_t nodes_length,
+    uint32_t *from, size_t from_length,
+    uint32_t *to, size_t to_length,
+    uint32_t *via, size_t via_length,
+    uint32_t *scratch, size_t scratch_length)
+{
+    if (FAULT == 8 && listed_length > 0)                                                    /* cuts on nothing but the first edge's path */
+        return reference_remove_from_graph(DESIGN_SLICES, listed, lengths[0], lengths, 1, OLD_SLICES, GRAPH_SLICES, scratch, scratch_length);
+    int64_t made = reference_remove_from_graph(DESIGN_SLICES, LIST_SLICES, OLD_SLICES, GRAPH_SLICES, scratch, scratch_length);
+    if (FAULT == 9 && made > 0 && scratch_length > 0) scratch[scratch_length - 1] = 1;      /* leaves a word */
+    if (FAULT == 10 && made > 0 && old_nodes_length > 0) ((uint32_t *)(uintptr_t)old_nodes)[0]++;   /* writes what is only lent to read */
+    return made;
+}
+
+int64_t jaqhweni_times(
+    uint32_t n,
+    const uint32_t *starts, size_t starts_length,
+    const uint32_t *ends, size_t ends_length,
+    const int32_t *delays, size_t delays_length,
+    uint32_t allowed_time,
+    const uint32_t *nodes, size_t nodes_length,
+    const uint32_t *from, size_t from_length,
+    const uint32_t *to, size_t to_length,
+    const uint32_t *via, size_t via_length,
+    int64_t *arrival, size_t arrival_length,
+    int64_t *required, size_t required_length,
+    int64_t *slack, size_t slack_length)
+{
+    int64_t made = reference_times(DESIGN_SLICES, allowed_time, GRAPH_SLICES, arrival, arrival_length, required, required_length,
+                                   slack, slack_length);
+    if (FAULT == 11 && made == 0)                                                           /* the largest arrival starts from 0 */
+        for (size_t c = 0; c < nodes_length; c++)
+            if (arrival[c] < 0) arrival[c] = 0;
+    return made;
+}

@@ -1,0 +1,70 @@
+use native.Mathlib.Omega.{arith}
+use lib.ListN.{length-take}
+use borrow.Author.Needs.{needs}
+use Rattle.bytes_cases.proofs.decks.read_back.Statement.{statement}
+use Rattle.bytes_cases.proofs.decks.read_back.Tie as tie
+
+least-requires : tie.Need-least-requires
+least-requires c κs = search needs
+
+least-requires-2 : tie.Need-least-requires-2
+least-requires-2 c κs = search needs
+
+least-requires-3 : tie.Need-least-requires-3
+least-requires-3 c κs = search needs
+
+array-borrow-prefix-starts : tie.Need-array-borrow-prefix-starts
+array-borrow-prefix-starts c = search needs
+
+slice-aggregate-read : tie.Need-slice-aggregate-read
+slice-aggregate-read c = simp length-take (omega arith)
+
+array-borrow-prefix-ends : tie.Need-array-borrow-prefix-ends
+array-borrow-prefix-ends c = search needs
+
+slice-aggregate-read-2 : tie.Need-slice-aggregate-read-2
+slice-aggregate-read-2 c = simp length-take (omega arith)
+
+array-borrow-prefix-delays : tie.Need-array-borrow-prefix-delays
+array-borrow-prefix-delays c = search needs
+
+slice-aggregate-read-3 : tie.Need-slice-aggregate-read-3
+slice-aggregate-read-3 c = simp length-take (omega arith)
+
+array-borrow-prefix-listed : tie.Need-array-borrow-prefix-listed
+array-borrow-prefix-listed c = search needs
+
+slice-aggregate-read-4 : tie.Need-slice-aggregate-read-4
+slice-aggregate-read-4 c = simp length-take (omega arith)
+
+array-borrow-prefix-lengths : tie.Need-array-borrow-prefix-lengths
+array-borrow-prefix-lengths c = search needs
+
+slice-aggregate-read-5 : tie.Need-slice-aggregate-read-5
+slice-aggregate-read-5 c = simp length-take (omega arith)
+
+read-requires : tie.Need-read-requires
+read-requires c κs = search needs
+
+returns : tie.Need-returns
+returns c = search needs
+
+pub read-back-spec : {M : Type 1} → statement M
+read-back-spec =
+    tie.close
+    (tie.spec
+    least-requires
+    least-requires-2
+    least-requires-3
+    array-borrow-prefix-starts
+    slice-aggregate-read
+    array-borrow-prefix-ends
+    slice-aggregate-read-2
+    array-borrow-prefix-delays
+    slice-aggregate-read-3
+    array-borrow-prefix-listed
+    slice-aggregate-read-4
+    array-borrow-prefix-lengths
+    slice-aggregate-read-5
+    read-requires
+    returns)

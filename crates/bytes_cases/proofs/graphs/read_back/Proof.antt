@@ -1,0 +1,58 @@
+use native.Mathlib.Omega.{arith}
+use lib.ListN.{length-take}
+use borrow.Author.Needs.{needs}
+use Rattle.bytes_cases.proofs.graphs.read_back.Statement.{statement}
+use Rattle.bytes_cases.proofs.graphs.read_back.Tie as tie
+
+least-requires : tie.Need-least-requires
+least-requires c κs = search needs
+
+least-requires-2 : tie.Need-least-requires-2
+least-requires-2 c κs = search needs
+
+array-borrow-prefix-nodes : tie.Need-array-borrow-prefix-nodes
+array-borrow-prefix-nodes c = search needs
+
+slice-aggregate-read : tie.Need-slice-aggregate-read
+slice-aggregate-read c = simp length-take (omega arith)
+
+array-borrow-prefix-gs : tie.Need-array-borrow-prefix-gs
+array-borrow-prefix-gs c = search needs
+
+slice-aggregate-read-2 : tie.Need-slice-aggregate-read-2
+slice-aggregate-read-2 c = simp length-take (omega arith)
+
+array-borrow-prefix-ge : tie.Need-array-borrow-prefix-ge
+array-borrow-prefix-ge c = search needs
+
+slice-aggregate-read-3 : tie.Need-slice-aggregate-read-3
+slice-aggregate-read-3 c = simp length-take (omega arith)
+
+array-borrow-prefix-gn : tie.Need-array-borrow-prefix-gn
+array-borrow-prefix-gn c = search needs
+
+slice-aggregate-read-4 : tie.Need-slice-aggregate-read-4
+slice-aggregate-read-4 c = simp length-take (omega arith)
+
+read-requires : tie.Need-read-requires
+read-requires c κs = search needs
+
+returns : tie.Need-returns
+returns c = search needs
+
+pub read-back-spec : {M : Type 1} → statement M
+read-back-spec =
+    tie.close
+    (tie.spec
+    least-requires
+    least-requires-2
+    array-borrow-prefix-nodes
+    slice-aggregate-read
+    array-borrow-prefix-gs
+    slice-aggregate-read-2
+    array-borrow-prefix-ge
+    slice-aggregate-read-3
+    array-borrow-prefix-gn
+    slice-aggregate-read-4
+    read-requires
+    returns)

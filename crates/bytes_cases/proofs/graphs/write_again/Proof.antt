@@ -1,0 +1,25 @@
+use native.Mathlib.Omega.{arith}
+use lib.ListN.{length-take}
+use borrow.Author.Needs.{needs}
+use Rattle.bytes_cases.proofs.graphs.write_again.Statement.{statement}
+use Rattle.bytes_cases.proofs.graphs.write_again.Tie as tie
+
+least-requires : tie.Need-least-requires
+least-requires c κs = search needs
+
+array-borrow-prefix-room : tie.Need-array-borrow-prefix-room
+array-borrow-prefix-room c = search needs
+
+slice-aggregate-write : tie.Need-slice-aggregate-write
+slice-aggregate-write c = simp length-take (omega arith)
+
+write-requires : tie.Need-write-requires
+write-requires c κs = search needs
+
+returns : tie.Need-returns
+returns c = search needs
+
+pub write-again-spec : {M : Type 1} → statement M
+write-again-spec =
+    tie.close
+    (tie.spec least-requires array-borrow-prefix-room slice-aggregate-write write-requires returns)

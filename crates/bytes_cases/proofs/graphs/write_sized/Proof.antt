@@ -1,0 +1,30 @@
+use native.Mathlib.Omega.{arith}
+use lib.ListN.{length-take}
+use borrow.Author.Needs.{needs}
+use Rattle.bytes_cases.proofs.graphs.write_sized.Statement.{statement}
+use Rattle.bytes_cases.proofs.graphs.write_sized.Tie as tie
+
+least-requires : tie.Need-least-requires
+least-requires c κs = search needs
+
+array-borrow-prefix-room : tie.Need-array-borrow-prefix-room
+array-borrow-prefix-room c = search needs
+
+slice-aggregate-write-and-read : tie.Need-slice-aggregate-write-and-read
+slice-aggregate-write-and-read c = simp length-take (omega arith)
+
+write-and-read-requires : tie.Need-write-and-read-requires
+write-and-read-requires c κs = search needs
+
+returns : tie.Need-returns
+returns c = search needs
+
+pub write-sized-spec : {M : Type 1} → statement M
+write-sized-spec =
+    tie.close
+    (tie.spec
+    least-requires
+    array-borrow-prefix-room
+    slice-aggregate-write-and-read
+    write-and-read-requires
+    returns)

@@ -1,0 +1,198 @@
+// Graphs: read into a room, and written to one.
+use super::say;
+use cases::fill;
+use cases::least;
+use packed::take_number;
+use print::refused;
+use print::text;
+use timing::GraphMade;
+use timing::Written;
+
+// How much of the room a graph fills; nothing after a refusal.
+struct Counts {
+    copies: usize,
+    edges: usize,
+}
+
+fn say_answer(answer: GraphMade) -> Counts {
+    match answer {
+        GraphMade::Counts { copies, edges } => {
+            text(b"graph ");
+            print::number(copies as u64);
+            text(b" ");
+            print::number(edges as u64);
+            Counts { copies, edges }
+        }
+        GraphMade::Refused(r) => {
+            refused(r);
+            Counts {
+                copies: 0,
+                edges: 0,
+            }
+        }
+    }
+}
+
+fn say_graph(c: Counts, nodes: &[u32], gs: &[u32], ge: &[u32], gn: &[u32]) {
+    let k = say::three_kept(gs, ge, gn, c.edges);
+    let k = say::words_kept(k, nodes, c.copies);
+    say::table(nodes, c.copies);
+    say::table(gs, c.edges);
+    say::table(ge, c.edges);
+    say::table(gn, c.edges);
+    say::kept(k);
+}
+
+fn read(s: &[u8], nodes: &mut [u32], gs: &mut [u32], ge: &mut [u32], gn: &mut [u32]) -> GraphMade {
+    let r = graph::read_graph(s, nodes, gs, ge, gn);
+    let c = say_answer(r);
+    say_graph(c, nodes, gs, ge, gn);
+    r
+}
+
+// Writes a graph, and prints the answer.
+fn write(nodes: &[u32], gs: &[u32], ge: &[u32], gn: &[u32], room: &mut [u8]) -> Written {
+    let w = graph::write_graph(nodes, gs, ge, gn, room);
+    text(b"write ");
+    say::written(w, room);
+    w
+}
+
+// Writes what was read to a room as long as the bytes that were read.
+fn write_again(nodes: &[u32], gs: &[u32], ge: &[u32], gn: &[u32], size: usize) {
+    let mut room = [say::BYTE; 65536];
+    let len = least(size, 65536);
+    write(nodes, gs, ge, gn, &mut room[..len]);
+}
+
+fn write_answer(r: GraphMade, nodes: &[u32], gs: &[u32], ge: &[u32], gn: &[u32], size: usize) {
+    match r {
+        GraphMade::Counts { copies, edges } => {
+            let a = least(copies, nodes.len());
+            let b = least(edges, gs.len());
+            let c = least(edges, ge.len());
+            let d = least(edges, gn.len());
+            write_again(&nodes[..a], &gs[..b], &ge[..c], &gn[..d], size);
+        }
+        GraphMade::Refused(_) => {}
+    }
+}
+
+// Reads, and writes what was read.
+fn read_and_write(s: &[u8], nodes: &mut [u32], gs: &mut [u32], ge: &mut [u32], gn: &mut [u32]) {
+    let r = read(s, nodes, gs, ge, gn);
+    write_answer(r, nodes, gs, ge, gn, s.len());
+}
+
+// The lengths of the room's slices, how many bytes there are, and the place of the first.
+struct Sizes {
+    nodes: u32,
+    gs: u32,
+    ge: u32,
+    gn: u32,
+    bytes: u32,
+    next: usize,
+}
+
+fn read_sizes(s: &[u8], at: usize) -> Sizes {
+    let a = take_number(s, at);
+    let b = take_number(s, a.next);
+    let c = take_number(s, b.next);
+    let d = take_number(s, c.next);
+    let e = take_number(s, d.next);
+    Sizes {
+        nodes: a.value,
+        gs: b.value,
+        ge: c.value,
+        gn: d.value,
+        bytes: e.value,
+        next: e.next,
+    }
+}
+
+fn read_sized(s: &[u8], q: Sizes) {
+    let mut nodes = [say::WORD; 16400];
+    let mut gs = [say::WORD; 65600];
+    let mut ge = [say::WORD; 65600];
+    let mut gn = [say::WORD; 65600];
+    let a = least(q.nodes as usize, 16400);
+    let b = least(q.gs as usize, 65600);
+    let c = least(q.ge as usize, 65600);
+    let d = least(q.gn as usize, 65600);
+    read_and_write(s, &mut nodes[..a], &mut gs[..b], &mut ge[..c], &mut gn[..d]);
+}
+
+pub(crate) fn read_case(s: &[u8], at: usize) -> usize {
+    let q = read_sizes(s, at);
+    let from = least(q.next, s.len());
+    let len = least(q.bytes as usize, s.len() - from);
+    let to = from + len;
+    read_sized(&s[from..to], q);
+    to
+}
+
+// Reads what was written, into a room as long as the graph.
+fn read_back(s: &[u8], copies: usize, edges: usize) {
+    let mut nodes = [say::WORD; 16400];
+    let mut gs = [say::WORD; 65600];
+    let mut ge = [say::WORD; 65600];
+    let mut gn = [say::WORD; 65600];
+    let a = least(copies, 16400);
+    let m = least(edges, 65600);
+    read(s, &mut nodes[..a], &mut gs[..m], &mut ge[..m], &mut gn[..m]);
+}
+
+fn write_and_read(nodes: &[u32], gs: &[u32], ge: &[u32], gn: &[u32], room: &mut [u8]) {
+    let w = write(nodes, gs, ge, gn, room);
+    match w {
+        Written::End(end) => {
+            let len = least(end, room.len());
+            read_back(&room[..len], nodes.len(), gs.len());
+        }
+        Written::Refused(_) => {}
+    }
+}
+
+fn write_sized(size: u32, nodes: &[u32], gs: &[u32], ge: &[u32], gn: &[u32]) {
+    let mut room = [say::BYTE; 393216];
+    let len = least(size as usize, 393216);
+    write_and_read(nodes, gs, ge, gn, &mut room[..len]);
+}
+
+// The same, of the fronts of the slices.
+fn write_fronts(
+    size: u32,
+    nodes: &[u32],
+    copies: usize,
+    gs: &[u32],
+    starts: usize,
+    ge: &[u32],
+    ends: usize,
+    gn: &[u32],
+    names: usize,
+) {
+    let a = least(copies, nodes.len());
+    let b = least(starts, gs.len());
+    let c = least(ends, ge.len());
+    let d = least(names, gn.len());
+    write_sized(size, &nodes[..a], &gs[..b], &ge[..c], &gn[..d]);
+}
+
+// Writes the graph at a place to a room of a size, and answers the place behind the graph.
+fn write_at(s: &[u8], at: usize, size: u32) -> usize {
+    let mut nodes = [0u32; 16400];
+    let mut gs = [0u32; 65600];
+    let mut ge = [0u32; 65600];
+    let mut gn = [0u32; 65600];
+    let a = fill(s, at, &mut nodes);
+    let b = fill(s, a.next, &mut gs);
+    let c = fill(s, b.next, &mut ge);
+    let d = fill(s, c.next, &mut gn);
+    write_fronts(size, &nodes, a.len, &gs, b.len, &ge, c.len, &gn, d.len);
+    d.next
+}
+
+pub(crate) fn write_case(s: &[u8], at: usize) -> usize {
+    let r = take_number(s, at);
+    write_at(s, r.next, r.value)
+}

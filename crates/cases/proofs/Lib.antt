@@ -1,0 +1,2 @@
+-- Laws of the slices of a case.
+pub mod Slices

@@ -1,0 +1,102 @@
+use native.Mathlib.Omega.{arith}
+use lib.ListN.{length-take}
+use borrow.Author.Needs.{needs}
+use Rattle.removal_cases.proofs.remove.lend.Statement.{statement}
+use Rattle.removal_cases.proofs.remove.lend.Tie as tie
+
+slice-aggregate-set-pattern : tie.Need-slice-aggregate-set-pattern
+slice-aggregate-set-pattern c = search needs
+
+set-pattern-requires : tie.Need-set-pattern-requires
+set-pattern-requires c κs = search needs
+
+slice-aggregate-set-pattern-2 : tie.Need-slice-aggregate-set-pattern-2
+slice-aggregate-set-pattern-2 c = search needs
+
+set-pattern-requires-2 : tie.Need-set-pattern-requires-2
+set-pattern-requires-2 c κs = search needs
+
+slice-aggregate-set-pattern-3 : tie.Need-slice-aggregate-set-pattern-3
+slice-aggregate-set-pattern-3 c = search needs
+
+set-pattern-requires-3 : tie.Need-set-pattern-requires-3
+set-pattern-requires-3 c κs = search needs
+
+slice-aggregate-set-pattern-4 : tie.Need-slice-aggregate-set-pattern-4
+slice-aggregate-set-pattern-4 c = search needs
+
+set-pattern-requires-4 : tie.Need-set-pattern-requires-4
+set-pattern-requires-4 c κs = search needs
+
+slice-aggregate-set-pattern-5 : tie.Need-slice-aggregate-set-pattern-5
+slice-aggregate-set-pattern-5 c = search needs
+
+set-pattern-requires-5 : tie.Need-set-pattern-requires-5
+set-pattern-requires-5 c κs = search needs
+
+array-borrow-prefix-nodes : tie.Need-array-borrow-prefix-nodes
+array-borrow-prefix-nodes c = c .before .before .before .before .before .before .before .before .before .before .before .before .before .before .set-pattern .ensures
+
+slice-aggregate-remove-and-finish : tie.Need-slice-aggregate-remove-and-finish
+slice-aggregate-remove-and-finish c = simp length-take (omega (arith, c .before .before .before .before .before .before .before .before .before .before .before .before .before .before .before .set-pattern .ensures))
+
+array-borrow-prefix-from : tie.Need-array-borrow-prefix-from
+array-borrow-prefix-from c = c .before .before .before .before .before .before .before .before .before .before .before .before .set-pattern2 .ensures
+
+slice-aggregate-remove-and-finish-2 : tie.Need-slice-aggregate-remove-and-finish-2
+slice-aggregate-remove-and-finish-2 c = simp length-take (omega (arith, c .before .before .before .before .before .before .before .before .before .before .before .before .before .set-pattern2 .ensures))
+
+array-borrow-prefix-to : tie.Need-array-borrow-prefix-to
+array-borrow-prefix-to c = c .before .before .before .before .before .before .before .before .before .before .set-pattern3 .ensures
+
+slice-aggregate-remove-and-finish-3 : tie.Need-slice-aggregate-remove-and-finish-3
+slice-aggregate-remove-and-finish-3 c = simp length-take (omega (arith, c .before .before .before .before .before .before .before .before .before .before .before .set-pattern3 .ensures))
+
+array-borrow-prefix-via : tie.Need-array-borrow-prefix-via
+array-borrow-prefix-via c = c .before .before .before .before .before .before .before .before .set-pattern4 .ensures
+
+slice-aggregate-remove-and-finish-4 : tie.Need-slice-aggregate-remove-and-finish-4
+slice-aggregate-remove-and-finish-4 c = simp length-take (omega (arith, c .before .before .before .before .before .before .before .before .before .set-pattern4 .ensures))
+
+array-borrow-prefix-scratch : tie.Need-array-borrow-prefix-scratch
+array-borrow-prefix-scratch c = c .before .before .before .before .before .before .set-pattern5 .ensures
+
+slice-aggregate-remove-and-finish-5 : tie.Need-slice-aggregate-remove-and-finish-5
+slice-aggregate-remove-and-finish-5 c = simp length-take (omega (arith, c .before .before .before .before .before .before .before .set-pattern5 .ensures))
+
+remove-and-finish-requires : tie.Need-remove-and-finish-requires
+remove-and-finish-requires c κs = search needs
+
+same-length : tie.Need-same-length
+same-length c = search needs
+
+returns : tie.Need-returns
+returns c = search needs
+
+pub lend-spec : {M : Type 1} → statement M
+lend-spec =
+    tie.close
+    (tie.spec
+    slice-aggregate-set-pattern
+    set-pattern-requires
+    slice-aggregate-set-pattern-2
+    set-pattern-requires-2
+    slice-aggregate-set-pattern-3
+    set-pattern-requires-3
+    slice-aggregate-set-pattern-4
+    set-pattern-requires-4
+    slice-aggregate-set-pattern-5
+    set-pattern-requires-5
+    array-borrow-prefix-nodes
+    slice-aggregate-remove-and-finish
+    array-borrow-prefix-from
+    slice-aggregate-remove-and-finish-2
+    array-borrow-prefix-to
+    slice-aggregate-remove-and-finish-3
+    array-borrow-prefix-via
+    slice-aggregate-remove-and-finish-4
+    array-borrow-prefix-scratch
+    slice-aggregate-remove-and-finish-5
+    remove-and-finish-requires
+    same-length
+    returns)

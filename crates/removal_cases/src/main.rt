@@ -1,0 +1,93 @@
+// Runs series of removals from standard input, and prints each answer, the graph if it is small, and
+// a sum over each lent slice afterwards. tests/removal_cases.py says what the input and the output are.
+mod output;
+mod remove;
+mod tables;
+
+use libc::STDIN_FILENO;
+use packed::take_number;
+use remove::lend;
+use remove::read_sizes;
+use tables::Design;
+use tables::Held;
+use tables::Step;
+use tables::WORDS;
+use tables::hold_given;
+use tables::nothing;
+use tables::read_design;
+use tables::read_list;
+
+// What a removal works on: 0 the design, 1 what is held, 2 the graph at a place.
+fn hold(choice: u32, s: &[u8], at: usize, held: Held, words: &mut [u32]) -> Step {
+    if choice == 0 {
+        return Step {
+            held: nothing(),
+            next: at,
+        };
+    }
+    if choice == 1 {
+        return Step { held, next: at };
+    }
+    hold_given(s, at, words)
+}
+
+// Runs the removal at a place.
+fn run_removal(s: &[u8], before: Step, d: Design, words: &mut [u32]) -> Step {
+    let choice = take_number(s, before.next);
+    let start = hold(choice.value, s, choice.next, before.held, words);
+    let l = read_list(s, start.next, words);
+    let sizes = read_sizes(s, l.next);
+    let held = lend(words, d, l, start.held, sizes);
+    Step {
+        held,
+        next: sizes.next,
+    }
+}
+
+// Runs the removals of a series, and answers the place behind them.
+fn run_removals(s: &[u8], at: usize, d: Design, words: &mut [u32]) -> usize {
+    let count = take_number(s, at);
+    let mut step = Step {
+        held: nothing(),
+        next: count.next,
+    };
+    let mut left = count.value;
+    while 0 < left {
+        step = run_removal(s, step, d, words);
+        left -= 1;
+    }
+    step.next
+}
+
+// Runs the series at a place, and answers the place behind it.
+fn run_series(s: &[u8], at: usize) -> usize {
+    let mut words = [0u32; WORDS];
+    let d = read_design(s, at, &mut words);
+    run_removals(s, d.next, d, &mut words)
+}
+
+// Runs the series of a block.
+fn run(s: &[u8]) {
+    let count = take_number(s, 0);
+    let mut at = count.next;
+    let mut left = count.value;
+    while 0 < left {
+        at = run_series(s, at);
+        left -= 1;
+    }
+}
+
+// Reads a block and runs it; none where the input has ended.
+fn run_block() {
+    let mut input = io::large_buffer();
+    let len = io::read_full(STDIN_FILENO, &mut input);
+    run(&input[..len]);
+}
+
+fn main() {
+    let mut block: u32 = 0;
+    while block < 8 {
+        run_block();
+        block += 1;
+    }
+}

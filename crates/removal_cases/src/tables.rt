@@ -1,0 +1,182 @@
+// All that a series reads and holds stands in one slice of words, in parts: so a function takes one
+// slice where it would take nine. A part has a place in the slice, and room for the longest that is
+// read into it.
+use cases::Slice;
+use cases::fill;
+use cases::least;
+use packed::take_number;
+use timing::GraphMade;
+
+pub const WORDS: usize = 271640;
+
+pub const STARTS: usize = 0;
+
+pub const ENDS: usize = 16400;
+
+pub const CODES: usize = 32800;
+
+pub const LISTED: usize = 49200;
+
+pub const LENGTHS: usize = 57400;
+
+pub const NODES: usize = 58440;
+
+pub const FROM: usize = 74840;
+
+pub const TO: usize = 140440;
+
+pub const VIA: usize = 206040;
+
+const EDGE_ROOM: usize = 16400;
+
+const LISTED_ROOM: usize = 8200;
+
+const PATH_ROOM: usize = 1040;
+
+const COPY_ROOM: usize = 16400;
+
+const COPY_EDGE_ROOM: usize = 65600;
+
+// n and the lengths of a design's slices, and the place behind them.
+pub struct Design {
+    pub nodes: u32,
+    pub starts: usize,
+    pub ends: usize,
+    pub codes: usize,
+    pub next: usize,
+}
+
+// The lengths of a list's slices, and the place behind them.
+pub struct List {
+    pub listed: usize,
+    pub lengths: usize,
+    pub next: usize,
+}
+
+// Whether a graph is held, and the lengths of its slices.
+pub struct Held {
+    pub any: bool,
+    pub nodes: usize,
+    pub from: usize,
+    pub to: usize,
+    pub via: usize,
+}
+
+// What is held after a part of the input, and the place behind that part.
+pub struct Step {
+    pub held: Held,
+    pub next: usize,
+}
+
+// The words from a place on, or none where there are not so many.
+pub fn part<'a>(words: &'a [u32], place: usize, len: usize) -> &'a [u32] {
+    if place <= words.len() {
+        if len <= words.len() - place {
+            return &words[place..place + len];
+        }
+    }
+    &words[..0]
+}
+
+// Reads a slice to the words from a place on.
+fn fill_part(s: &[u8], at: usize, words: &mut [u32], place: usize, room: usize) -> Slice {
+    if place <= words.len() {
+        if room <= words.len() - place {
+            return fill(s, at, &mut words[place..place + room]);
+        }
+    }
+    Slice { len: 0, next: at }
+}
+
+pub fn read_design(s: &[u8], at: usize, words: &mut [u32]) -> Design {
+    let n = take_number(s, at);
+    let a = fill_part(s, n.next, words, STARTS, EDGE_ROOM);
+    let b = fill_part(s, a.next, words, ENDS, EDGE_ROOM);
+    let c = fill_part(s, b.next, words, CODES, EDGE_ROOM);
+    Design {
+        nodes: n.value,
+        starts: a.len,
+        ends: b.len,
+        codes: c.len,
+        next: c.next,
+    }
+}
+
+pub fn read_list(s: &[u8], at: usize, words: &mut [u32]) -> List {
+    let a = fill_part(s, at, words, LISTED, LISTED_ROOM);
+    let b = fill_part(s, a.next, words, LENGTHS, PATH_ROOM);
+    List {
+        listed: a.len,
+        lengths: b.len,
+        next: b.next,
+    }
+}
+
+pub fn nothing() -> Held {
+    Held {
+        any: false,
+        nodes: 0,
+        from: 0,
+        to: 0,
+        via: 0,
+    }
+}
+
+// The graph at a place becomes the graph held.
+pub fn hold_given(s: &[u8], at: usize, words: &mut [u32]) -> Step {
+    let a = fill_part(s, at, words, NODES, COPY_ROOM);
+    let b = fill_part(s, a.next, words, FROM, COPY_EDGE_ROOM);
+    let c = fill_part(s, b.next, words, TO, COPY_EDGE_ROOM);
+    let d = fill_part(s, c.next, words, VIA, COPY_EDGE_ROOM);
+    let held = Held {
+        any: true,
+        nodes: a.len,
+        from: b.len,
+        to: c.len,
+        via: d.len,
+    };
+    Step { held, next: d.next }
+}
+
+fn copy(count: usize, source: &[u32], target: &mut [u32]) {
+    let len = least(count, least(source.len(), target.len()));
+    let mut k = 0;
+    while k < len {
+        target[k] = source[k];
+        k += 1;
+    }
+}
+
+fn copy_to(count: usize, source: &[u32], words: &mut [u32], place: usize) {
+    if place <= words.len() {
+        copy(count, source, &mut words[place..]);
+    }
+}
+
+// What is held after a removal: its result, or what was held before.
+pub fn keep(
+    made: GraphMade,
+    held: Held,
+    nodes: &[u32],
+    from: &[u32],
+    to: &[u32],
+    via: &[u32],
+    words: &mut [u32],
+) -> Held {
+    match made {
+        GraphMade::Counts { copies, edges } => {
+            copy_to(copies, nodes, words, NODES);
+            copy_to(edges, from, words, FROM);
+            copy_to(edges, to, words, TO);
+            copy_to(edges, via, words, VIA);
+            Held {
+                any: true,
+                nodes: copies,
+                from: edges,
+                to: edges,
+                via: edges,
+            }
+        }
+        GraphMade::Refused(_) => held,
+    }
+}

@@ -1,0 +1,227 @@
+-- The record of a node after a removal, over what the calls answer: a removal makes a graph, `times` fills the times of its
+-- copies, `node_record` looks at them. Each contract equates its call with a definition of `timing/specs/Calls`; here these
+-- definitions follow one another. Whatever a removal makes stands for the graph worked on and the list, and T4 holds of
+-- whatever stands.
+use Prim.Native.Nat.{ℕ, _<_, _≤_}
+use mathlib.Core.Path.{_≡_, refl, sym, ap, _∙_, subst}
+use mathlib.Core.Bool.{Bool, true, false, _&&_}
+use mathlib.Core.List.{List, map, List·Memᴰ}
+use mathlib.Core.Option.{none, some}
+use native.Mathlib.Omega.{arith}
+use lib.Dec.{T, eqb, leb, eqb-refl, le→leb}
+use lib.IntN.{ℤ, pos}
+use lib.ListN.{length, getD, take, drop, length-map}
+use lib.Seq.{take-append-seam}
+use Rattle.timing.specs.declared.Verdict.{Verdict}
+use Rattle.timing.specs.declared.Verdict.the-variants.{Passed}
+use Rattle.timing.specs.declared.NodeTimes.{NodeTimes}
+use Rattle.timing.specs.declared.NodeAnswer.{NodeAnswer}
+use Rattle.timing.specs.declared.NodeAnswer.the-variants.{Record}
+use Rattle.timing.specs.Lists.{placed, upto}
+use Rattle.timing.specs.Graphs.{Design, edgeDelay, Edge, Graph, designGraph}
+use Rattle.timing.specs.Marks.{pathsOf}
+use Rattle.timing.specs.TrueGraphs.{trueGraph}
+use Rattle.timing.specs.Times.{arrivalAt, requiredAt, slackAt, nodeTimes, nodeRecord}
+use Rattle.timing.specs.WellFormed.{wellFormed}
+use Rattle.timing.specs.Refusals.{unless}
+use Rattle.timing.specs.Tests.{sameSizes, nodeCount, designSizes, designTests, listSizes, listTests, graphTest, roomSizes}
+use Rattle.timing.specs.Calls.{GraphSlices, graphSlices, graphOf, slicesOf, graphSizes, made, Removal, removalTests, removeFromDesign, removeFromGraph, nodesAfter, startsAfter, endsAfter, namesAfter, testTimes, arrivalsAfter, requiredsAfter, slacksAfter, recordOf, recordsAfter}
+use Rattle.timing.specs.Series.{heldAfter, wholeAfter}
+use Rattle.theorems.proofs.Lists.{holds, and-intro, length-upto, getD-mem}
+use Rattle.timing.proofs.Verdicts.{then-passed, unless-passed}
+use Rattle.theorems.proofs.Runs.{Rising}
+use Rattle.theorems.proofs.Stands.{Stands, true-stands, passes-inside}
+use Rattle.theorems.proofs.Tested.{design-fits, tests-count}
+use Rattle.theorems.proofs.Legal.{Legal, fits-legal, design-legal, wellFormed-legal}
+use Rattle.theorems.proofs.Kept.{true-formed}
+use Rattle.theorems.proofs.Nodes.{at-copy, nodeTimesAt}
+use Rattle.theorems.proofs.Demand2Times.{PassesNode, PassesAt, PathTimes, record-below, design-record}
+use Rattle.theorems.proofs.Series.{graph-slices, slices-sizes, removal-few, outcome-made, series-held}
+
+-- A caller lends on the front of each room, as long as the removal answered: it holds the graph that was made.
+pub front-made : (H : Graph) (room : GraphSlices)
+    → graphSlices
+    (take (length (H .nodes)) (nodesAfter (made H) (room .nodes)))
+    (take (length (H .edges)) (startsAfter (made H) (room .starts)))
+    (take (length (H .edges)) (endsAfter (made H) (room .ends)))
+    (take (length (H .edges)) (namesAfter (made H) (room .names)))
+    ≡ slicesOf H
+front-made H room =
+    λ i.
+    graphSlices (take-append-seam (H .nodes) (drop (length (H .nodes)) (room .nodes)) i) (edges (λ e. e .start) (room .starts) i) (edges (λ e. e .end) (room .ends) i) (edges (λ e. e .name) (room .names) i)
+  where
+    edges : (f : Edge → ℕ) (room : List ℕ) → take (length (H .edges)) (placed (map f (H .edges)) room) ≡ map f (H .edges)
+    edges f room =
+        ap (λ (k : ℕ). take k (placed (map f (H .edges)) room)) (sym (length-map (H .edges) f))
+        ∙ take-append-seam (map f (H .edges)) (drop (length (map f (H .edges))) room)
+
+-- What `node_record` answers of node v, from the copies of H and what `times` leaves in the three slices that it is lent.
+abbrev pub recordAfter : Design → Graph → ℕ → List ℤ → List ℤ → List ℤ → ℕ → NodeAnswer
+recordAfter D H t ats rts sts v =
+    let S = slicesOf H in
+    let tested = testTimes D S t (length ats) (length rts) (length sts) in
+    recordOf (D .nodes) (H .nodes) (arrivalsAfter D S t tested ats) (requiredsAfter D S t tested rts) (slacksAfter D S t tested sts) v
+
+-- That answer is the record of the paths P: none exactly if there is no such path, and otherwise their three times.
+pub record RecordOfPaths (D : Design) (H : Graph) (t : ℕ) (ats rts sts : List ℤ) (v : ℕ) (P : List Edge → List Edge → Type 0) : Type 0 where
+  pub times : NodeTimes
+  pub answer : recordAfter D H t ats rts sts v ≡ Record (record { node = v; times = times })
+  pub paths : PathTimes (edgeDelay D) (pos t) P times
+
+-- a test that passes, by its condition
+fit-passed : (number : ℕ) (b : Bool) → T b → unless number b ≡ Passed
+fit-passed number true h = refl
+fit-passed number false h = absurd h
+
+same-sizes : (n a b : ℕ) → a ≡ n → b ≡ n → sameSizes n a b ≡ Passed
+same-sizes n a b p q = rw (p, q) (fit-passed 30 (eqb n n && eqb n n) (and-intro (eqb n n) (eqb n n) (eqb-refl n) (eqb-refl n)))
+
+-- the tests of `node_record` pass on slices that `times` filled
+times-count : (D : Design) (S : GraphSlices) (t a r s : ℕ) → testTimes D S t a r s ≡ Passed → nodeCount (D .nodes) ≡ Passed
+unfolding testTimes
+times-count D S t a r s e =
+    let n = length (S .nodes) in
+    let e₁ = then-passed (designSizes D) _ e in
+    let e₂ = then-passed (graphSizes S) _ (e₁ .1) in
+    let e₃ = then-passed (sameSizes n a r) _ (e₂ .1) in
+    let e₄ = then-passed (sameSizes n n s) _ (e₃ .1) in
+    tests-count D (then-passed (designTests D) _ (e₄ .1) .0)
+
+record-passed : (n : ℕ) (nodes : List ℕ) (ats rts sts : List ℤ) (v : ℕ) → length ats ≡ length nodes → length rts ≡ length nodes → length sts ≡ length nodes
+    → nodeCount n ≡ Passed → recordOf n nodes ats rts sts v ≡ Record (nodeRecord n nodes ats rts sts v)
+unfolding recordOf
+record-passed n nodes ats rts sts v p q r c =
+    rw (same-sizes (length nodes) (length ats) (length rts) p q, same-sizes (length nodes) (length nodes) (length sts) refl r, c)
+
+-- what a removal that is not refused says of the design and of its result
+pub record Removed (D : Design) (G : Graph) (L : List (List ℕ)) (H : Graph) : Type 0 where
+  pub sizes : designSizes D ≡ Passed
+  pub tests : designTests D ≡ Passed
+  pub legal : Legal D G
+  pub stands : Stands G L H
+  pub formed : T (wellFormed D H)
+
+removed : (D : Design) (G : Graph) (r : Removal) (H : Graph) → designSizes D ≡ Passed → designTests D ≡ Passed → Legal D G → removalTests D G r ≡ Passed
+    → trueGraph G (pathsOf (r .list)) ≡ H → Removed D G (pathsOf (r .list)) H
+removed D G r H s t legal e q =
+    let K = pathsOf (r .list) in
+    record {
+      sizes = s;
+      tests = t;
+      legal = legal;
+      stands = subst (Stands G K) q (true-stands G K (legal .rising));
+      formed = subst (λ (F : Graph). T (wellFormed D F)) q (true-formed D G K (design-fits D s t) legal (removal-few D G r e));
+    }
+
+pub from-design-removed : (D : Design) (r : Removal) (H : Graph) → removeFromDesign D r ≡ made H → Removed D (designGraph D) (pathsOf (r .list)) H
+unfolding removeFromDesign
+from-design-removed D r H e =
+    let o = outcome-made _ (trueGraph (designGraph D) (pathsOf (r .list))) H e in
+    let t₁ = then-passed (designSizes D) _ (o .0) in
+    let t₂ = then-passed (listSizes (r .list)) _ (t₁ .1) in
+    let t₃ = then-passed (roomSizes (r .room)) _ (t₂ .1) in
+    let t₄ = then-passed (designTests D) _ (t₃ .1) in
+    let t₅ = then-passed (listTests D (r .list)) _ (t₄ .1) in
+    removed D (designGraph D) r H (t₁ .0) (t₄ .0) (design-legal D (t₁ .0) (t₄ .0)) (t₅ .1) (o .1)
+
+pub from-graph-removed : (D : Design) (S : GraphSlices) (r : Removal) (H : Graph) → removeFromGraph D S r ≡ made H → Removed D (graphOf S) (pathsOf (r .list)) H
+unfolding removeFromGraph
+from-graph-removed D S r H e =
+    let o = outcome-made _ (trueGraph (graphOf S) (pathsOf (r .list))) H e in
+    let t₁ = then-passed (designSizes D) _ (o .0) in
+    let t₂ = then-passed (listSizes (r .list)) _ (t₁ .1) in
+    let t₃ = then-passed (graphSizes S) _ (t₂ .1) in
+    let t₄ = then-passed (roomSizes (r .room)) _ (t₃ .1) in
+    let t₅ = then-passed (designTests D) _ (t₄ .1) in
+    let t₆ = then-passed (listTests D (r .list)) _ (t₅ .1) in
+    let t₇ = then-passed (graphTest D (graphOf S)) _ (t₆ .1) in
+    let w = wellFormed D (graphOf S) in
+    removed D (graphOf S) r H (t₁ .0) (t₅ .0) (wellFormed-legal D (graphOf S) (t₁ .0) (t₅ .0) (holds w (unless-passed 32 w (t₇ .0)))) (t₇ .1) (o .1)
+
+-- `times` refuses such a result only for T and for the lengths of its slices
+pub removed-times : (D : Design) (G : Graph) (L : List (List ℕ)) (H : Graph) (t a r s : ℕ) → Removed D G L H → t ≤ 1000000000
+    → a ≡ length (H .nodes) → r ≡ length (H .nodes) → s ≡ length (H .nodes) → testTimes D (slicesOf H) t a r s ≡ Passed
+unfolding testTimes
+removed-times D G L H t a r s m h p q o =
+    let n = length (H .nodes) in
+    rw (m .sizes, slices-sizes H, same-sizes n a r p q, same-sizes n n s refl o, m .tests, fit-passed 25 (leb t 1000000000) (le→leb t 1000000000 h))
+    (ap (graphTest D) (graph-slices H) ∙ fit-passed 32 (wellFormed D H) (m .formed))
+
+-- what the slices hold where `times` passes: a time of each copy
+module _ (D : Design) (H : Graph) (t : ℕ) (ats rts sts : List ℤ) (tested : testTimes D (slicesOf H) t (length ats) (length rts) (length sts) ≡ Passed) where
+  arrivals-filled : arrivalsAfter D (slicesOf H) t (testTimes D (slicesOf H) t (length ats) (length rts) (length sts)) ats
+      ≡ map (arrivalAt (edgeDelay D) (pos t) H) (upto (length (H .nodes)) 0)
+  unfolding arrivalsAfter
+  arrivals-filled =
+      ap (λ (w : Verdict). arrivalsAfter D (slicesOf H) t w ats) tested
+      ∙ ap (λ (G : Graph). map (arrivalAt (edgeDelay D) (pos t) G) (upto (length (H .nodes)) 0)) (graph-slices H)
+
+  requireds-filled : requiredsAfter D (slicesOf H) t (testTimes D (slicesOf H) t (length ats) (length rts) (length sts)) rts
+      ≡ map (requiredAt (edgeDelay D) (pos t) H) (upto (length (H .nodes)) 0)
+  unfolding requiredsAfter
+  requireds-filled =
+      ap (λ (w : Verdict). requiredsAfter D (slicesOf H) t w rts) tested
+      ∙ ap (λ (G : Graph). map (requiredAt (edgeDelay D) (pos t) G) (upto (length (H .nodes)) 0)) (graph-slices H)
+
+  slacks-filled : slacksAfter D (slicesOf H) t (testTimes D (slicesOf H) t (length ats) (length rts) (length sts)) sts
+      ≡ map (slackAt (edgeDelay D) (pos t) H) (upto (length (H .nodes)) 0)
+  unfolding slacksAfter
+  slacks-filled =
+      ap (λ (w : Verdict). slacksAfter D (slicesOf H) t w sts) tested
+      ∙ ap (λ (G : Graph). map (slackAt (edgeDelay D) (pos t) G) (upto (length (H .nodes)) 0)) (graph-slices H)
+
+  each : (f : ℕ → ℤ) → length (map f (upto (length (H .nodes)) 0)) ≡ length (H .nodes)
+  each f = length-map (upto (length (H .nodes)) 0) f ∙ length-upto (length (H .nodes)) 0
+
+  pub record-after : (v : ℕ) → recordAfter D H t ats rts sts v ≡ Record (record { node = v; times = nodeTimesAt (edgeDelay D) (pos t) H (D .nodes) v })
+  record-after v =
+      (λ i. recordOf (D .nodes) (H .nodes) (arrivals-filled i) (requireds-filled i) (slacks-filled i) v)
+      ∙ record-passed (D .nodes) (H .nodes) _ _ _ v (each (arrivalAt (edgeDelay D) (pos t) H)) (each (requiredAt (edgeDelay D) (pos t) H)) (each (slackAt (edgeDelay D) (pos t) H))
+      (times-count D (slicesOf H) t (length ats) (length rts) (length sts) tested)
+
+  -- and what `node_records` leaves at the place of node v tells the same record
+  pub records-after : {A : Type 0} (z : A) (f : NodeTimes → A) (room : List A) (v : ℕ) → v < D .nodes
+      → getD
+      (recordsAfter f (D .nodes) (H .nodes)
+      (arrivalsAfter D (slicesOf H) t (testTimes D (slicesOf H) t (length ats) (length rts) (length sts)) ats)
+      (requiredsAfter D (slicesOf H) t (testTimes D (slicesOf H) t (length ats) (length rts) (length sts)) rts)
+      (slacksAfter D (slicesOf H) t (testTimes D (slicesOf H) t (length ats) (length rts) (length sts)) sts)
+      Passed room)
+      v z
+      ≡ f (nodeTimesAt (edgeDelay D) (pos t) H (D .nodes) v)
+  unfolding recordsAfter
+  records-after z f room v h =
+      (λ i. getD (map (λ w. f (nodeTimes (D .nodes) (H .nodes) (arrivals-filled i) (requireds-filled i) (slacks-filled i) w)) (upto (D .nodes) 0)) v z)
+      ∙ at-copy z (λ w. f (nodeTimesAt (edgeDelay D) (pos t) H (D .nodes) w)) (D .nodes) 0 v h
+      ∙ ap (λ (w : ℕ). f (nodeTimesAt (edgeDelay D) (pos t) H (D .nodes) w)) (omega arith)
+
+  stands-record : (L : List (List ℕ)) → Rising (designGraph D) → Stands (designGraph D) L H → (v : ℕ) → RecordOfPaths D H t ats rts sts v (PassesAt D L v)
+  stands-record L up stands v = record {
+    times = nodeTimesAt (edgeDelay D) (pos t) H (D .nodes) v;
+    answer = record-after v;
+    paths = design-record D H L up stands v (edgeDelay D) (pos t);
+  }
+
+  -- After a removal from the design, the record of any node is that of the design's permitted complete paths through it.
+  pub removed-record : (r : Removal) → removeFromDesign D r ≡ made H → (v : ℕ) → RecordOfPaths D H t ats rts sts v (PassesAt D (pathsOf (r .list)) v)
+  removed-record r e = let m = from-design-removed D r H e in stands-record (pathsOf (r .list)) (m .legal .rising) (m .stands)
+
+  -- After a series, the record of any node is that of the design's complete paths through it that the whole list permits.
+  pub series-record : (rs : List Removal) → heldAfter D none rs ≡ some H
+      → (L : List (List ℕ)) × (wholeAfter D none rs ≡ some L) × ((v : ℕ) → RecordOfPaths D H t ats rts sts v (PassesAt D L v))
+  series-record rs e = let h = series-held D rs H e in (h .0, h .1, stands-record (h .0) (fits-legal D (h .2 .fit) .rising) (h .2 .stands))
+
+  -- After a removal from any earlier graph, however it was made: of that graph's permitted complete paths through a copy of
+  -- the node.
+  pub further-record : (S : GraphSlices) (r : Removal) → removeFromGraph D S r ≡ made H
+      → (v : ℕ) → RecordOfPaths D H t ats rts sts v (PassesNode (graphOf S) (pathsOf (r .list)) v)
+  further-record S r e v =
+      let m = from-graph-removed D S r H e in
+      let up = m .legal .rising in
+      record {
+        times = nodeTimesAt (edgeDelay D) (pos t) H (D .nodes) v;
+        answer = record-after v;
+        paths =
+            record-below (graphOf S) H (pathsOf (r .list)) up (m .stands) v (edgeDelay D) (pos t) (D .nodes)
+            (λ p q (c, n, s, h). m .legal .below v (subst (λ (x : ℕ). List·Memᴰ x (S .nodes)) n (getD-mem (S .nodes) c 0 (passes-inside up s))));
+      }

@@ -1,0 +1,79 @@
+-- The calls one after the other; the flag is set last, so that each of them finds it as it was.
+use Rattle.times.proofs.Elements.{read-back}
+use borrow.Author.Needs.{needs}
+use Rattle.times.proofs.gather.count_copy.Statement.{statement}
+use Rattle.times.proofs.gather.count_copy.Tie as tie
+
+number-at-requires : tie.Need-number-at-requires
+number-at-requires c κs = search needs
+
+cast-v : tie.Need-cast-v
+cast-v c = search needs
+
+time-at-requires : tie.Need-time-at-requires
+time-at-requires c κs = search needs
+
+raise-node-requires : tie.Need-raise-node-requires
+raise-node-requires c κs = search needs
+
+time-at-requires-2 : tie.Need-time-at-requires-2
+time-at-requires-2 c κs = search needs
+
+lower-node-requires : tie.Need-lower-node-requires
+lower-node-requires c κs = search needs
+
+time-at-requires-3 : tie.Need-time-at-requires-3
+time-at-requires-3 c κs = search needs
+
+lower-node-requires-2 : tie.Need-lower-node-requires-2
+lower-node-requires-2 c κs = search needs
+
+copy-met-requires : tie.Need-copy-met-requires
+copy-met-requires c κs = search needs
+
+same-length : tie.Need-same-length
+same-length c = search needs
+
+same-length-2 : tie.Need-same-length-2
+same-length-2 c = search needs
+
+same-length-3 : tie.Need-same-length-3
+same-length-3 c = search needs
+
+same-length-4 : tie.Need-same-length-4
+same-length-4 c = search needs
+
+returns : tie.Need-returns
+returns c =
+    let s = c .before .before .before .before .before in
+    let r = s .before .before .before .before .before in
+    let a = r .before .before .before .before .before in
+    let v = a .before .before .before .before .number-at .ensures in (
+      rw (c .before .before .copy-met .ensures, v),
+      (
+        rw (a .raise-node .ensures, v, read-back (a .before .time-at .result) (a .before .time-at .ok), a .before .time-at .ensures),
+        (
+          rw (r .lower-node .ensures, v, read-back (r .before .time-at2 .result) (r .before .time-at2 .ok), r .before .time-at2 .ensures),
+          rw (s .lower-node2 .ensures, v, read-back (s .before .time-at3 .result) (s .before .time-at3 .ok), s .before .time-at3 .ensures),
+        ),
+      ),
+    )
+
+pub count-copy-spec : {M : Type 1} → statement M
+count-copy-spec =
+    tie.close
+    (tie.spec
+    number-at-requires
+    cast-v
+    time-at-requires
+    raise-node-requires
+    time-at-requires-2
+    lower-node-requires
+    time-at-requires-3
+    lower-node-requires-2
+    copy-met-requires
+    same-length
+    same-length-2
+    same-length-3
+    same-length-4
+    returns)

@@ -1,0 +1,118 @@
+// The records of all nodes, in one pass over the copies. Each node has a place in four slices:
+// whether a copy of it was met (1 or 0), and its three times over the copies met so far.
+ghost use mathlib.Core.Path.{_≡_};
+ghost use Prim.Native.Nat.{ℕ};
+ghost use mathlib.Core.List.{map};
+ghost use lib.Dec.{eqb};
+ghost use lib.IntN.{pos};
+ghost use lib.ListN.{length, getD, set};
+ghost use Rattle.timing.specs.Lists.{keep, upto};
+ghost use Rattle.timing.specs.Times.{larger as largerTime, smaller as smallerTime};
+ghost use Rattle.timing.specs.Calls.{hasTimes, arrivalOf, requiredOf, slackOf};
+ghost use Rattle.times.specs.Records.{firstOr, bettered, nodeSoFar};
+use super::fill;
+use super::larger;
+use super::smaller;
+use super::time_at;
+use timing::number_at;
+
+fn no_copy_met(known: &mut [u32])
+    ensures { λ r. ⌜ now (known .exit) ≡ map (λ (v : ℕ). 0) (upto (length (now (known .entry))) 0) ⌝ }
+{
+    let mut v = 0;
+    while v < known.len() {
+        known[v] = 0;
+        v += 1;
+    }
+}
+
+// A node that is not below n has no place.
+fn copy_met(known: &mut [u32], v: usize)
+    ensures { λ r. ⌜ now (known .exit) ≡ set (now (known .entry)) v 1 ⌝ }
+{
+    if v < known.len() {
+        known[v] = 1;
+    }
+}
+
+// The first copy of a node gives it its time, and each other one the larger of the two.
+fn first_or_larger(known: u32, old: i64, t: i64) -> i64
+    ensures { λ r. ⌜ r ≡ firstOr largerTime known old t ⌝ }
+{
+    if known == 0 { t } else { larger(old, t) }
+}
+
+fn first_or_smaller(known: u32, old: i64, t: i64) -> i64
+    ensures { λ r. ⌜ r ≡ firstOr smallerTime known old t ⌝ }
+{
+    if known == 0 { t } else { smaller(old, t) }
+}
+
+fn raise_node(known: &[u32], times: &mut [i64], v: usize, t: i64)
+    ensures { λ r. ⌜ now (times .exit) ≡ bettered largerTime (now (known .entry)) (now (times .entry)) v t ⌝ }
+{
+    if v < times.len() {
+        let u = first_or_larger(number_at(known, v), times[v], t);
+        times[v] = u;
+    }
+}
+
+fn lower_node(known: &[u32], times: &mut [i64], v: usize, t: i64)
+    ensures { λ r. ⌜ now (times .exit) ≡ bettered smallerTime (now (known .entry)) (now (times .entry)) v t ⌝ }
+{
+    if v < times.len() {
+        let u = first_or_smaller(number_at(known, v), times[v], t);
+        times[v] = u;
+    }
+}
+
+// Copy `c` counts for its node.
+fn count_copy(
+    nodes: &[u32],
+    arrivals: &[i64],
+    requireds: &[i64],
+    slacks: &[i64],
+    known: &mut [u32],
+    na: &mut [i64],
+    nr: &mut [i64],
+    ns: &mut [i64],
+    c: usize,
+)
+    ensures { λ r. ⌜ now (known .exit) ≡ set (now (known .entry)) (getD (now (nodes .entry)) c 0) 1 ⌝ }
+    ensures { λ r. ⌜ now (na .exit) ≡ bettered largerTime (now (known .entry)) (now (na .entry)) (getD (now (nodes .entry)) c 0) (getD (now (arrivals .entry)) c (pos 0)) ⌝ }
+    ensures { λ r. ⌜ now (nr .exit) ≡ bettered smallerTime (now (known .entry)) (now (nr .entry)) (getD (now (nodes .entry)) c 0) (getD (now (requireds .entry)) c (pos 0)) ⌝ }
+    ensures { λ r. ⌜ now (ns .exit) ≡ bettered smallerTime (now (known .entry)) (now (ns .entry)) (getD (now (nodes .entry)) c 0) (getD (now (slacks .entry)) c (pos 0)) ⌝ }
+{
+    let v = number_at(nodes, c) as usize;
+    raise_node(known, na, v, time_at(arrivals, c));
+    lower_node(known, nr, v, time_at(requireds, c));
+    lower_node(known, ns, v, time_at(slacks, c));
+    copy_met(known, v);
+}
+
+pub(crate) fn fill_records(
+    nodes: &[u32],
+    arrivals: &[i64],
+    requireds: &[i64],
+    slacks: &[i64],
+    known: &mut [u32],
+    na: &mut [i64],
+    nr: &mut [i64],
+    ns: &mut [i64],
+)
+    requires { ⌜ (length (now na) ≡ length (now known)) × (length (now nr) ≡ length (now known)) × (length (now ns) ≡ length (now known)) ⌝ }
+    ensures { λ r. ⌜ now (known .exit) ≡ map (λ (v : ℕ). hasTimes (nodeSoFar (now (nodes .entry)) (now (arrivals .entry)) (now (requireds .entry)) (now (slacks .entry)) (length (now (nodes .entry))) v)) (upto (length (now (known .entry))) 0) ⌝ }
+    ensures { λ r. ⌜ now (na .exit) ≡ map (λ (v : ℕ). arrivalOf (nodeSoFar (now (nodes .entry)) (now (arrivals .entry)) (now (requireds .entry)) (now (slacks .entry)) (length (now (nodes .entry))) v)) (upto (length (now (known .entry))) 0) ⌝ }
+    ensures { λ r. ⌜ now (nr .exit) ≡ map (λ (v : ℕ). requiredOf (nodeSoFar (now (nodes .entry)) (now (arrivals .entry)) (now (requireds .entry)) (now (slacks .entry)) (length (now (nodes .entry))) v)) (upto (length (now (known .entry))) 0) ⌝ }
+    ensures { λ r. ⌜ now (ns .exit) ≡ map (λ (v : ℕ). slackOf (nodeSoFar (now (nodes .entry)) (now (arrivals .entry)) (now (requireds .entry)) (now (slacks .entry)) (length (now (nodes .entry))) v)) (upto (length (now (known .entry))) 0) ⌝ }
+{
+    no_copy_met(known);
+    fill(na, 0);
+    fill(nr, 0);
+    fill(ns, 0);
+    let mut c = 0;
+    while c < nodes.len() {
+        count_copy(nodes, arrivals, requireds, slacks, known, na, nr, ns, c);
+        c += 1;
+    }
+}

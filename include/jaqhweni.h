@@ -1,0 +1,142 @@
+/* Jaqhweni: true timing graphs.
+ *
+ * A design has n nodes and m edges, each with a start, a higher end and a delay in picoseconds. A listed path is a run of its edges that
+ * is known never to be exercised (a false path). The true timing graph has copies of the nodes, and edges between copies, such that its
+ * paths from source to sink are the design's paths that contain no listed path, each once.
+ *
+ * Link with libjaqhweni.a. No function allocates, keeps anything between calls or reads anything but its arguments, so calls on separate
+ * buffers may run on separate threads. A slice is a pointer and its count of elements (not bytes). The pointer must be valid for that
+ * many elements, and not null even where the count is 0. Slices that a call writes must overlap no other slice of that call.
+ *
+ * Answers. Every function returns one signed 64-bit number. Below zero it is a refusal, minus (number + 256 * place):
+ *
+ *     number = (-answer) % 256        place = (-answer) / 256
+ *
+ *     number  place         what is wrong
+ *     ------  ------------  ----------------------------------------------------------------------------------------------------
+ *          1  length        the deck's bytes end inside a number or before the last one
+ *          2  byte offset   a number is not in its shortest form, or is above 4,294,967,295
+ *          3  byte offset   bytes remain after the deck
+ *          4  65,536        the deck has more than 65,536 bytes
+ *         10  0             more than 4,096 nodes
+ *         11  0             more than 16,384 edges
+ *         12  edge          an edge names a node that is not below n
+ *         13  edge          an edge does not run from a lower to a higher node
+ *         14  edge          a delay is below -1,000,000 or above 1,000,000
+ *         20  0             more than 1,024 listed paths
+ *         21  0             more than 8,192 listed edges in all
+ *         22  path          a listed path is empty
+ *         23  path          a listed path names an edge that is not below m
+ *         24  path          a listed path has an edge that does not start where the one before ends
+ *         25  0             the allowed time is above 1,000,000,000
+ *         30  0             slices that belong together differ in length, or the lengths of the paths do not add up to the listed edges
+ *         31  0             the scratch is too short
+ *         32  0             the graph given is not a well-formed true graph of the design
+ *         33  0             the result has more copies than the room, or than 16,384
+ *         34  0             the copies fit, and the result has more edges than the room, or than 65,536
+ *         35  0             the packed result is longer than its room
+ *         36  0             a count of the deck is above 1,024 edges, 256 paths or 1,024 listed edges
+ *
+ * A refusal changes no result slice. Tests are made in the order 30, 10 to 14, 20 to 25, 32, 31, 33, 34, 35, one number over everything
+ * before the next; of a deck, 4, then 1, 2, 10, 11, 20, 21 and 36 as it is read, then 3, come before them. A call leaves out the tests
+ * of what it does not take. */
+#ifndef JAQHWENI_H
+#define JAQHWENI_H
+
+#include <stddef.h>
+#include <stdint.h>
+
+#ifdef __cplusplus
+extern "C" {
+#endif
+
+/* The limits, and what test 31 asks of the scratch. */
+#define JAQHWENI_MAX_NODES 4096
+#define JAQHWENI_MAX_EDGES 16384
+#define JAQHWENI_MAX_PATHS 1024
+#define JAQHWENI_MAX_LISTED_EDGES 8192
+#define JAQHWENI_MAX_COPIES 16384
+#define JAQHWENI_MAX_COPY_EDGES 65536
+#define JAQHWENI_MAX_DECK_BYTES 65536
+#define JAQHWENI_WORDS_PER_UNIT 16
+
+/* From a packed deck to its packed true graph.
+ *
+ * Numbers are packed in groups of seven bits, lowest group first, the top bit of a byte set when more bytes follow, shortest form only.
+ * A delay d is packed as the number 2d, or -2d - 1 when it is negative.
+ *     deck:   n, m, then start, end, delay of each edge; the count of paths, then for each its length and its edges; the allowed time
+ *     graph:  the count of copies, the node of each; the count of edges, then start copy, end copy, design edge of each
+ *
+ * Returns the length of the graph, at least 2, of which `room` then holds the bytes; what follows them is unchanged. Takes decks of up
+ * to 1,024 edges, 256 paths and 1,024 listed edges (else 36), and results of up to 512 copies and 2,048 edges (else 33, 34); 31 is
+ * returned where n + m + 2 * listed edges - paths is above 1,024. For larger designs use the calls below. */
+int64_t jaqhweni_true_graph(const uint8_t *deck, size_t deck_length, uint8_t *room, size_t room_length);
+
+/* The true graph of a design and a list of paths.
+ *
+ * Edge k of the design runs from starts[k] to ends[k] with delays[k]. The listed paths stand end to end in `listed`, and `lengths` has
+ * the length of each. The result is `nodes`, the node of each copy, and for each edge its start copy `from`, its end copy `to` and its
+ * design edge `via`; copies go by node, edges by end copy and then design edge. `from`, `to` and `via` are of one length.
+ *
+ * The scratch has at least 16 words for each of: the nodes, the listed edges that are not first in their path, the listed edges, the
+ * design's edges. It may hold anything; afterwards it is all zero (after success, 33 and 34) or unchanged.
+ *
+ * Returns copies + edges * 2^32. Places of the room past the result are unchanged. */
+int64_t jaqhweni_remove_from_design(
+    uint32_t n,
+    const uint32_t *starts, size_t starts_length,
+    const uint32_t *ends, size_t ends_length,
+    const int32_t *delays, size_t delays_length,
+    const uint32_t *listed, size_t listed_length,
+    const uint32_t *lengths, size_t lengths_length,
+    uint32_t *nodes, size_t nodes_length,
+    uint32_t *from, size_t from_length,
+    uint32_t *to, size_t to_length,
+    uint32_t *via, size_t via_length,
+    uint32_t *scratch, size_t scratch_length);
+
+/* The same, from an earlier true graph of the design (`old_...`), whose paths are cut further: what comes out is the true graph of the
+ * design and of all lists so far, up to the numbering of copies within a node. The earlier graph is in other slices than the room.
+ *
+ * The scratch has at least 16 words for each of: the copies; for each copy, the listed edges, not first in their path, that start at its
+ * node; the listed edges; the earlier graph's edges. */
+int64_t jaqhweni_remove_from_graph(
+    uint32_t n,
+    const uint32_t *starts, size_t starts_length,
+    const uint32_t *ends, size_t ends_length,
+    const int32_t *delays, size_t delays_length,
+    const uint32_t *listed, size_t listed_length,
+    const uint32_t *lengths, size_t lengths_length,
+    const uint32_t *old_nodes, size_t old_nodes_length,
+    const uint32_t *old_from, size_t old_from_length,
+    const uint32_t *old_to, size_t old_to_length,
+    const uint32_t *old_via, size_t old_via_length,
+    uint32_t *nodes, size_t nodes_length,
+    uint32_t *from, size_t from_length,
+    uint32_t *to, size_t to_length,
+    uint32_t *via, size_t via_length,
+    uint32_t *scratch, size_t scratch_length);
+
+/* Arrival, required time and slack of each copy of a true graph, in picoseconds. `arrival`, `required` and `slack` have one place for
+ * each copy. At a node: the largest arrival, the smallest required time and the smallest slack of its copies.
+ *
+ * Returns 0. */
+int64_t jaqhweni_times(
+    uint32_t n,
+    const uint32_t *starts, size_t starts_length,
+    const uint32_t *ends, size_t ends_length,
+    const int32_t *delays, size_t delays_length,
+    uint32_t allowed_time,
+    const uint32_t *nodes, size_t nodes_length,
+    const uint32_t *from, size_t from_length,
+    const uint32_t *to, size_t to_length,
+    const uint32_t *via, size_t via_length,
+    int64_t *arrival, size_t arrival_length,
+    int64_t *required, size_t required_length,
+    int64_t *slack, size_t slack_length);
+
+#ifdef __cplusplus
+}
+#endif
+
+#endif

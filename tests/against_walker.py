@@ -1,0 +1,366 @@
+#!/usr/bin/env python3
+"""The deck program and the C calls against tests/walker.py, byte for byte, on generated decks, designs and series.
+
+    python3 tests/against_walker.py              target/bin/deck_program and target/staticlib/libjaqhweni.a; at most two minutes
+    python3 tests/against_walker.py --long       ten times as many random cases, from other seeds, and no bound on time
+    python3 tests/against_walker.py --valgrind   some of the C calls once more under valgrind, each slice an allocation of its own
+    python3 tests/against_walker.py --stand-in   the reference program of bench/ in place of the library and the deck program
+    python3 tests/against_walker.py --try-faults stand-ins with an error put in on purpose, one by one: each must be found
+    also: --seed N, --seconds S, --no-decks, --no-calls
+
+The C calls are made by tests/c_runner.c, built with the address and undefined behaviour sanitizers, guard bytes beside each slice.
+Every expected answer, and every word of what was lent, is the walker's. Ends with a line that begins 'against_walker:' and exit
+status 0, or with the first difference and status 1.
+"""
+import argparse
+import array
+import itertools
+import pathlib
+import random
+import struct
+import subprocess
+import sys
+import time
+
+import decks
+import removal_cases
+import unfit_cases
+import walker
+from removal_cases import DESIGN, GIVEN, HELD, Series, exact, hub, pattern, thresholds
+from walker import Design, Graph, PathList, Room
+
+HERE = pathlib.Path(__file__).resolve().parent.parent
+BUILT = HERE / "target" / "against_walker"
+LIBRARY = HERE / "target" / "staticlib" / "libjaqhweni.a"
+PROGRAM = HERE / "target" / "bin" / "deck_program"
+TRUE_GRAPH, REMOVE_FROM_DESIGN, REMOVE_FROM_GRAPH, TIMES = range(4)
+FAULTS = range(1, 13)       # bench/stand_in.c and bench/reference_deck.c
+BATCH, BATCH_BYTES = 400, 1 << 24       # requests to the runner at a time
+
+
+class Differs(Exception):
+    pass
+
+
+# ---- Requests to c_runner.c, and what must come back ------------------------------------------
+
+def words(numbers):
+    return array.array("I", numbers).tobytes()
+
+
+def signed(numbers):
+    return array.array("i", numbers).tobytes()
+
+
+def lent(numbers):
+    return words([len(numbers)]) + words(numbers)
+
+
+class Request:
+    def __init__(self, name, sent, answer, *after):
+        """After: the bytes of each slice that was lent to be written. The last word says that nothing else changed."""
+        self.name, self.sent = name, sent
+        self.expected = struct.pack("<q", answer) + b"".join(after) + words([0])
+
+
+def refusal_answer(refusal):
+    return -(refusal[0] + 256 * refusal[1])
+
+
+def design_bytes(design):
+    return words([design.nodes]) + lent(design.starts) + lent(design.ends) + words([len(design.delays)]) + signed(design.delays)
+
+
+def graph_bytes(graph):
+    return b"".join(lent(list(part)) for part in graph)
+
+
+def deck_request(name, data, room):
+    answer, result = walker.c_call(data, room)
+    before = bytes((37 * place + 11) % 256 for place in range(room))
+    padded = words([len(data)]) + data + b"\0" * (-len(data) % 4)
+    return Request(name, words([TRUE_GRAPH]) + padded + words([room]), answer, result + before[len(result):])
+
+
+def times_request(name, design, graph, allowed_time, lengths):
+    """`lengths` are those of the three slices for times."""
+    before = [[-1_000_000_000_000 * (which + 1) - place for place in range(length)] for which, length in enumerate(lengths)]
+    answer = 0
+    try:
+        found = walker.times(design, graph, allowed_time, lengths)
+        before = [[at_copy[part] for at_copy in found] for part in range(3)]
+    except walker.Refused as refused:
+        answer = refusal_answer(refused.refusal)
+    sent = words([TIMES]) + design_bytes(design) + words([allowed_time]) + graph_bytes(graph) + words(lengths)
+    return Request(name, sent, answer, *(array.array("q", part).tobytes() for part in before))
+
+
+class Recorded(Series):
+    """A series whose removals become requests. (Not bound by the tables of crates/removal_cases.)"""
+
+    def __init__(self, design, name="series"):
+        super().__init__(design)
+        self.name, self.requests = name, []
+
+    def add(self, where, path_list, room, scratch, given=None):
+        self.held = self.worked_on(where, given)
+        call = REMOVE_FROM_DESIGN if self.held is None else REMOVE_FROM_GRAPH
+        sent = words([call]) + design_bytes(self.design) + lent(path_list.flat) + lent(path_list.lengths)
+        if self.held is not None:
+            sent += graph_bytes(self.held)
+        refusal, result = None, ((),) * 4
+        try:
+            result = walker.removal(self.design, path_list, self.held, scratch, room)
+            self.held = result
+        except walker.Refused as refused:
+            refusal = refused.refusal
+        answer = refusal_answer(refusal) if refusal else len(result[0]) + (len(result[1]) << 32)
+        after = [words(result[which]) + words(pattern(which, length)[len(result[which]):]) for which, length in enumerate(room)]
+        after.append(words(walker.scratch_after(pattern(4, scratch), refusal)))
+        self.requests.append(Request("%s, removal %d" % (self.name, len(self.requests)), sent + words([*room, scratch]), answer, *after))
+        self.refusals.append(refusal)
+        return refusal
+
+
+# ---- Cases -------------------------------------------------------------------------------------
+
+def of_removal_cases():
+    """All fixed series of crates/removal_cases."""
+    plain, removal_cases.Series = removal_cases.Series, Recorded
+    try:
+        for cases in (removal_cases.marked, removal_cases.adversarial, removal_cases.rooms_above_the_limits,
+                      removal_cases.unfit_designs, removal_cases.unfit_lists_and_graphs):
+            for series in cases():
+                yield from ((cases.__name__, request) for request in series.requests)
+    finally:
+        removal_cases.Series = plain
+
+
+def random_series(rng):
+    """One random series, then the times of what is held at its end."""
+    plain, removal_cases.Series = removal_cases.Series, Recorded
+    try:
+        series = next(removal_cases.random_cases(rng, 1))
+    finally:
+        removal_cases.Series = plain
+    yield from (("random series", request) for request in series.requests)
+    if series.held is not None:
+        allowed = rng.choice((0, 7, 1_000_000_000, 1_000_000_001))
+        yield "random series", times_request("times", series.design, series.held, allowed, [len(series.held.copy_nodes)] * 3)
+
+
+def of_unfit_graphs():
+    for given in unfit_cases.graph_cases():
+        design = Design(given.nodes, given.starts, given.ends, given.delays)
+        graph = Graph(given.copy_nodes, given.copy_starts, given.copy_ends, given.names)
+        yield "graphs", times_request("times", design, graph, given.allowed, given.rooms)
+
+
+def at_the_limits():
+    """Full limits, on designs whose paths can still be walked."""
+    def done(series):
+        return [("limits", request) for request in series.requests]
+
+    for nodes in (4096, 4097):
+        series = Recorded(Design(nodes, [], [], []), "%d isolated nodes" % nodes)
+        series.add(DESIGN, PathList([], []), Room(nodes, 0, 0, 0), 16 * nodes)
+        yield from done(series)
+    series = Recorded(Design(2, [0] * 16384, [1] * 16384, [5] * 16384), "16,384 parallel edges")
+    thresholds(series, DESIGN, decks.path_list_of([[16 * k] for k in range(1024)]))
+    thresholds(series, HELD, decks.path_list_of([[16 * k + 1] for k in range(1024)]))
+    yield from done(series)
+    yield "limits", times_request("times", series.design, series.held, 9, [2, 2, 2])
+    # 1,024 paths and 8,192 listed edges on a chain with two edges doubled
+    chain = decks.braid(4095, (0, 2000), [])
+    paths = [[k] + list(range(k + 1, k + 8)) for k in range(0, 4088, 4)]
+    series = Recorded(chain.design, "a chain of 4,096 nodes")
+    thresholds(series, DESIGN, decks.path_list_of(paths))
+    series.add(DESIGN, decks.path_list_of([list(range(0, 60)), list(range(1990, 2050))]), *exact(
+        chain.design, decks.path_list_of([list(range(0, 60)), list(range(1990, 2050))]), None))
+    thresholds(series, HELD, decks.path_list_of([list(range(1970, 2040))]))
+    yield from done(series)
+    yield "limits", times_request("times", series.design, series.held, 1_000_000_000, [len(series.held.copy_nodes)] * 3)
+    # 1,024 listed pairs and more of them: 8,192 listed edges in 1,024 paths through eight edges in a row, many of them doubled at the end
+    row = decks.deck_of(9, [(k, k + 1, k) for k in range(7)] + [(7, 8, k) for k in range(1025)] + [(0, 1, 9), (0, 4, 9)], [], 0).design
+    paths = decks.path_list_of([list(range(7)) + [7 + k] for k in range(1024)])
+    series = Recorded(row, "8,192 listed edges")
+    thresholds(series, DESIGN, paths)
+    thresholds(series, HELD, decks.path_list_of([[5, 6, 7 + k] for k in range(3)]))
+    yield from done(series)
+    # 16,384 result copies fit a room of 16,400, and 16,385 do not: 16 hubs, one listed edge in with each of 1,022 edges out
+    for isolated in (0, 1):
+        edges, lists = [], []
+        for number in range(16):
+            source, node, sink = 3 * number, 3 * number + 1, 3 * number + 2
+            first = len(edges)
+            edges += [(source, node, 1), (source, node, 2)] + [(node, sink, k) for k in range(1022)]
+            lists.append([[first, first + 2 + k] for k in range(1022)])
+        design = decks.deck_of(48 + isolated, edges, [], 0).design
+        earlier = walker.true_graph(design, decks.path_list_of(list(itertools.chain(*lists[:-1]))))
+        last = decks.path_list_of(lists[-1])
+        series = Recorded(design, "%d copies" % (16384 + isolated))
+        words_needed = exact(design, last, earlier)[1]
+        refusal = series.add(GIVEN, last, Room(16400, 65600, 65600, 65600), words_needed, earlier)
+        assert refusal == ((33, 0) if isolated else None), refusal
+        yield from done(series)
+    # from a graph of 65,536 edges
+    into, tails, extra = 1820, 35, 16
+    design = hub(into, tails + extra, []).design
+    earlier = walker.true_graph(design, decks.path_list_of([[0, into + j] for j in range(tails)]))
+    series = Recorded(design, "from 65,536 edges")
+    path_list = decks.path_list_of([[1, into], [2], [0, into + tails]])
+    series.add(GIVEN, path_list, *exact(design, path_list, earlier), earlier)
+    yield from done(series)
+
+
+def of_deck(rng, data):
+    """The C call on a deck, with a room that is just enough, one byte short, empty or wide."""
+    answer, _ = walker.c_call(data, 65536)
+    rooms = (answer, answer - 1, 0, answer + 9) if answer > 0 else (0, 40)
+    for room in rooms if answer > 0 and rng.random() < 0.3 else (rng.choice(rooms),):
+        yield "decks", deck_request("deck %s" % data[:40].hex(), data, room)
+
+
+# ---- Running -----------------------------------------------------------------------------------
+
+def build(name, sources, flags):
+    BUILT.mkdir(parents=True, exist_ok=True)
+    made = BUILT / name
+    command = ["cc", "-std=c11", "-g", "-O1", "-Wall", "-Wextra", "-Werror", "-I", str(HERE / "include"), *flags,
+               *(str(source) for source in sources), "-o", str(made)]
+    return made, subprocess.run(command, stdout=subprocess.PIPE, stderr=subprocess.STDOUT, text=True)
+
+
+def build_runner(library, sanitized, fault=0):
+    """The runner over the library, or over the reference program where library is None."""
+    bench = HERE / "bench"
+    sources = [HERE / "tests" / "c_runner.c"] + ([library] if library else [bench / "stand_in.c", bench / "reference.c"])
+    flags = ["-DFAULT=%d" % fault] if fault else []
+    if sanitized:
+        made, run = build("c_runner", sources, flags + ["-fsanitize=address,undefined", "-fno-sanitize-recover=all"])
+        if run.returncode == 0:
+            return made
+        print("against_walker: no sanitizers here, built without", file=sys.stderr)
+    made, run = build("c_runner_plain", sources, flags)
+    if run.returncode != 0:
+        sys.exit("against_walker: c_runner does not build\n" + run.stdout)
+    return made
+
+
+def build_stand_in_program(fault):
+    bench = HERE / "bench"
+    made, run = build("deck_program", [bench / "reference_deck.c", bench / "reference.c"], ["-DFAULT=%d" % fault] if fault else [])
+    if run.returncode != 0:
+        sys.exit("against_walker: the stand-in does not build\n" + run.stdout)
+    return made
+
+
+def first_difference(requests, found):
+    at = 0
+    for request in requests:
+        part = found[at:at + len(request.expected)]
+        if part != request.expected:
+            answers = [struct.unpack("<q", data[:8])[0] if len(data) >= 8 else None for data in (part, request.expected)]
+            byte = next((k for k, (a, b) in enumerate(zip(part, request.expected)) if a != b), len(part))
+            return "%s: answered %s, must be %s; first other byte %d of %d" % (request.name, *answers, byte, len(request.expected))
+        at += len(request.expected)
+    return "%d bytes too many" % (len(found) - at)
+
+
+def run_calls(command, requests):
+    run = subprocess.run(command, input=b"".join(request.sent for request in requests), capture_output=True)
+    if run.stdout != b"".join(request.expected for request in requests):
+        raise Differs("C calls: " + first_difference(requests, run.stdout) + "\n" + run.stderr.decode(errors="replace")[:3000])
+    if run.returncode != 0:
+        raise Differs("C calls: the runner's exit status is %d\n%s" % (run.returncode, run.stderr.decode(errors="replace")[:3000]))
+
+
+def run_program(program, data, must_be):
+    run = subprocess.run([program], input=data, capture_output=True)
+    if run.stdout != must_be or run.returncode != 0:
+        raise Differs("deck program: deck %s\nexit status %d, printed\n%s\nmust be\n%s"
+                      % (data[:200].hex(), run.returncode, run.stdout.decode(errors="replace")[:2000], must_be.decode()[:2000]))
+
+
+def plan(options, count):
+    """All that is run: (kind, request) or (None, (deck, what must be printed)). Random cases end when the time is over."""
+    over = time.monotonic() + options.seconds
+    rng = random.Random(options.seed)
+    if not options.no_calls:
+        for cases in (of_removal_cases, of_unfit_graphs, at_the_limits):
+            yield from cases()
+    for number, data in enumerate(decks.deck_files(options.seed, count)):
+        if time.monotonic() > over:
+            return
+        if not options.no_decks:
+            yield None, (data, walker.deck_program(data).encode())
+        if not options.no_calls:
+            yield from of_deck(rng, data)
+            if number % 4 == 0:
+                yield from random_series(rng)
+
+
+def compare(planned, runner_command, program):
+    """Runs what is planned, C calls some hundred at a time; returns in words what was run."""
+    counts, waiting, size = {}, [], 0
+    for kind, case in planned:
+        kind = kind or "decks printed"
+        counts[kind] = counts.get(kind, 0) + 1
+        if kind == "decks printed":
+            run_program(program, *case)
+            continue
+        waiting.append(case)
+        size += len(case.sent) + len(case.expected)
+        if len(waiting) == BATCH or size > BATCH_BYTES:
+            run_calls(runner_command, waiting)
+            waiting, size = [], 0
+    run_calls(runner_command, waiting)
+    return ", ".join("%s: %d" % item for item in counts.items())
+
+
+def try_faults(options):
+    planned, missed = list(plan(options, 600)), []
+    for fault in FAULTS:
+        runner, program = build_runner(None, True, fault), build_stand_in_program(fault)
+        try:
+            print("fault %d: NOT FOUND (%s)" % (fault, compare(planned, [runner], program)), flush=True)
+            missed.append(fault)
+        except Differs as differs:
+            print("fault %d: found: %s" % (fault, str(differs).splitlines()[0][:150]), flush=True)
+    if missed:
+        sys.exit("against_walker: faults not found: %s" % missed)
+    print("against_walker: %d faults put in, all found" % len(FAULTS))
+
+
+def main():
+    parser = argparse.ArgumentParser()
+    for flag in ("--long", "--valgrind", "--stand-in", "--try-faults", "--no-decks", "--no-calls"):
+        parser.add_argument(flag, action="store_true")
+    parser.add_argument("--seed", type=int, default=9)
+    parser.add_argument("--seconds", type=float, default=None)
+    options = parser.parse_args()
+    if options.long and options.seed == 9:
+        options.seed = 90
+    if options.seconds is None:
+        options.seconds = 10 ** 6 if options.long else 90
+    if options.try_faults:
+        try_faults(options)
+        return
+    library, program = (None, build_stand_in_program(0)) if options.stand_in else (LIBRARY, PROGRAM)
+    for needed in [] if options.stand_in else [PROGRAM] * (not options.no_decks) + [LIBRARY] * (not options.no_calls):
+        if not needed.exists():
+            sys.exit("against_walker: %s is not built" % needed)
+    runner = None if options.no_calls else build_runner(library, not options.valgrind)
+    command = [runner]
+    if options.valgrind:
+        command = ["valgrind", "--quiet", "--error-exitcode=9", "--main-stacksize=33554432", "--max-stackframe=16777216", runner, "exact"]
+    try:
+        count = 40000 if options.long else 4000
+        print("against_walker: %s; all as the walker says" % compare(plan(options, count), command, program))
+    except Differs as differs:
+        print(differs)
+        sys.exit(1)
+
+
+if __name__ == "__main__":
+    main()

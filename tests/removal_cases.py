@@ -1,0 +1,441 @@
+#!/usr/bin/env python3
+"""The cases of crates/removal_cases and what they must print.
+
+python3 tests/removal_cases.py           writes crates/removal_cases/stdin and stdout
+python3 tests/removal_cases.py --check   says whether the two files are what it would write
+
+Every expected answer is that of tests/walker.py, the separate program, which walks all paths.
+
+Input: up to eight blocks of 65,536 bytes (the last may be shorter). A block is packed numbers: the count of its series, the series, and
+zeros. A series is one design and some removals, in order:
+
+    n; three slices: starts, ends, delays (as packed numbers); the count of removals; the removals
+
+A removal is
+
+    where: 0 drop the graph held, 1 keep it, 2 hold the graph that follows (four slices: nodes, from, to, via)
+    two slices: listed edges, lengths
+    the lengths of the room's four slices, and of the scratch
+
+and works on the design while no graph is held, and on the graph held after that (document 01, "A series"). It starts with none.
+One that is not refused puts its result in place of the graph held. A slice is how many numbers follow, how often the last is
+then repeated, and the numbers; so slices need not belong together.
+
+Before each removal, place k of the room's slice j (nodes 0, from 1, to 2, via 3) and of the scratch (4) is set to
+3,000,000,000 + 100,000,000 j + k mod 65,536. Output for each removal: `copies C edges E`, or the refusal as the deck program
+prints it; where C + E is at most 40, a line `nodes` with the node of each copy and a line `edges` with start copy, end copy and
+design edge of each edge; and a line `sums` with a sum over each of the four slices and the scratch, as lent, from end to end:
+from 1, for each word w, h becomes (1,000,003 h + w) mod 4,294,967,291.
+"""
+import random
+
+import expected
+import walker
+from decks import (A_EDGES, M8_EDGES, MARKED, braid, chain, damage_graph, deck_of, path_list_of, random_design,
+                   random_foreign_graph, random_paths)
+from walker import Design, Graph, PathList, Room
+
+# The program's tables, and its room and scratch.
+EDGE_TABLE, LISTED_TABLE, PATH_TABLE = 16400, 8200, 1040
+COPY_ROOM, EDGE_ROOM, SCRATCH = 16400, 65600, 32768
+NUMBERS = (30, 10, 11, 12, 13, 14, 20, 21, 22, 23, 24, 31, 32, 33, 34)
+DESIGN, HELD, GIVEN = range(3)
+TOP = 4294967295
+PRINTED = 40
+
+
+# ---- Series ------------------------------------------------------------------------------
+
+def pattern(which, length):
+    return [3_000_000_000 + 100_000_000 * which + place % 65536 for place in range(length)]
+
+
+def checksum(words):
+    total = 1
+    for word in words:
+        total = (1_000_003 * total + word) % 4_294_967_291
+    return total
+
+
+def packed_slice(numbers):
+    """How many numbers follow, how often the last is repeated, the numbers."""
+    stored = len(numbers)
+    while stored > 1 and numbers[stored - 2] == numbers[-1]:
+        stored -= 1
+    return [stored, len(numbers) - stored, *numbers[:stored]]
+
+
+class Series:
+    """A design, and removals whose expected lines are found as they are added."""
+
+    def __init__(self, design):
+        self.design, self.held = design, None
+        self.removals, self.lines, self.refusals = [], [], []
+
+    def worked_on(self, where, given):
+        return {DESIGN: None, HELD: self.held, GIVEN: given}[where]
+
+    def add(self, where, path_list, room, scratch, given=None):
+        """One removal; returns the refusal, or None."""
+        assert len(path_list.flat) <= LISTED_TABLE and len(path_list.lengths) <= PATH_TABLE
+        assert room[0] <= COPY_ROOM and max(room[1:]) <= EDGE_ROOM and scratch <= SCRATCH
+        self.held = self.worked_on(where, given)
+        numbers = [where]
+        if where == GIVEN:
+            assert len(given.copy_nodes) <= COPY_ROOM and max(walker.graph_slices(given)) <= EDGE_ROOM
+            for part in given:
+                numbers += packed_slice(list(part))
+        numbers += packed_slice(list(path_list.flat)) + packed_slice(list(path_list.lengths)) + [*room, scratch]
+        self.removals.append(numbers)
+        refusal, result = None, ((),) * 4
+        try:
+            result = walker.removal(self.design, path_list, self.held, scratch, room)
+            self.held = result
+        except walker.Refused as refused:
+            refusal = refused.refusal
+        self.say(refusal, result, room, scratch)
+        return refusal
+
+    def say(self, refusal, result, room, scratch):
+        if refusal is None:
+            self.lines.append("copies %d edges %d" % (len(result.copy_nodes), len(result.starts)))
+            if len(result.copy_nodes) + len(result.starts) <= PRINTED:
+                edges = zip(result.starts, result.ends, result.design_edges)
+                self.lines.append("nodes" + "".join(" %d" % node for node in result.copy_nodes))
+                self.lines.append("edges" + "".join(" %d %d %d" % edge for edge in edges))
+        else:
+            self.lines.append("refused %d at %d" % refusal)
+        after = [walker.lent_after(pattern(which, length), part) for which, (length, part) in enumerate(zip(room, result))]
+        after.append(walker.scratch_after(pattern(4, scratch), refusal))
+        self.lines.append("sums" + "".join(" %d" % checksum(words) for words in after))
+        self.refusals.append(refusal)
+
+    def packed(self):
+        codes = [walker.pack_delay(delay) for delay in self.design.delays]
+        numbers = [self.design.nodes]
+        for part in (self.design.starts, self.design.ends, codes):
+            assert len(part) <= EDGE_TABLE
+            numbers += packed_slice(list(part))
+        numbers.append(len(self.removals))
+        return b"".join(map(walker.write_number, numbers + [number for removal in self.removals for number in removal]))
+
+
+# ---- What a sound call needs -----------------------------------------------------------------
+
+def words_needed(design, path_list, graph):
+    """The least scratch that test 31 takes."""
+    worked_on = walker.design_as_graph(design) if graph is None else graph
+    return 16 * (walker.candidates(design, path_list, worked_on) + len(path_list.flat) + len(worked_on.starts))
+
+
+def result_sizes(design, path_list, graph):
+    result = walker.true_graph(design, path_list, graph)
+    return len(result.copy_nodes), len(result.starts)
+
+
+def exact(design, path_list, graph):
+    """Room and scratch, neither with a word to spare."""
+    copies, edges = result_sizes(design, path_list, graph)
+    return Room(copies, edges, edges, edges), words_needed(design, path_list, graph)
+
+
+def thresholds(series, where, path_list, given=None):
+    """The same removal with one word too few of each, then with just enough: 31, 33, 34, none."""
+    graph = series.worked_on(where, given)
+    room, words = exact(series.design, path_list, graph)
+    short_copies, short_edges = room._replace(copies=room.copies - 1), Room(room.copies, *[room.starts - 1] * 3)
+    if words > 0:
+        assert series.add(where, path_list, room, words - 1, given) == (31, 0)
+        where = HELD if where == GIVEN else where
+    if room.copies > 0:
+        assert series.add(where, path_list, short_copies, words, given) == (33, 0)
+        where = HELD if where == GIVEN else where
+    if room.starts > 0:
+        assert series.add(where, path_list, short_edges, words, given) == (34, 0)
+        where = HELD if where == GIVEN else where
+    assert series.add(where, path_list, room, words, given) is None
+
+
+def wide(series, where, path_list, given=None):
+    """The same removal with some words to spare."""
+    room, words = exact(series.design, path_list, series.worked_on(where, given))
+    assert series.add(where, path_list, Room(room.copies + 3, *[room.starts + 2] * 3), min(words + 5, SCRATCH), given) is None
+
+
+# ---- Fixed cases ---------------------------------------------------------------------------
+
+def marked():
+    """M1 to M8 at all thresholds, and M6 and others by parts."""
+    for name in ("M1", "M2", "M3", "M4", "M5", "M6", "M7", "M8"):
+        deck = MARKED[name]
+        series = Series(deck.design)
+        thresholds(series, DESIGN, deck.path_list)
+        wide(series, DESIGN, deck.path_list)
+        wide(series, HELD, deck.path_list)                  # once more, on its own result
+        yield series
+    by_parts = [(A_EDGES, 5, [[[1, 2]], [[0, 3]]]), (A_EDGES, 5, [[[0, 3]], [[1, 2]]]), (A_EDGES, 5, [[[0, 2]], [[1, 2]]]),
+                (A_EDGES, 5, [[], [[1, 2]], [], [[2]], [[0]], [[1]], [[0]]]),
+                (M8_EDGES, 6, [[[0, 2, 3]], [[1, 2, 3, 4]]]), (M8_EDGES, 6, [[[1, 2, 3, 4]], [[0, 2, 3]]]),
+                (M8_EDGES, 6, [[[2, 3]], [[3, 4]], [[2, 5]], [[5]]])]
+    for edges, nodes, parts in by_parts:
+        for each in (thresholds, wide):
+            series = Series(deck_of(nodes, edges, [], 0).design)
+            for part in parts:
+                each(series, HELD, path_list_of(part))
+            yield series
+
+
+def hub(into, out_of, listed):
+    """Edges into node 1, from node 0, numbered from 0; then edges out of it, to node 2."""
+    edges = [(0, 1, number % 7) for number in range(into)] + [(1, 2, -number % 5) for number in range(out_of)]
+    return deck_of(3, edges, listed, 0)
+
+
+def ladder(length, width):
+    """Nodes in a row, joined by `width` parallel edges each; edge `width * k + j` is the j-th from k on."""
+    return deck_of(length + 1, [(k, k + 1, j) for k in range(length) for j in range(width)], [], 0).design
+
+
+def two_hubs(into, between, out_of):
+    """Nodes 0, 1, 2, 3, joined by so many parallel edges."""
+    edges = [(0, 1, 1)] * into + [(1, 2, 2)] * between + [(2, 3, 3)] * out_of
+    return deck_of(4, edges, [], 0).design
+
+
+def adversarial():
+    # hubs with many tails: one edge in is listed with each edge out, then a second one, then all but one
+    for into, out_of in ((2, 30), (12, 12), (40, 8), (3, 100)):
+        first = [[0, into + j] for j in range(out_of)]
+        second = [[1, into + j] for j in range(0, out_of, max(2, out_of // 8))]
+        series = Series(hub(into, out_of, []).design)
+        wide(series, DESIGN, path_list_of(first))
+        wide(series, HELD, path_list_of(second))
+        thresholds(series, DESIGN, path_list_of(first + second))
+        wide(series, DESIGN, path_list_of([[i, into + j] for i in range(into) for j in range(out_of) if i != 1][:500]))
+        yield series
+    # tails of two edges through a second hub; the same tails reached from several listed paths
+    design = two_hubs(3, 4, 5)
+    paths = [[i, 3 + j, 7 + k] for i in range(2) for j in range(4) for k in range(5) if (i + j + k) % 3]
+    for parts in ([paths], [paths[:9], paths[9:]], [paths[::2], paths[1::2], paths], [paths + paths], [[p[1:] for p in paths], paths]):
+        series = Series(design)
+        for part in parts:
+            wide(series, HELD, path_list_of(part))
+        yield series
+    # nested: each path inside the next, in front, behind and in the middle; overlapping: a window that moves
+    design = ladder(7, 2)
+    row = [2 * k for k in range(7)]
+    nested = [[row[a:b] for a in range(7 - 1)] for b in (7,)] + [[row[:b] for b in range(2, 8)]]
+    nested += [[row[a:7 - a] for a in range(3)], [row[a:a + 3] for a in range(5)], [row[a:a + 2] for a in range(0, 6, 2)]]
+    nested += [[row[:5], row[:4] + [9], row[1:4] + [9, 10]], [row, row, row[1:], row[1:], row[3:5]]]
+    for paths in nested:
+        for order in (paths, paths[::-1]):
+            series = Series(design)
+            wide(series, DESIGN, path_list_of(order))
+            wide(series, DESIGN, path_list_of(order[:1]))
+            for path in order[1:]:
+                wide(series, HELD, path_list_of([path]))
+            yield series
+    # long chains: paths over most of them, side by side edges, everything removed at the end
+    whole = list(range(60))
+    for doubled, paths in (((), [whole[5:50]]), ((59, 30, 1), [whole[a:] for a in range(6)]), ((10, 40), [whole[:59], whole[9:42]]),
+                           ((5, 25, 45), [whole[a:a + 20] for a in range(0, 40, 5)])):
+        series = Series(braid(60, doubled, []).design)
+        wide(series, DESIGN, path_list_of(paths))
+        wide(series, HELD, path_list_of(paths[:2]))
+        wide(series, HELD, path_list_of([[0]]))
+        wide(series, HELD, path_list_of([[1], [2, 3]]))
+        yield series
+    series = Series(chain(400, []).design)
+    wide(series, DESIGN, path_list_of([list(range(1, 400))]))
+    wide(series, HELD, path_list_of([list(range(k, k + 2)) for k in range(0, 100, 3)]))
+    yield series
+    series = Series(braid(300, (0, 150, 299), []).design)
+    thresholds(series, DESIGN, path_list_of([list(range(1, 300)), list(range(300))]))
+    thresholds(series, HELD, path_list_of([[149, 150], list(range(100, 200))]))
+    yield series
+    # isolated nodes, and edges that are no part of what is listed
+    series = Series(deck_of(9, [(1, 3, 4), (3, 7, 1), (1, 7, -3), (3, 7, 1)], [], 0).design)
+    for paths in ([[0, 1]], [[0, 3]], [[2]], [[0]]):
+        thresholds(series, HELD, path_list_of(paths))
+    thresholds(series, DESIGN, path_list_of([[k] for k in range(4)]))
+    yield series
+    # a list at its limits: 1,024 paths; 31 is all that can be said of 8,192 listed edges with this scratch
+    design = two_hubs(2, 2, 2)
+    series = Series(design)
+    wide(series, DESIGN, path_list_of([[0]] * 1000 + [[0, 2]] * 24))
+    series.add(DESIGN, path_list_of([[0]] * 1025), Room(9, 9, 9, 9), 99)
+    series.add(DESIGN, path_list_of([[0, 2, 4]] * 1023), Room(9, 9, 9, 9), SCRATCH)
+    series.add(DESIGN, PathList([8192], [0] * 8192), Room(9, 9, 9, 9), 99)
+    series.add(DESIGN, PathList([8193], [0] * 8193), Room(9, 9, 9, 9), 99)
+    series.add(DESIGN, PathList([1] * 1025, [0] * 8193), Room(9, 9, 9, 9), 99)
+    yield series
+
+
+def rooms_above_the_limits():
+    """Room "is the lent length, at most 16,384 and 65,536": 65,536 result edges fit 65,600 places, and 65,537 do not."""
+    series = Series(MARKED["M6"].design)
+    for copies, edges in ((16384, 65536), (16385, 65537), (COPY_ROOM, EDGE_ROOM)):
+        assert series.add(DESIGN, MARKED["M6"].path_list, Room(copies, edges, edges, edges), 1024) is None
+    yield series
+    into, tails = 1820, 35
+    for extra, refusal in ((16, None), (17, (34, 0))):
+        series = Series(hub(into, tails + extra, []).design)
+        paths = path_list_of([[0, into + j] for j in range(tails)])
+        assert series.add(DESIGN, paths, Room(64, *[EDGE_ROOM] * 3), SCRATCH) == refusal
+        yield series
+
+
+def unfit_designs():
+    good = deck_of(5, A_EDGES, [], 0).design
+    paths = path_list_of([[1, 2]])
+    room = Room(6, 5, 5, 5)
+    designs = [good._replace(nodes=nodes) for nodes in (0, 2, 4, 4096, 4097, TOP)]
+    for place in range(4):
+        for start, end, delay in ((0, 5, 0), (5, 6, 0), (TOP, 0, 0), (2, 2, 0), (3, 1, 0), (0, 1, 1_000_001), (0, 4, -1_000_001)):
+            parts = [list(part) for part in good[1:]]
+            for part, value in zip(parts, (start, end, delay)):
+                part[place] = value
+            designs.append(Design(5, *parts))
+    designs += [good._replace(**{name: list(getattr(good, name))[:-1]}) for name in ("starts", "ends", "delays")]
+    designs += [good._replace(**{name: list(getattr(good, name)) + [0]}) for name in ("starts", "ends", "delays")]
+    designs += [Design(5, [0] * count, [1] * count, [7] * count) for count in (16383, 16384, 16385)]
+    designs += [Design(4097, [0] * 16385, [1] * 16385, [7] * 16385), Design(2, [], [], []), Design(4096, [], [], [])]
+    given = walker.true_graph(good, paths)
+    for design in designs:
+        series = Series(design)
+        for where, path_list, lent, scratch in ((DESIGN, paths, room, 1024), (HELD, paths, Room(6, 5, 4, 5), 1024),
+                                                (HELD, path_list_of([[], [9]]), room, 3), (GIVEN, paths, room, 1024),
+                                                (HELD, path_list_of([]), room, 2)):
+            series.add(where, path_list, lent, scratch, given if where == GIVEN else None)
+        yield series
+
+
+def unfit_lists_and_graphs():
+    good = deck_of(5, A_EDGES, [], 0).design
+    room = Room(6, 5, 5, 5)
+    lists = [path_list_of(paths) for paths in ([[2, 1]], [[1, 2], [2, 1]], [[1, 2, 2]], [[4]], [[0], [1, TOP]], [[]], [[1, 2], []],
+                                               [[2, 1], [4], []], [[2, 1], [4]], [[0, 3], [3, 0], [4]])]
+    lists += [PathList(lengths, [1, 2]) for lengths in ([], [1], [3], [1, 2], [TOP, 3], [2 ** 31, 2 ** 31, 2], [0, 2], [2, 0], [1, 1])]
+    lists += [PathList([2], flat) for flat in ([], [1], [1, 2, 2])]
+    lists += [path_list_of([[0]] * 1025 + [[]]), PathList([0] * 1025, []), PathList([8193], [9] * 8193)]
+    good_graph = walker.true_graph(good, path_list_of([[1, 2]]))
+    bad_graph = good_graph._replace(design_edges=good_graph.design_edges[:-1] + [2])
+    for path_list in lists:
+        series = Series(good)
+        series.add(DESIGN, path_list, room, 1024)
+        series.add(DESIGN, path_list_of([[1, 2]]), room, 1024)
+        series.add(HELD, path_list, room, 0)
+        series.add(HELD, path_list, Room(6, 5, 5, 6), 0)
+        series.add(GIVEN, path_list, room, 0, bad_graph)
+        series.add(HELD, path_list_of([[1, 2]]), room, 0)                    # 32 comes before 31
+        series.add(HELD, path_list_of([[1, 2]]), Room(6, 5, 6, 5), 0)
+        yield series
+    parts = [list(part) for part in good_graph]
+    unfit = [Graph(parts[0], *(part[:len(part) - (k == cut)] for k, part in enumerate(parts[1:]))) for cut in range(3)]
+    unfit += [Graph([0] * 16385, [], [], []), Graph([], [0] * 65537, [0] * 65537, [0] * 65537), Graph([5], [], [], []), Graph([], [], [], [])]
+    series = Series(good)
+    for graph in unfit:
+        series.add(GIVEN, path_list_of([[1, 2]]), room, 1024, graph)
+        series.add(HELD, path_list_of([]), room, 1024)
+    yield series
+
+
+# ---- Random cases ---------------------------------------------------------------------------
+
+def damaged_list(rng, design, paths):
+    """A list with one fault, of the designer's or of the host's."""
+    paths = [list(path) for path in paths] or [[]]
+    path_list = path_list_of(paths)
+    kind = rng.choice(("22", "23", "24", "24", "30", "30"))
+    if kind == "22":
+        paths.insert(rng.randint(0, len(paths)), [])
+        return path_list_of(paths)
+    if kind in ("23", "24"):
+        path = rng.choice(paths)
+        path.insert(rng.randint(0, len(path)), rng.randrange(len(design.starts) + 1) if kind == "24" else len(design.starts))
+        return path_list_of(paths)
+    return rng.choice((path_list._replace(lengths=list(path_list.lengths) + [1]), path_list._replace(flat=list(path_list.flat) + [0])))
+
+
+def random_removal(rng, series, where, given=None):
+    """A removal that is sound, with just enough or a little more, or is refused for any one reason, or for two."""
+    design = series.design
+    paths = random_paths(rng, design, rng.choice((1, 2, 3, 6)))
+    path_list = path_list_of(paths)
+    graph = series.worked_on(where, given)
+    if graph is not None and (walker.slices_refusal([walker.graph_slices(graph)]) or walker.graph_refusal(design, graph)):
+        series.add(where, path_list, Room(rng.randint(0, 9), *[rng.randint(0, 9)] * 3), rng.randint(0, 999), given)
+        return
+    room, words = exact(design, path_list, graph)
+    edges = room.starts
+    if rng.random() < 0.5:
+        room, words = Room(room.copies + rng.randint(0, 4), *[edges + rng.randint(0, 4)] * 3), words + rng.randint(0, 20)
+    for _ in range(rng.choice((0, 0, 0, 1, 1, 2))):
+        kind = rng.choice(("list", "words", "copies", "copies", "edges", "edges", "edges", "30"))
+        if kind == "list":
+            path_list = damaged_list(rng, design, paths)
+        elif kind == "words":
+            words = max(0, words - rng.choice((1, 1, 16, 30)))
+        elif kind == "copies":
+            room = room._replace(copies=max(0, room.copies - rng.choice((1, 1, 2, 5))))
+        elif kind == "edges":
+            room = Room(room.copies, *[max(0, room.starts - rng.choice((1, 1, 2, 5)))] * 3)
+        else:
+            lengths = list(room)
+            lengths[rng.randint(1, 3)] += rng.choice((1, 2))
+            room = Room(*lengths)
+    series.add(where, path_list, room, min(words, SCRATCH), given)
+
+
+def random_cases(rng, count):
+    for number in range(count):
+        design = random_design(rng) if number % 8 else random_design(rng, 11, 20)
+        series = Series(design)
+        foreign = rng.random() < 0.35
+        for step in range(rng.randint(2, 7)):
+            where, given = HELD, None
+            if foreign and (step == 0 or rng.random() < 0.3):
+                where, given = GIVEN, random_foreign_graph(rng, design)
+                if rng.random() < 0.35:
+                    given = damage_graph(rng, given)
+                if rng.random() < 0.05:
+                    given = given._replace(ends=list(given.ends) + [0])
+            elif rng.random() < 0.1:
+                where = DESIGN
+            random_removal(rng, series, where, given)
+        yield series
+
+
+# ---- The files ------------------------------------------------------------------------------
+
+def blocks(all_series):
+    """The series in blocks, each begun by its count and filled up with zeros."""
+    found, held, size = [], [], 0
+    for series in all_series:
+        data = series.packed()
+        assert len(data) + 4 <= expected.BUFFER, len(data)
+        if size + len(data) + 4 > expected.BUFFER:
+            found.append(held)
+            held, size = [], 0
+        held.append(data)
+        size += len(data)
+    found.append(held)
+    assert len(found) <= 8
+    packed = [walker.write_number(len(block)) + b"".join(block) for block in found]
+    return b"".join(block.ljust(expected.BUFFER, b"\0") for block in packed[:-1]) + packed[-1]
+
+
+def main():
+    all_series = [series for cases in (marked, adversarial, rooms_above_the_limits, unfit_designs, unfit_lists_and_graphs)
+                  for series in cases()]
+    all_series += random_cases(random.Random(7), 700)
+    refusals = [refusal for series in all_series for refusal in series.refusals]
+    assert set(NUMBERS) == {refusal[0] for refusal in refusals if refusal}, set(refusals)
+    stdin = blocks(all_series)
+    stdout = "".join(line + "\n" for series in all_series for line in series.lines)
+    expected.keep("removal_cases", stdin, stdout.encode())
+    print("removal_cases: %d series, %d removals, %d refused" % (len(all_series), len(refusals), sum(map(bool, refusals))))
+
+
+if __name__ == "__main__":
+    main()

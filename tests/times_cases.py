@@ -1,0 +1,258 @@
+#!/usr/bin/env python3
+"""The cases of crates/times_cases and what they must print.
+
+python3 tests/times_cases.py           writes crates/times_cases/stdin and stdout
+python3 tests/times_cases.py --check   says whether the two files are what it would write
+
+Every expected answer is what tests/walker.py, the separate program, finds on all paths of a graph, or refuses it with.
+A graph goes in as packed numbers, its slices each by itself, so that they need not belong together
+(crates/times_cases/src/main.rt).
+"""
+import random
+
+import expected
+import walker
+from decks import A_EDGES, MARKED, deck_of, random_design, random_foreign_graph, random_paths
+
+TABLE = 4200                # the program's
+BLOCKS = 2                  # the program's
+NUMBERS = (30, 10, 12, 13, 14, 25, 32)     # 11 takes longer slices: unfit_cases has it
+SLICES = ("starts", "ends", "delays", "copy_nodes", "copy_starts", "copy_ends", "names")
+
+
+def printed(k):
+    return k < 64 or k % 512 == 511
+
+
+def packed_slice(numbers):
+    """How many numbers follow, how many more there are, by how much each of these rises, the numbers."""
+    best = (len(numbers), 0)
+    for rise in (0, 1):
+        stored = len(numbers)
+        while stored > 1 and numbers[stored - 1] == numbers[stored - 2] + rise:
+            stored -= 1
+        best = min(best, (stored, rise))
+    stored, rise = best
+    return [stored, len(numbers) - stored, rise, *numbers[:stored]]
+
+
+class Given:
+    """n, T, a node, a design's slices, a graph's, and the lengths of the slices for times and for records."""
+
+    def __init__(self, design, graph, allowed, node):
+        self.nodes, self.allowed, self.node = design.nodes, allowed, node
+        self.starts, self.ends, self.delays = list(design.starts), list(design.ends), list(design.delays)
+        self.copy_nodes, self.names = list(graph.copy_nodes), list(graph.design_edges)
+        self.copy_starts, self.copy_ends = list(graph.starts), list(graph.ends)
+        self.rooms = [len(self.copy_nodes)] * 3
+        self.places = [self.nodes] * 4
+
+    def packed(self):
+        numbers = [self.nodes, self.allowed, self.node, *self.rooms, *self.places]
+        for name in SLICES:
+            part = getattr(self, name)
+            assert len(part) <= TABLE
+            numbers += packed_slice([walker.pack_delay(delay) for delay in part] if name == "delays" else part)
+        return b"".join(walker.write_number(number) for number in numbers)
+
+
+# ---- What the program prints ---------------------------------------------------------------
+
+def refused_line(refusal):
+    return "refused %d at %d\n" % refusal
+
+
+def times_line(times):
+    return "none\n" if times is None else "%d %d %d\n" % tuple(times)
+
+
+class Seen:
+    """What the cases show, so that nothing is missing."""
+
+    def __init__(self):
+        self.times, self.record, self.records = set(), set(), set()
+        self.passed = self.none = self.past = self.own_slack = self.large = 0
+
+
+def lines(given, seen):
+    """What the program prints of a case, by the separate program."""
+    design = walker.Design(given.nodes, given.starts, given.ends, given.delays)
+    graph = walker.Graph(given.copy_nodes, given.copy_starts, given.copy_ends, given.names)
+    columns = [[0] * length for length in given.rooms]      # what the program lends, and a refusal leaves
+    try:
+        found = walker.times(design, graph, given.allowed, given.rooms)
+        columns = [[times[k] for times in found] for k in range(3)]
+        text = "".join("copy %d " % copy + times_line(times) for copy, times in enumerate(found) if printed(copy))
+        seen.passed += 1
+        seen.large += any(abs(time) > 2 ** 32 for times in found for time in times)
+    except walker.Refused as refused:
+        text = refused_line(refused.refusal)
+        seen.times.add(refused.refusal[0])
+    try:
+        record = walker.node_record(given.nodes, given.copy_nodes, *columns, given.node)
+        text += "record %d " % given.node + times_line(record)
+        seen.past += given.node >= given.nodes
+    except walker.Refused as refused:
+        text += refused_line(refused.refusal)
+        seen.record.add(refused.refusal[0])
+    try:
+        nodes = [node for node in range(given.nodes) if printed(node)]
+        records = walker.node_records(given.nodes, given.copy_nodes, *columns, given.places, nodes)
+        text += "".join("node %d " % node + times_line(record) for node, record in zip(nodes, records))
+        seen.none += None in records
+        seen.own_slack += any(record and record.slack != record.required - record.arrival for record in records)
+    except walker.Refused as refused:
+        text += refused_line(refused.refusal)
+        seen.records.add(refused.refusal[0])
+    return text
+
+
+# ---- Cases ---------------------------------------------------------------------------------
+
+def of_deck(deck, node):
+    return Given(deck.design, walker.true_graph(deck.design, deck.path_list), deck.allowed_time, node)
+
+
+def chain(delay, allowed, node):
+    """4,096 nodes, one after the other."""
+    design = walker.Design(4096, list(range(4095)), list(range(1, 4096)), [delay] * 4095)
+    return Given(design, walker.design_as_graph(design), allowed, node)
+
+
+def fixed():
+    for deck in MARKED.values():
+        for node in range(deck.design.nodes + 1):
+            yield of_deck(deck, node)
+    yield of_deck(MARKED["M1"], 4294967295)
+    for delay in (-1_000_000, -7, 0, 1_000_000):
+        for edge in range(4):
+            edges = [(start, end, delay if number == edge else old) for number, (start, end, old) in enumerate(A_EDGES)]
+            yield of_deck(deck_of(5, edges, [[1, 2]], 10), 2)
+    yield of_deck(deck_of(5, [(start, end, -old) for start, end, old in A_EDGES], [[1, 2]], 0), 2)
+    for delay, allowed, node in ((1_000_000, 0, 4095), (-1_000_000, 1_000_000_000, 4095), (-1_000_000, 0, 4096)):
+        yield chain(delay, allowed, node)
+
+
+def change_a_number(given, chance):
+    part = getattr(given, chance.choice(SLICES[3:]))
+    if part:
+        k = chance.randrange(len(part))
+        part[k] = max(0, chance.choice((part[k] - 1, part[k] + 1, part[k] + 2, chance.randrange(6))))
+
+
+def edge_count(given):
+    """By the shortest slice: an earlier damage may have made one longer."""
+    return min(len(getattr(given, name)) for name in SLICES[4:])
+
+
+def drop_an_edge(given, chance):
+    if edge_count(given):
+        k = chance.randrange(edge_count(given))
+        for name in SLICES[4:]:
+            del getattr(given, name)[k]
+
+
+def swap_or_repeat_an_edge(given, chance):
+    if edge_count(given) > 1:
+        k = chance.randrange(edge_count(given) - 1)
+        twice = chance.random() < 0.5
+        for name in SLICES[4:]:
+            part = getattr(given, name)
+            part[k:k + 2] = [part[k]] * 2 if twice else [part[k + 1], part[k]]
+
+
+def one_more_copy(given, chance):
+    given.copy_nodes.append(chance.choice((given.nodes - 1 if given.nodes else 0, given.nodes)))
+    given.rooms = [len(given.copy_nodes)] * 3
+
+
+def one_copy_less(given, chance):
+    if given.copy_nodes:
+        given.copy_nodes.pop()
+        given.rooms = [len(given.copy_nodes)] * 3
+
+
+def other_sizes(given, chance):
+    if chance.random() < 0.5:
+        given.rooms[chance.randrange(3)] += chance.choice((1, 2))
+    else:
+        getattr(given, chance.choice(SLICES[4:])).append(0)
+
+
+def other_places(given, chance):
+    k = chance.randrange(4)
+    given.places[k] = max(0, given.places[k] + chance.choice((-1, 1)))
+
+
+def damage_the_design(given, chance):
+    name = chance.choice(("10", "12", "13", "14", "25", "30"))
+    if name == "10":
+        given.nodes = 4097
+        given.places = [4097] * 4
+    elif name == "25":
+        given.allowed = 1_000_000_001
+    elif name == "30":
+        given.delays.append(0)
+    elif given.starts:
+        k = chance.randrange(len(given.ends))
+        if name == "12":
+            given.ends[k] = given.nodes
+        elif name == "13":
+            given.ends[k] = given.starts[k]
+        else:
+            given.delays[k] = chance.choice((1_000_001, -1_000_001))
+
+
+DAMAGES = (change_a_number, change_a_number, drop_an_edge, swap_or_repeat_an_edge, one_more_copy, one_copy_less, other_sizes,
+           other_places, damage_the_design)
+
+
+def random_given(chance):
+    """A graph of a design: the true graph of some listed paths, or one from elsewhere."""
+    design = random_design(chance, most_nodes=7, most_edges=10)
+    paths = random_paths(chance, design, 4) if design.starts else []
+    if chance.random() < 0.25:
+        graph = random_foreign_graph(chance, design)
+    else:
+        graph = walker.true_graph(design, walker.PathList([len(path) for path in paths], [edge for path in paths for edge in path]))
+    return Given(design, graph, chance.choice((0, 10, 1_000_000_000)), chance.randrange(design.nodes + 2))
+
+
+def cases():
+    yield from fixed()
+    chance = random.Random(32)
+    for _ in range(270):
+        yield random_given(chance)
+    for _ in range(840):
+        given = random_given(chance)
+        for _ in range(chance.choice((1, 1, 1, 2, 3))):
+            chance.choice(DAMAGES)(given, chance)
+        yield given
+
+
+def in_blocks(parts):
+    """The parts in the program's blocks, each with the count of its parts."""
+    blocks, rest = [], list(parts)
+    while rest:
+        count, size = 0, 5
+        while count < len(rest) and size + len(rest[count]) <= expected.BUFFER:
+            size += len(rest[count])
+            count += 1
+        blocks.append(walker.write_number(count) + b"".join(rest[:count]))
+        rest = rest[count:]
+    assert len(blocks) == BLOCKS, [len(block) for block in blocks]
+    return b"".join(block.ljust(expected.BUFFER, b"\0") for block in blocks[:-1]) + blocks[-1]
+
+
+def main():
+    seen = Seen()
+    all_cases = list(cases())
+    text = "".join(lines(given, seen) for given in all_cases)
+    assert set(NUMBERS) <= seen.times and {30, 10} <= seen.record and {30, 10} <= seen.records
+    assert min(seen.none, seen.past, seen.own_slack, seen.large) > 0
+    expected.keep("times_cases", in_blocks([given.packed() for given in all_cases]), text.encode())
+    print("times_cases: %d graphs, %d of them pass" % (len(all_cases), seen.passed))
+
+
+if __name__ == "__main__":
+    main()
