@@ -22,11 +22,11 @@ use Rattle.timing.proofs.Verdicts.{then-passed, unless-passed}
 use Rattle.design.proofs.Laws.{length-cut}
 use Rattle.jaqhweni.specs.Small.{SmallRefusal, SmallGraph, Small}
 
-small-then : (v w : Verdict) → Small v → (v ≡ Passed → Small w) → Small (v then w)
+pub small-then : (v w : Verdict) → Small v → (v ≡ Passed → Small w) → Small (v then w)
 small-then Passed w a b = b refl
 small-then (Refused x) w a b = a
 
-small-unless : (k : ℕ) → k ≤ 36 → (fit : Bool) → Small (unless k fit)
+pub small-unless : (k : ℕ) → k ≤ 36 → (fit : Bool) → Small (unless k fit)
 small-unless k h true = tt
 small-unless k h false = (h, omega arith)
 
