@@ -3,3 +3,4 @@ pub mod Small
 pub mod DeckLaws
 pub mod ReadLaws
 pub mod ProgramLaws
+pub mod SmallProgram

@@ -26,7 +26,7 @@ pub program-long : (s : List ℕ) → 65536 < length s → program s ≡ refused
 unfolding program
 program-long s h = rw (lt-leb (length s) 65536 h)
 
-program-short : (s : List ℕ) → length s ≤ 65536 → program s ≡ programFrom (parsed (readDeck s programTables))
+pub program-short : (s : List ℕ) → length s ≤ 65536 → program s ≡ programFrom (parsed (readDeck s programTables))
 unfolding program
 program-short s h = rw (le-leb (length s) 65536 h)
 

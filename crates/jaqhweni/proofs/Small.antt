@@ -38,13 +38,13 @@ small-first {A} k h bad i (x ∷ xs) l = go (bad x) (small-first k h bad (suc i)
     go true r = (h, omega arith)
     go false r = r
 
-small-sizes : (a b c : ℕ) → Small (sameSizes a b c)
+pub small-sizes : (a b c : ℕ) → Small (sameSizes a b c)
 small-sizes a b c = small-unless 30 (omega arith) (eqb a b && eqb a c)
 
 passes-le : (k a b : ℕ) → unless k (leb a b) ≡ Passed → a ≤ b
 passes-le k a b e = leb→le a b (holds (leb a b) (unless-passed k (leb a b) e))
 
-small-design : (D : Design) → Small (designTests D)
+pub small-design : (D : Design) → Small (designTests D)
 unfolding designTests
 small-design D =
     let ks = upto (length (D .starts)) 0 in
@@ -56,7 +56,7 @@ small-design D =
     small-then (firstBad 12 (strays D) 0 ks) (firstBad 13 (falls D) 0 ks then firstBad 14 (tooSlow D) 0 ks) (small-first 12 (omega arith) (strays D) 0 ks few)
     (λ e. small-then (firstBad 13 (falls D) 0 ks) (firstBad 14 (tooSlow D) 0 ks) (small-first 13 (omega arith) (falls D) 0 ks few) (λ e. small-first 14 (omega arith) (tooSlow D) 0 ks few)))
 
-small-list : (D : Design) (L : PathList) → Small (listTests D L)
+pub small-list : (D : Design) (L : PathList) → Small (listTests D L)
 unfolding listTests
 small-list D L =
     let K = pathsOf L in
@@ -70,7 +70,7 @@ small-list D L =
     small-then (firstBad 22 isNil 0 K) (firstBad 23 named 0 K then firstBad 24 joined 0 K) (small-first 22 (omega arith) isNil 0 K few)
     (λ e. small-then (firstBad 23 named 0 K) (firstBad 24 joined 0 K) (small-first 23 (omega arith) named 0 K few) (λ e. small-first 24 (omega arith) joined 0 K few)))
 
-small-scratch : (D : Design) (G : Graph) (L : PathList) (words : ℕ) → Small (scratchTest D G L words)
+pub small-scratch : (D : Design) (G : Graph) (L : PathList) (words : ℕ) → Small (scratchTest D G L words)
 unfolding scratchTest
 small-scratch D G L words = small-unless 31 (omega arith) (leb (16 * (candidates D G L + length (L .edges) + length (G .edges))) words)
 
@@ -111,7 +111,7 @@ early-eight (Refused x) l g o t u f s w = refl
 early-eight Passed (Refused x) g o t u f s w = refl
 early-eight Passed Passed g o t u f s w = early-six g o t u f s w
 
-small-list-sizes : (L : PathList) → Small (listSizes L)
+pub small-list-sizes : (L : PathList) → Small (listSizes L)
 small-list-sizes L = small-unless 30 (omega arith) (eqb (sum (L .lengths)) (length (L .edges)))
 
 pub small-from-design : (D : Design) (r : Removal) → SmallGraph (graphAnswer (removeFromDesign D r))

@@ -1,8 +1,11 @@
 -- Refusals and counts that fit one number of 64 bits.
-use Prim.Native.Nat.{ℕ, _≤_}
+use Prim.Native.Nat.{ℕ, _≤_, _<_}
 use Rattle.timing.specs.declared.Refusal.{Refusal}
 use Rattle.timing.specs.declared.Verdict.{Verdict}
 use Rattle.timing.specs.declared.Verdict.the-variants.{Passed, Refused}
+use Rattle.timing.specs.declared.Written.{Written}
+use Rattle.timing.specs.declared.Written.the-variants.{End}
+use Rattle.timing.specs.declared.Written.the-variants.{Refused as NotWritten}
 use Rattle.timing.specs.declared.GraphMade.{GraphMade}
 use Rattle.timing.specs.declared.GraphMade.the-variants.{Counts}
 use Rattle.timing.specs.declared.GraphMade.the-variants.{Refused as NoGraph}
@@ -17,3 +20,7 @@ Small (Refused r) = SmallRefusal r
 abbrev pub SmallGraph : GraphMade → Type 0
 SmallGraph (Counts copies edges) = (copies ≤ 16384) × (edges ≤ 65536)
 SmallGraph (NoGraph r) = SmallRefusal r
+
+abbrev pub SmallWritten : Written → Type 0
+SmallWritten (End end) = end < 9223372036854775808
+SmallWritten (NotWritten r) = SmallRefusal r

@@ -5,15 +5,16 @@ ghost use Prim.Native.Nat.{_≤_, _<_};
 ghost use lib.IntN.{pos, negℤ};
 ghost use lib.ListN.{length};
 ghost use Rattle.timing.specs.Graphs.{design};
-ghost use Rattle.timing.specs.Calls.{graphSlices, lentRemoval, removeFromDesign, removeFromGraph, graphAnswer, nodesAfter, startsAfter, endsAfter, namesAfter, scratchAfter, testTimes, arrivalsAfter, requiredsAfter, slacksAfter};
+ghost use Rattle.timing.specs.Calls.{graphSlices, lentRemoval, removeFromDesign, removeFromGraph, graphAnswer, nodesAfter, startsAfter, endsAfter, namesAfter, scratchAfter, testTimes, arrivalsAfter, requiredsAfter, slacksAfter, cNumber, cCall, cRoom};
 ghost use Rattle.jaqhweni.specs.Numbers.{refusalNumber, graphNumber, verdictNumber};
-ghost use Rattle.jaqhweni.specs.Small.{SmallRefusal, SmallGraph, Small};
+ghost use Rattle.jaqhweni.specs.Small.{SmallRefusal, SmallGraph, SmallWritten, Small};
 
 mod true_graph;
 
 use timing::GraphMade;
 use timing::Refusal;
 use timing::Verdict;
+use timing::Written;
 
 fn positive(x: usize) -> i64
     requires { ⌜ x < 9223372036854775808 ⌝ }
@@ -54,6 +55,26 @@ fn verdict_number(v: Verdict) -> i64
         Verdict::Passed => 0,
         Verdict::Refused(r) => refusal_number(r),
     }
+}
+
+fn written_number(w: Written) -> i64
+    requires { ⌜ SmallWritten w ⌝ }
+    ensures { λ x. ⌜ x ≡ cNumber w ⌝ }
+{
+    match w {
+        Written::End(end) => positive(end),
+        Written::Refused(r) => refusal_number(r),
+    }
+}
+
+// The packed true graph of a packed deck, into the room. Document 01's C call.
+#[no_mangle]
+pub extern "C" fn jaqhweni_true_graph(deck: &[u8], room: &mut [u8]) -> i64
+    ensures { λ r. ⌜ r ≡ cCall (now (deck .entry)) (now (room .entry)) ⌝ }
+    ensures { λ r. ⌜ now (room .exit) ≡ cRoom (now (deck .entry)) (now (room .entry)) ⌝ }
+{
+    let written = true_graph::pack(deck, room);
+    written_number(written)
 }
 
 // The true graph of a design and a list of paths.

@@ -101,7 +101,7 @@ fn pack_graph(
 }
 
 // Reads a deck and packs its true graph into the room. 4 is tested before all.
-pub(crate) fn pack_deck(
+fn pack_deck(
     deck: &[u8],
     starts: &mut [u32],
     ends: &mut [u32],
@@ -147,4 +147,60 @@ pub(crate) fn pack_deck(
             room,
         ),
     }
+}
+
+// The same with the program's room and scratch.
+fn pack_in_tables(
+    deck: &[u8],
+    starts: &mut [u32],
+    ends: &mut [u32],
+    delays: &mut [i32],
+    listed: &mut [u32],
+    lengths: &mut [u32],
+    room: &mut [u8],
+) -> Written
+    requires { ⌜ (length (now starts) ≡ 1024) × (length (now ends) ≡ 1024) × (length (now delays) ≡ 1024) × (length (now listed) ≡ 1024) × (length (now lengths) ≡ 256) ⌝ }
+    ensures { λ r. ⌜ r ≡ cWritten (program (now (deck .entry))) (now (room .entry)) ⌝ }
+    ensures { λ r. ⌜ now (room .exit) ≡ roomAfterC (program (now (deck .entry))) (now (room .entry)) ⌝ }
+{
+    let mut nodes = [0; 512];
+    let mut from = [0; 2048];
+    let mut to = [0; 2048];
+    let mut via = [0; 2048];
+    let mut scratch = [0; 16384];
+    pack_deck(
+        deck,
+        starts,
+        ends,
+        delays,
+        listed,
+        lengths,
+        &mut nodes,
+        &mut from,
+        &mut to,
+        &mut via,
+        &mut scratch,
+        room,
+    )
+}
+
+// Packs the true graph of a packed deck into the room, in the program's tables.
+pub(crate) fn pack(deck: &[u8], room: &mut [u8]) -> Written
+    ensures { λ r. ⌜ r ≡ cWritten (program (now (deck .entry))) (now (room .entry)) ⌝ }
+    ensures { λ r. ⌜ now (room .exit) ≡ roomAfterC (program (now (deck .entry))) (now (room .entry)) ⌝ }
+{
+    let mut starts = [0; 1024];
+    let mut ends = [0; 1024];
+    let mut delays = [0; 1024];
+    let mut listed = [0; 1024];
+    let mut lengths = [0; 256];
+    pack_in_tables(
+        deck,
+        &mut starts,
+        &mut ends,
+        &mut delays,
+        &mut listed,
+        &mut lengths,
+        room,
+    )
 }
