@@ -22,10 +22,10 @@ One that is not refused puts its result in place of the graph held. A slice is h
 then repeated, and the numbers; so slices need not belong together.
 
 Before each removal, place k of the room's slice j (nodes 0, from 1, to 2, via 3) and of the scratch (4) is set to
-3,000,000,000 + 100,000,000 j + k mod 65,536. Output for each removal: `copies C edges E`, or the refusal as the deck program
-prints it; where C + E is at most 40, a line `nodes` with the node of each copy and a line `edges` with start copy, end copy and
-design edge of each edge; and a line `sums` with a sum over each of the four slices and the scratch, as lent, from end to end:
-from 1, for each word w, h becomes (1,000,003 h + w) mod 4,294,967,291.
+3,000,000,000 + 100,000,000 j + k mod 65,536. Output for each removal: a line `copies C edges E`, or the refusal as the deck
+program prints it, and a line for each of the four slices and the scratch with its name and a sum over all of it, as lent: from
+1, for each word w, h becomes (1,000,003 h + w) mod 4,294,967,291. Where C + E is at most 40, the lines of the four slices go on
+with the words of the result.
 """
 import random
 
@@ -99,15 +99,13 @@ class Series:
     def say(self, refusal, result, room, scratch):
         if refusal is None:
             self.lines.append("copies %d edges %d" % (len(result.copy_nodes), len(result.starts)))
-            if len(result.copy_nodes) + len(result.starts) <= PRINTED:
-                edges = zip(result.starts, result.ends, result.design_edges)
-                self.lines.append("nodes" + "".join(" %d" % node for node in result.copy_nodes))
-                self.lines.append("edges" + "".join(" %d %d %d" % edge for edge in edges))
         else:
             self.lines.append("refused %d at %d" % refusal)
+        small = sum(map(len, result[:2])) <= PRINTED
         after = [walker.lent_after(pattern(which, length), part) for which, (length, part) in enumerate(zip(room, result))]
         after.append(walker.scratch_after(pattern(4, scratch), refusal))
-        self.lines.append("sums" + "".join(" %d" % checksum(words) for words in after))
+        for name, words, part in zip(("nodes", "from", "to", "via", "scratch"), after, (*result, ())):
+            self.lines.append("%s %d" % (name, checksum(words)) + "".join(" %d" % word for word in part if small))
         self.refusals.append(refusal)
 
     def packed(self):

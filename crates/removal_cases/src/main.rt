@@ -85,9 +85,6 @@ fn run_block() {
 }
 
 fn main() {
-    let mut block: u32 = 0;
-    while block < 8 {
-        run_block();
-        block += 1;
-    }
+    run_block();
+    run_block();
 }

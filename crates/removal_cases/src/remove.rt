@@ -101,9 +101,10 @@ fn remove(
     )
 }
 
-// The same, with the parts of the words.
-fn remove_parts(
-    words: &[u32],
+// The same, with the parts of the words; prints all that was lent, and answers what is held
+// afterwards.
+fn remove_and_say(
+    words: &mut [u32],
     d: Design,
     l: List,
     held: Held,
@@ -112,10 +113,10 @@ fn remove_parts(
     to: &mut [u32],
     via: &mut [u32],
     scratch: &mut [u32],
-) -> GraphMade {
+) -> Held {
     let mut delays = [0i32; 16400];
     let m = unpack_delays(words, d.codes, &mut delays);
-    remove(
+    let made = remove(
         d.nodes,
         part(words, tables::STARTS, d.starts),
         part(words, tables::ENDS, d.ends),
@@ -132,38 +133,9 @@ fn remove_parts(
         to,
         via,
         scratch,
-    )
-}
-
-// Prints all that is lent, and answers what is held afterwards.
-fn finish(
-    made: GraphMade,
-    held: Held,
-    words: &mut [u32],
-    nodes: &[u32],
-    from: &[u32],
-    to: &[u32],
-    via: &[u32],
-    scratch: &[u32],
-) -> Held {
+    );
     say(made, nodes, from, to, via, scratch);
     keep(made, held, nodes, from, to, via, words)
-}
-
-// Removes with room and scratch that hold the pattern, and answers what is held afterwards.
-fn remove_and_finish(
-    words: &mut [u32],
-    d: Design,
-    l: List,
-    held: Held,
-    nodes: &mut [u32],
-    from: &mut [u32],
-    to: &mut [u32],
-    via: &mut [u32],
-    scratch: &mut [u32],
-) -> Held {
-    let made = remove_parts(words, d, l, held, nodes, from, to, via, scratch);
-    finish(made, held, words, nodes, from, to, via, scratch)
 }
 
 // The same, with the room and the scratch lent as long as the case says.
@@ -178,7 +150,7 @@ pub fn lend(words: &mut [u32], d: Design, l: List, held: Held, sizes: Sizes) -> 
     let c = set_pattern(3200000000, sizes.to, &mut to);
     let e = set_pattern(3300000000, sizes.via, &mut via);
     let k = set_pattern(3400000000, sizes.scratch, &mut scratch);
-    remove_and_finish(
+    remove_and_say(
         words,
         d,
         l,

@@ -1,8 +1,8 @@
 use native.Mathlib.Omega.{arith}
 use lib.ListN.{length-take}
 use borrow.Author.Needs.{needs}
-use Rattle.removal_cases.proofs.remove.remove_parts.Statement.{statement}
-use Rattle.removal_cases.proofs.remove.remove_parts.Tie as tie
+use Rattle.removal_cases.proofs.remove.remove_and_say.Statement.{statement}
+use Rattle.removal_cases.proofs.remove.remove_and_say.Tie as tie
 
 slice-aggregate-unpack-delays : tie.Need-slice-aggregate-unpack-delays
 slice-aggregate-unpack-delays c = search needs
@@ -43,6 +43,12 @@ part-requires-8 c κs = search needs
 remove-requires : tie.Need-remove-requires
 remove-requires c κs = search needs
 
+say-requires : tie.Need-say-requires
+say-requires c κs = search needs
+
+keep-requires : tie.Need-keep-requires
+keep-requires c κs = search needs
+
 same-length : tie.Need-same-length
 same-length c = search needs
 
@@ -58,11 +64,14 @@ same-length-4 c = search needs
 same-length-5 : tie.Need-same-length-5
 same-length-5 c = search needs
 
+same-length-6 : tie.Need-same-length-6
+same-length-6 c = search needs
+
 returns : tie.Need-returns
 returns c = search needs
 
-pub remove-parts-spec : {M : Type 1} → statement M
-remove-parts-spec =
+pub remove-and-say-spec : {M : Type 1} → statement M
+remove-and-say-spec =
     tie.close
     (tie.spec
     slice-aggregate-unpack-delays
@@ -78,9 +87,12 @@ remove-parts-spec =
     part-requires-7
     part-requires-8
     remove-requires
+    say-requires
+    keep-requires
     same-length
     same-length-2
     same-length-3
     same-length-4
     same-length-5
+    same-length-6
     returns)
