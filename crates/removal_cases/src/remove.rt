@@ -113,10 +113,10 @@ pub fn lend(
     held: Held,
     sizes: Sizes,
 ) -> Held {
-    let mut nodes = [0u32; 16400];
-    let mut from = [0u32; 65600];
-    let mut to = [0u32; 65600];
-    let mut via = [0u32; 65600];
+    let mut nodes = [0u32; 2080];
+    let mut from = [0u32; 2080];
+    let mut to = [0u32; 2080];
+    let mut via = [0u32; 2080];
     let mut scratch = [0u32; 32768];
     let a = set_pattern(3000000000, sizes.nodes, &mut nodes);
     let b = set_pattern(3100000000, sizes.from, &mut from);

@@ -10,7 +10,7 @@ use cases::number;
 use cases::unpack;
 use timing::GraphMade;
 
-pub const WORDS: usize = 271640;
+pub const WORDS: usize = 81080;
 
 pub const STARTS: usize = 0;
 
@@ -26,9 +26,9 @@ pub const NODES: usize = 58440;
 
 pub const FROM: usize = 74840;
 
-pub const TO: usize = 140440;
+pub const TO: usize = 76920;
 
-pub const VIA: usize = 206040;
+pub const VIA: usize = 79000;
 
 const EDGE_ROOM: usize = 16400;
 
@@ -38,7 +38,7 @@ const PATH_ROOM: usize = 1040;
 
 const COPY_ROOM: usize = 16400;
 
-const COPY_EDGE_ROOM: usize = 65600;
+const COPY_EDGE_ROOM: usize = 2080;
 
 // n and the lengths of a design's slices, and the place behind them.
 pub struct Design {
