@@ -271,7 +271,7 @@ def adversarial():
 
 
 def widest_rooms():
-    """All of the program's room. That 16,384 and 65,536 bound a larger one is not run here: such slices make a slow proof."""
+    """All of the program's room. Rooms above 16,384 and 65,536 are run by tests/against_walker.py: such slices make a slow proof."""
     series = Series(MARKED["M6"].design)
     assert series.add(DESIGN, MARKED["M6"].path_list, Room(COPY_ROOM, *[EDGE_ROOM] * 3), SCRATCH) is None
     assert series.add(HELD, MARKED["M6"].path_list, Room(COPY_ROOM, *[EDGE_ROOM] * 3), 1024) is None
