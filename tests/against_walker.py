@@ -128,7 +128,7 @@ def of_removal_cases():
     """All fixed series of crates/removal_cases."""
     plain, removal_cases.Series = removal_cases.Series, Recorded
     try:
-        for cases in (removal_cases.marked, removal_cases.adversarial, removal_cases.rooms_above_the_limits,
+        for cases in (removal_cases.marked, removal_cases.adversarial, removal_cases.widest_rooms,
                       removal_cases.unfit_designs, removal_cases.unfit_lists_and_graphs):
             for series in cases():
                 yield from ((cases.__name__, request) for request in series.requests)
@@ -154,6 +154,22 @@ def of_unfit_graphs():
         design = Design(given.nodes, given.starts, given.ends, given.delays)
         graph = Graph(given.copy_nodes, given.copy_starts, given.copy_ends, given.names)
         yield "graphs", times_request("times", design, graph, given.allowed, given.rooms)
+
+
+def rooms_above_the_limits():
+    """Room "is the lent length, at most 16,384 and 65,536": 65,536 result edges fit 65,600 places, and 65,537 do not."""
+    marked, paths, places = decks.MARKED["M6"].design, decks.MARKED["M6"].path_list, 65600
+    series = Recorded(marked, "M6 in a large room")
+    for copies, edges in ((16384, 65536), (16385, 65537), (16400, places)):
+        assert series.add(DESIGN, paths, Room(copies, edges, edges, edges), 1024) is None
+    assert series.add(GIVEN, paths, Room(6, 4, 4, 4), 1024, Graph([], *[[0] * 65537] * 3)) == (32, 0)
+    yield from (("rooms above the limits", request) for request in series.requests)
+    into, tails = 1820, 35
+    for extra, refusal in ((16, None), (17, (34, 0))):
+        series = Recorded(hub(into, tails + extra, []).design, "a hub with %d edges out" % (tails + extra))
+        paths = decks.path_list_of([[0, into + j] for j in range(tails)])
+        assert series.add(DESIGN, paths, Room(64, *[places] * 3), 32768) == refusal
+        yield from (("rooms above the limits", request) for request in series.requests)
 
 
 def at_the_limits():
@@ -287,7 +303,7 @@ def plan(options, count):
     over = time.monotonic() + options.seconds
     rng = random.Random(options.seed)
     if not options.no_calls:
-        for cases in (of_removal_cases, of_unfit_graphs, at_the_limits):
+        for cases in (of_removal_cases, of_unfit_graphs, rooms_above_the_limits, at_the_limits):
             yield from cases()
     for number, data in enumerate(decks.deck_files(options.seed, count)):
         if time.monotonic() > over:

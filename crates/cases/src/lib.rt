@@ -67,9 +67,9 @@ pub fn unpack(codes: &[u32], delays: &mut [i32])
     ensures { λ r. ⌜ now (delays .exit) ≡ sets (now (delays .entry)) 0 (map delayOf (take (min (length (now (codes .entry))) (length (now (delays .entry)))) (now (codes .entry)))) ⌝ }
 {
     let len = least(codes.len(), delays.len());
-    let mut k = 0;
-    while k < len {
-        delays[k] = unpack_delay(codes[k]);
-        k += 1;
+    let mut i = 0;
+    while i < len {
+        delays[i] = unpack_delay(codes[i]);
+        i += 1;
     }
 }

@@ -166,13 +166,13 @@ pub fn look_numbers(s: &[u8], at: usize, k: usize) -> Looked
     ensures { λ r. ⌜ r ≡ looked (repeated k (number (now (s .entry))) at) ⌝ }
 {
     let mut here = at;
-    let mut i = 0;
-    while i < k {
+    let mut n = 0;
+    while n < k {
         let r = read_number(s, here);
         match r {
             NumberRead::Value { value: _, next } => {
                 here = next;
-                i += 1;
+                n += 1;
             }
             NumberRead::Refused(e) => {
                 return Looked::Refused(e);

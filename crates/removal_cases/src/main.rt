@@ -7,7 +7,6 @@ mod tables;
 use libc::STDIN_FILENO;
 use packed::take_number;
 use remove::lend;
-use remove::read_sizes;
 use tables::Design;
 use tables::Held;
 use tables::Step;
@@ -16,6 +15,8 @@ use tables::hold_given;
 use tables::nothing;
 use tables::read_design;
 use tables::read_list;
+use tables::read_sizes;
+use tables::unpack_delays;
 
 // What a removal works on: 0 the design, 1 what is held, 2 the graph at a place.
 fn hold(choice: u32, s: &[u8], at: usize, held: Held, words: &mut [u32]) -> Step {
@@ -32,12 +33,12 @@ fn hold(choice: u32, s: &[u8], at: usize, held: Held, words: &mut [u32]) -> Step
 }
 
 // Runs the removal at a place.
-fn run_removal(s: &[u8], before: Step, d: Design, words: &mut [u32]) -> Step {
+fn run_removal(s: &[u8], before: Step, d: Design, delays: &[i32], words: &mut [u32]) -> Step {
     let choice = take_number(s, before.next);
     let start = hold(choice.value, s, choice.next, before.held, words);
     let l = read_list(s, start.next, words);
     let sizes = read_sizes(s, l.next);
-    let held = lend(words, d, l, start.held, sizes);
+    let held = lend(words, d, delays, l, start.held, sizes);
     Step {
         held,
         next: sizes.next,
@@ -45,15 +46,15 @@ fn run_removal(s: &[u8], before: Step, d: Design, words: &mut [u32]) -> Step {
 }
 
 // Runs the removals of a series, and answers the place behind them.
-fn run_removals(s: &[u8], at: usize, d: Design, words: &mut [u32]) -> usize {
-    let count = take_number(s, at);
+fn run_removals(s: &[u8], d: Design, delays: &[i32], words: &mut [u32]) -> usize {
+    let count = take_number(s, d.next);
     let mut step = Step {
         held: nothing(),
         next: count.next,
     };
     let mut left = count.value;
     while 0 < left {
-        step = run_removal(s, step, d, words);
+        step = run_removal(s, step, d, delays, words);
         left -= 1;
     }
     step.next
@@ -62,8 +63,10 @@ fn run_removals(s: &[u8], at: usize, d: Design, words: &mut [u32]) -> usize {
 // Runs the series at a place, and answers the place behind it.
 fn run_series(s: &[u8], at: usize) -> usize {
     let mut words = [0u32; WORDS];
+    let mut delays = [0i32; 16400];
     let d = read_design(s, at, &mut words);
-    run_removals(s, d.next, d, &mut words)
+    let m = unpack_delays(&words, d.codes, &mut delays);
+    run_removals(s, d, &delays[..m], &mut words)
 }
 
 // Runs the series of a block.
@@ -85,9 +88,6 @@ fn run_block() {
 }
 
 fn main() {
-    let mut block: u32 = 0;
-    while block < 8 {
-        run_block();
-        block += 1;
-    }
+    run_block();
+    run_block();
 }

@@ -39,79 +39,70 @@ fn checksum(words: &[u32]) -> u64 {
     h
 }
 
-fn say_sum(words: &[u32]) {
-    text(b" ");
-    print::number(checksum(words));
-}
-
-fn say_sums(nodes: &[u32], from: &[u32], to: &[u32], via: &[u32], scratch: &[u32]) {
-    text(b"sums");
-    say_sum(nodes);
-    say_sum(from);
-    say_sum(to);
-    say_sum(via);
-    say_sum(scratch);
-    text(b"\n");
-}
-
 fn say_word(word: u32) {
     text(b" ");
     print::number(word as u64);
 }
 
-fn say_nodes(copies: usize, nodes: &[u32]) {
-    let len = least(copies, nodes.len());
-    text(b"nodes");
+// The first words of a slice, as many as the count says.
+fn say_words(count: usize, words: &[u32]) {
+    let len = least(count, words.len());
     let mut k = 0;
     while k < len {
-        say_word(nodes[k]);
+        say_word(words[k]);
         k += 1;
     }
+}
+
+// A line: the sum over a slice, and its first words.
+fn say_slice(label: &[u8], count: usize, words: &[u32]) {
+    text(label);
+    print::number(checksum(words));
+    say_words(count, words);
     text(b"\n");
 }
 
-fn say_edges(edges: usize, from: &[u32], to: &[u32], via: &[u32]) {
-    let len = least(least(edges, from.len()), least(to.len(), via.len()));
-    text(b"edges");
-    let mut k = 0;
-    while k < len {
-        say_word(from[k]);
-        say_word(to[k]);
-        say_word(via[k]);
-        k += 1;
-    }
-    text(b"\n");
+// How many words of each slice are printed.
+struct Printed {
+    copies: usize,
+    edges: usize,
 }
 
-// The graph, if it has at most 40 copies and edges together.
-fn say_graph(copies: usize, edges: usize, nodes: &[u32], from: &[u32], to: &[u32], via: &[u32]) {
+// All of a graph that has at most 40 copies and edges together.
+fn shown(copies: usize, edges: usize) -> Printed {
     if copies <= 40 {
         if edges <= 40 - copies {
-            say_nodes(copies, nodes);
-            say_edges(edges, from, to, via);
+            return Printed { copies, edges };
         }
+    }
+    Printed {
+        copies: 0,
+        edges: 0,
     }
 }
 
-fn say_made(made: GraphMade, nodes: &[u32], from: &[u32], to: &[u32], via: &[u32]) {
+fn say_made(made: GraphMade) -> Printed {
     match made {
         GraphMade::Counts { copies, edges } => {
             text(b"copies ");
             print::number(copies as u64);
             text(b" edges ");
             print::number(edges as u64);
-            text(b"\n");
-            say_graph(copies, edges, nodes, from, to, via);
+            shown(copies, edges)
         }
         GraphMade::Refused(r) => {
             refused(r);
-            text(b"\n");
+            shown(0, 0)
         }
     }
 }
 
-// A removal's answer, the graph if it is small, and the sums.
+// A removal's answer, the graph if it is small, and a sum over each slice.
 pub fn say(made: GraphMade, nodes: &[u32], from: &[u32], to: &[u32], via: &[u32], scratch: &[u32]) {
-    say_made(made, nodes, from, to, via);
-    say_sums(nodes, from, to, via, scratch);
+    let c = say_made(made);
+    say_slice(b"\nnodes ", c.copies, nodes);
+    say_slice(b"from ", c.edges, from);
+    say_slice(b"to ", c.edges, to);
+    say_slice(b"via ", c.edges, via);
+    say_slice(b"scratch ", 0, scratch);
 }

@@ -1,110 +1,20 @@
 // One removal: on what is held, with a room and a scratch as long as the case says.
-ghost use Prim.Native.Nat.{_≤_};
-ghost use lib.ListN.{length};
 use crate::output::say;
 use crate::output::set_pattern;
 use crate::tables;
 use crate::tables::Design;
 use crate::tables::Held;
 use crate::tables::List;
+use crate::tables::Sizes;
 use crate::tables::keep;
 use crate::tables::part;
-use cases::least;
-use cases::unpack;
-use packed::take_number;
 use timing::GraphMade;
 
-// The lengths of the room's slices and of the scratch; and the place behind them.
-pub struct Sizes {
-    pub nodes: usize,
-    pub from: usize,
-    pub to: usize,
-    pub via: usize,
-    pub scratch: usize,
-    pub next: usize,
-}
-
-pub fn read_sizes(s: &[u8], at: usize) -> Sizes {
-    let a = take_number(s, at);
-    let b = take_number(s, a.next);
-    let c = take_number(s, b.next);
-    let d = take_number(s, c.next);
-    let e = take_number(s, d.next);
-    Sizes {
-        nodes: a.value as usize,
-        from: b.value as usize,
-        to: c.value as usize,
-        via: d.value as usize,
-        scratch: e.value as usize,
-        next: e.next,
-    }
-}
-
-// The delays of a design, and how many there are.
-fn unpack_delays(words: &[u32], count: usize, delays: &mut [i32]) -> usize
-    ensures { λ r. ⌜ r ≤ length (now (delays .entry)) ⌝ }
-{
-    let m = least(count, delays.len());
-    unpack(part(words, tables::CODES, m), delays);
-    m
-}
-
-fn remove(
-    n: u32,
-    starts: &[u32],
-    ends: &[u32],
-    delays: &[i32],
-    listed: &[u32],
-    lengths: &[u32],
-    any: bool,
-    old_nodes: &[u32],
-    old_from: &[u32],
-    old_to: &[u32],
-    old_via: &[u32],
-    nodes: &mut [u32],
-    from: &mut [u32],
-    to: &mut [u32],
-    via: &mut [u32],
-    scratch: &mut [u32],
-) -> GraphMade {
-    if any {
-        return removal::remove_from_graph(
-            n,
-            starts,
-            ends,
-            delays,
-            listed,
-            lengths,
-            old_nodes,
-            old_from,
-            old_to,
-            old_via,
-            nodes,
-            from,
-            to,
-            via,
-            scratch,
-        );
-    }
-    removal::remove_from_design(
-        n,
-        starts,
-        ends,
-        delays,
-        listed,
-        lengths,
-        nodes,
-        from,
-        to,
-        via,
-        scratch,
-    )
-}
-
-// The same, with the parts of the words.
-fn remove_parts(
+// The removal from what is held.
+fn from_graph(
     words: &[u32],
     d: Design,
+    delays: &[i32],
     l: List,
     held: Held,
     nodes: &mut [u32],
@@ -113,16 +23,13 @@ fn remove_parts(
     via: &mut [u32],
     scratch: &mut [u32],
 ) -> GraphMade {
-    let mut delays = [0i32; 16400];
-    let m = unpack_delays(words, d.codes, &mut delays);
-    remove(
+    removal::remove_from_graph(
         d.nodes,
         part(words, tables::STARTS, d.starts),
         part(words, tables::ENDS, d.ends),
-        &delays[..m],
+        delays,
         part(words, tables::LISTED, l.listed),
         part(words, tables::LENGTHS, l.lengths),
-        held.any,
         part(words, tables::NODES, held.nodes),
         part(words, tables::FROM, held.from),
         part(words, tables::TO, held.to),
@@ -135,25 +42,55 @@ fn remove_parts(
     )
 }
 
-// Prints all that is lent, and answers what is held afterwards.
-fn finish(
-    made: GraphMade,
-    held: Held,
-    words: &mut [u32],
-    nodes: &[u32],
-    from: &[u32],
-    to: &[u32],
-    via: &[u32],
-    scratch: &[u32],
-) -> Held {
-    say(made, nodes, from, to, via, scratch);
-    keep(made, held, nodes, from, to, via, words)
+fn from_design(
+    words: &[u32],
+    d: Design,
+    delays: &[i32],
+    l: List,
+    nodes: &mut [u32],
+    from: &mut [u32],
+    to: &mut [u32],
+    via: &mut [u32],
+    scratch: &mut [u32],
+) -> GraphMade {
+    removal::remove_from_design(
+        d.nodes,
+        part(words, tables::STARTS, d.starts),
+        part(words, tables::ENDS, d.ends),
+        delays,
+        part(words, tables::LISTED, l.listed),
+        part(words, tables::LENGTHS, l.lengths),
+        nodes,
+        from,
+        to,
+        via,
+        scratch,
+    )
 }
 
-// Removes with room and scratch that hold the pattern, and answers what is held afterwards.
-fn remove_and_finish(
+fn remove(
+    words: &[u32],
+    d: Design,
+    delays: &[i32],
+    l: List,
+    held: Held,
+    nodes: &mut [u32],
+    from: &mut [u32],
+    to: &mut [u32],
+    via: &mut [u32],
+    scratch: &mut [u32],
+) -> GraphMade {
+    if held.any {
+        return from_graph(words, d, delays, l, held, nodes, from, to, via, scratch);
+    }
+    from_design(words, d, delays, l, nodes, from, to, via, scratch)
+}
+
+// The same; prints all that was lent, and answers what is held afterwards.
+fn remove_and_say(
     words: &mut [u32],
     d: Design,
+    delays: &[i32],
     l: List,
     held: Held,
     nodes: &mut [u32],
@@ -162,25 +99,34 @@ fn remove_and_finish(
     via: &mut [u32],
     scratch: &mut [u32],
 ) -> Held {
-    let made = remove_parts(words, d, l, held, nodes, from, to, via, scratch);
-    finish(made, held, words, nodes, from, to, via, scratch)
+    let made = remove(words, d, delays, l, held, nodes, from, to, via, scratch);
+    say(made, nodes, from, to, via, scratch);
+    keep(made, held, nodes, from, to, via, words)
 }
 
 // The same, with the room and the scratch lent as long as the case says.
-pub fn lend(words: &mut [u32], d: Design, l: List, held: Held, sizes: Sizes) -> Held {
-    let mut nodes = [0u32; 16400];
-    let mut from = [0u32; 65600];
-    let mut to = [0u32; 65600];
-    let mut via = [0u32; 65600];
+pub fn lend(
+    words: &mut [u32],
+    d: Design,
+    delays: &[i32],
+    l: List,
+    held: Held,
+    sizes: Sizes,
+) -> Held {
+    let mut nodes = [0u32; 2080];
+    let mut from = [0u32; 2080];
+    let mut to = [0u32; 2080];
+    let mut via = [0u32; 2080];
     let mut scratch = [0u32; 32768];
     let a = set_pattern(3000000000, sizes.nodes, &mut nodes);
     let b = set_pattern(3100000000, sizes.from, &mut from);
     let c = set_pattern(3200000000, sizes.to, &mut to);
     let e = set_pattern(3300000000, sizes.via, &mut via);
     let k = set_pattern(3400000000, sizes.scratch, &mut scratch);
-    remove_and_finish(
+    remove_and_say(
         words,
         d,
+        delays,
         l,
         held,
         &mut nodes[..a],

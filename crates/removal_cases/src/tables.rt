@@ -1,19 +1,22 @@
 // All that a series reads and holds stands in one slice of words, in parts: so a function takes one
 // slice where it would take nine. A part has a place in the slice, and room for the longest that is
 // read into it.
+ghost use Prim.Native.Nat.{_≤_};
+ghost use lib.ListN.{length};
 use cases::Slice;
 use cases::fill;
 use cases::least;
+use cases::unpack;
 use packed::take_number;
 use timing::GraphMade;
 
-pub const WORDS: usize = 271640;
+pub const WORDS: usize = 81080;
 
 pub const STARTS: usize = 0;
 
 pub const ENDS: usize = 16400;
 
-pub const CODES: usize = 32800;
+const CODES: usize = 32800;
 
 pub const LISTED: usize = 49200;
 
@@ -23,9 +26,9 @@ pub const NODES: usize = 58440;
 
 pub const FROM: usize = 74840;
 
-pub const TO: usize = 140440;
+pub const TO: usize = 76920;
 
-pub const VIA: usize = 206040;
+pub const VIA: usize = 79000;
 
 const EDGE_ROOM: usize = 16400;
 
@@ -35,7 +38,7 @@ const PATH_ROOM: usize = 1040;
 
 const COPY_ROOM: usize = 16400;
 
-const COPY_EDGE_ROOM: usize = 65600;
+const COPY_EDGE_ROOM: usize = 2080;
 
 // n and the lengths of a design's slices, and the place behind them.
 pub struct Design {
@@ -50,6 +53,16 @@ pub struct Design {
 pub struct List {
     pub listed: usize,
     pub lengths: usize,
+    pub next: usize,
+}
+
+// The lengths of the room's slices and of the scratch; and the place behind them.
+pub struct Sizes {
+    pub nodes: usize,
+    pub from: usize,
+    pub to: usize,
+    pub via: usize,
+    pub scratch: usize,
     pub next: usize,
 }
 
@@ -110,6 +123,31 @@ pub fn read_list(s: &[u8], at: usize, words: &mut [u32]) -> List {
         lengths: b.len,
         next: b.next,
     }
+}
+
+pub fn read_sizes(s: &[u8], at: usize) -> Sizes {
+    let a = take_number(s, at);
+    let b = take_number(s, a.next);
+    let c = take_number(s, b.next);
+    let d = take_number(s, c.next);
+    let e = take_number(s, d.next);
+    Sizes {
+        nodes: a.value as usize,
+        from: b.value as usize,
+        to: c.value as usize,
+        via: d.value as usize,
+        scratch: e.value as usize,
+        next: e.next,
+    }
+}
+
+// The delays of a design, and how many there are.
+pub fn unpack_delays(words: &[u32], count: usize, delays: &mut [i32]) -> usize
+    ensures { λ r. ⌜ r ≤ length (now (delays .exit)) ⌝ }
+{
+    let m = least(count, delays.len());
+    unpack(part(words, CODES, m), delays);
+    m
 }
 
 pub fn nothing() -> Held {

@@ -14,10 +14,10 @@ use Rattle.cases.proofs.unpack.Statement.{statement}
 use Rattle.cases.proofs.unpack.Tie as tie
 
 abbrev Inv-loop : tie.InvT-loop
-Inv-loop codes delays₀ len k₀ delays k = (k ≤ len) × (len ≤ length codes) × (len ≤ length delays₀) × (length delays ≡ length delays₀) × (sets delays k (map delayOf (take (len - k) (drop k codes))) ≡ sets delays₀ 0 (map delayOf (take len codes)))
+Inv-loop codes delays₀ len i₀ delays i = (i ≤ len) × (len ≤ length codes) × (len ≤ length delays₀) × (length delays ≡ length delays₀) × (sets delays i (map delayOf (take (len - i) (drop i codes))) ≡ sets delays₀ 0 (map delayOf (take len codes)))
 
 abbrev μ-loop : tie.MeasureT-loop
-μ-loop codes delays₀ len k₀ delays k = len - k
+μ-loop codes delays₀ len i₀ delays i = len - i
 
 least-requires : tie.Need-least-requires Inv-loop μ-loop
 least-requires c κs = search needs
@@ -42,8 +42,8 @@ mul-t12 c = omega arith
 slice-set-from-delays : tie.Need-slice-set-from-delays Inv-loop μ-loop
 slice-set-from-delays c = omega arith
 
-add-k : tie.Need-add-k Inv-loop μ-loop
-add-k c = omega arith
+add-i : tie.Need-add-i Inv-loop μ-loop
+add-i c = omega arith
 
 loop-less : tie.Need-loop-less Inv-loop μ-loop
 loop-less c = omega arith
@@ -52,13 +52,13 @@ loop-again : tie.Need-loop-again Inv-loop μ-loop
 loop-again c =
     let l = c .before .before .before in
     let a = l .before .before .before .args in
-    let i = l .loop .inv in
+    let v = l .loop .inv in
     let len = l .before .least .result in (
       omega arith,
-      i .1,
-      i .2,
-      simp length-set (i .3),
-      rw (toZ-ofZ {w = w32} {z = c .unpack-delay .result} (record { sfits = c .unpack-delay .ok }), c .unpack-delay .ensures) (delays-turn (a .codes .now) len (l .loop .k) (l .loop .delays) (c .before .before .loop-test .taken) (i .1)) ∙ i .4,
+      v .1,
+      v .2,
+      simp length-set (v .3),
+      rw (toZ-ofZ {w = w32} {z = c .unpack-delay .result} (record { sfits = c .unpack-delay .ok }), c .unpack-delay .ensures) (delays-turn (a .codes .now) len (l .loop .i) (l .loop .delays) (c .before .before .loop-test .taken) (v .1)) ∙ v .4,
     )
 
 same-length : tie.Need-same-length Inv-loop μ-loop
@@ -69,7 +69,7 @@ returns c =
     let l = c .before in
     let a = l .before .before .before .args in
     let len = l .before .least .result in
-    sym (delays-done (a .codes .now) len (l .loop .k) (l .loop .delays) (c .loop-test .left)) ∙ l .loop .inv .4 ∙ ap (λ (n : ℕ). sets (a .delays .now) 0 (map delayOf (take n (a .codes .now)))) (l .before .least .ensures .0)
+    sym (delays-done (a .codes .now) len (l .loop .i) (l .loop .delays) (c .loop-test .left)) ∙ l .loop .inv .4 ∙ ap (λ (n : ℕ). sets (a .delays .now) 0 (map delayOf (take n (a .codes .now)))) (l .before .least .ensures .0)
 
 pub unpack-spec : {M : Type 1} → statement M
 unpack-spec =
@@ -84,7 +84,7 @@ unpack-spec =
     unpack-delay-requires
     mul-t12
     slice-set-from-delays
-    add-k
+    add-i
     loop-less
     loop-again
     same-length

@@ -10,10 +10,10 @@ use Rattle.packed.proofs.look_numbers.Statement.{statement}
 use Rattle.packed.proofs.look_numbers.Tie as tie
 
 abbrev Inv-loop : tie.InvT-loop
-Inv-loop s at k here₀ i₀ here i = (i ≤ k) × (looked (repeated (k - i) (number s) here) ≡ looked (repeated k (number s) at))
+Inv-loop s at k here₀ n₀ here n = (n ≤ k) × (looked (repeated (k - n) (number s) here) ≡ looked (repeated k (number s) at))
 
 abbrev μ-loop : tie.MeasureT-loop
-μ-loop s at k here₀ i₀ here i = k - i
+μ-loop s at k here₀ n₀ here n = k - n
 
 loop-holds : tie.Need-loop-holds Inv-loop μ-loop
 loop-holds c = let a = c .before .args in (omega arith, numbers-all (a .s .now) (a .k) (a .at))
@@ -24,34 +24,34 @@ read-number-requires c κs = search needs
 enum-known-r : tie.Need-enum-known-r Inv-loop μ-loop
 enum-known-r c = search needs
 
-add-i : tie.Need-add-i Inv-loop μ-loop
-add-i c = omega arith
+add-n : tie.Need-add-n Inv-loop μ-loop
+add-n c = omega arith
 
 loop-less : tie.Need-loop-less Inv-loop μ-loop
 loop-less c = omega arith
 
 loop-again : tie.Need-loop-again Inv-loop μ-loop
 loop-again c =
-    let n = c .before .before .before in
-    let l = n .before .before in
+    let m = c .before .before .before in
+    let l = m .before .before in
     let a = l .before .before .args in
-    (omega arith, numbers-turn (a .s .now) (a .k) (l .loop .i) (l .loop .here) _ _ (n .before .loop-test .taken) (sym (n .read-number .ensures) ∙ c .before .r .given .1) ∙ l .loop .inv .1)
+    (omega arith, numbers-turn (a .s .now) (a .k) (l .loop .n) (l .loop .here) _ _ (m .before .loop-test .taken) (sym (m .read-number .ensures) ∙ c .before .r .given .1) ∙ l .loop .inv .1)
 
 enum-known-r-2 : tie.Need-enum-known-r-2 Inv-loop μ-loop
 enum-known-r-2 c = search needs
 
 returns : tie.Need-returns Inv-loop μ-loop
 returns c =
-    let n = c .before .before .before in
-    let l = n .before .before in
+    let m = c .before .before .before in
+    let l = m .before .before in
     let a = l .before .before .args in
-    numbers-stop (a .s .now) (a .k) (l .loop .i) (l .loop .here) _ (n .before .loop-test .taken) (sym (n .read-number .ensures) ∙ c .before .r2 .given .1) ∙ l .loop .inv .1
+    numbers-stop (a .s .now) (a .k) (l .loop .n) (l .loop .here) _ (m .before .loop-test .taken) (sym (m .read-number .ensures) ∙ c .before .r2 .given .1) ∙ l .loop .inv .1
 
 returns-2 : tie.Need-returns-2 Inv-loop μ-loop
 returns-2 c =
     let l = c .before in
     let a = l .before .before .args in
-    numbers-end (a .s .now) (a .k) (l .loop .i) (l .loop .here) (c .loop-test .left) ∙ l .loop .inv .1
+    numbers-end (a .s .now) (a .k) (l .loop .n) (l .loop .here) (c .loop-test .left) ∙ l .loop .inv .1
 
 pub look-numbers-spec : {M : Type 1} → statement M
 look-numbers-spec =
@@ -62,7 +62,7 @@ look-numbers-spec =
     loop-holds
     read-number-requires
     enum-known-r
-    add-i
+    add-n
     loop-less
     loop-again
     enum-known-r-2

@@ -6,13 +6,13 @@ use Rattle.removal_cases.proofs.run_removals.Statement.{statement}
 use Rattle.removal_cases.proofs.run_removals.Tie as tie
 
 abbrev Inv-loop : tie.InvT-loop
-Inv-loop s at d words₀ step₀ left₀ words step left = length words ≡ length words₀
+Inv-loop s d delays words₀ step₀ left₀ words step left = length words ≡ length words₀
 
 abbrev μ-loop : tie.MeasureT-loop
-μ-loop s at d words₀ step₀ left₀ words step left = left
+μ-loop s d delays words₀ step₀ left₀ words step left = left
 
-number-requires : tie.Need-number-requires Inv-loop μ-loop
-number-requires c κs = search needs
+take-number-requires : tie.Need-take-number-requires Inv-loop μ-loop
+take-number-requires c κs = search needs
 
 nothing-requires : tie.Need-nothing-requires Inv-loop μ-loop
 nothing-requires c κs = search needs
@@ -44,7 +44,7 @@ run-removals-spec =
     (tie.spec
     Inv-loop
     μ-loop
-    number-requires
+    take-number-requires
     nothing-requires
     loop-holds
     run-removal-requires

@@ -37,35 +37,35 @@ set-pattern-requires-5 c κs = search needs
 array-borrow-prefix-nodes : tie.Need-array-borrow-prefix-nodes
 array-borrow-prefix-nodes c = c .before .before .before .before .before .before .before .before .before .before .before .before .before .before .set-pattern .ensures
 
-slice-aggregate-remove-and-finish : tie.Need-slice-aggregate-remove-and-finish
-slice-aggregate-remove-and-finish c = simp length-take (omega (arith, c .before .before .before .before .before .before .before .before .before .before .before .before .before .before .before .set-pattern .ensures))
+slice-aggregate-remove-and-say : tie.Need-slice-aggregate-remove-and-say
+slice-aggregate-remove-and-say c = simp length-take (omega (arith, c .before .before .before .before .before .before .before .before .before .before .before .before .before .before .before .set-pattern .ensures))
 
 array-borrow-prefix-from : tie.Need-array-borrow-prefix-from
 array-borrow-prefix-from c = c .before .before .before .before .before .before .before .before .before .before .before .before .set-pattern2 .ensures
 
-slice-aggregate-remove-and-finish-2 : tie.Need-slice-aggregate-remove-and-finish-2
-slice-aggregate-remove-and-finish-2 c = simp length-take (omega (arith, c .before .before .before .before .before .before .before .before .before .before .before .before .before .set-pattern2 .ensures))
+slice-aggregate-remove-and-say-2 : tie.Need-slice-aggregate-remove-and-say-2
+slice-aggregate-remove-and-say-2 c = simp length-take (omega (arith, c .before .before .before .before .before .before .before .before .before .before .before .before .before .set-pattern2 .ensures))
 
 array-borrow-prefix-to : tie.Need-array-borrow-prefix-to
 array-borrow-prefix-to c = c .before .before .before .before .before .before .before .before .before .before .set-pattern3 .ensures
 
-slice-aggregate-remove-and-finish-3 : tie.Need-slice-aggregate-remove-and-finish-3
-slice-aggregate-remove-and-finish-3 c = simp length-take (omega (arith, c .before .before .before .before .before .before .before .before .before .before .before .set-pattern3 .ensures))
+slice-aggregate-remove-and-say-3 : tie.Need-slice-aggregate-remove-and-say-3
+slice-aggregate-remove-and-say-3 c = simp length-take (omega (arith, c .before .before .before .before .before .before .before .before .before .before .before .set-pattern3 .ensures))
 
 array-borrow-prefix-via : tie.Need-array-borrow-prefix-via
 array-borrow-prefix-via c = c .before .before .before .before .before .before .before .before .set-pattern4 .ensures
 
-slice-aggregate-remove-and-finish-4 : tie.Need-slice-aggregate-remove-and-finish-4
-slice-aggregate-remove-and-finish-4 c = simp length-take (omega (arith, c .before .before .before .before .before .before .before .before .before .set-pattern4 .ensures))
+slice-aggregate-remove-and-say-4 : tie.Need-slice-aggregate-remove-and-say-4
+slice-aggregate-remove-and-say-4 c = simp length-take (omega (arith, c .before .before .before .before .before .before .before .before .before .set-pattern4 .ensures))
 
 array-borrow-prefix-scratch : tie.Need-array-borrow-prefix-scratch
 array-borrow-prefix-scratch c = c .before .before .before .before .before .before .set-pattern5 .ensures
 
-slice-aggregate-remove-and-finish-5 : tie.Need-slice-aggregate-remove-and-finish-5
-slice-aggregate-remove-and-finish-5 c = simp length-take (omega (arith, c .before .before .before .before .before .before .before .set-pattern5 .ensures))
+slice-aggregate-remove-and-say-5 : tie.Need-slice-aggregate-remove-and-say-5
+slice-aggregate-remove-and-say-5 c = simp length-take (omega (arith, c .before .before .before .before .before .before .before .set-pattern5 .ensures))
 
-remove-and-finish-requires : tie.Need-remove-and-finish-requires
-remove-and-finish-requires c κs = search needs
+remove-and-say-requires : tie.Need-remove-and-say-requires
+remove-and-say-requires c κs = search needs
 
 same-length : tie.Need-same-length
 same-length c = search needs
@@ -88,15 +88,15 @@ lend-spec =
     slice-aggregate-set-pattern-5
     set-pattern-requires-5
     array-borrow-prefix-nodes
-    slice-aggregate-remove-and-finish
+    slice-aggregate-remove-and-say
     array-borrow-prefix-from
-    slice-aggregate-remove-and-finish-2
+    slice-aggregate-remove-and-say-2
     array-borrow-prefix-to
-    slice-aggregate-remove-and-finish-3
+    slice-aggregate-remove-and-say-3
     array-borrow-prefix-via
-    slice-aggregate-remove-and-finish-4
+    slice-aggregate-remove-and-say-4
     array-borrow-prefix-scratch
-    slice-aggregate-remove-and-finish-5
-    remove-and-finish-requires
+    slice-aggregate-remove-and-say-5
+    remove-and-say-requires
     same-length
     returns)

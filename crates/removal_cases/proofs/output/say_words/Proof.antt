@@ -2,23 +2,17 @@ use Prim.Native.Nat.{_-_, _≤_}
 use native.Mathlib.Omega.{arith}
 use lib.ListN.{length}
 use borrow.Author.Needs.{needs}
-use Rattle.removal_cases.proofs.output.say_nodes.Statement.{statement}
-use Rattle.removal_cases.proofs.output.say_nodes.Tie as tie
+use Rattle.removal_cases.proofs.output.say_words.Statement.{statement}
+use Rattle.removal_cases.proofs.output.say_words.Tie as tie
 
 abbrev Inv-loop : tie.InvT-loop
-Inv-loop copies nodes len k₀ t6 k = (k ≤ len) × (len ≤ length nodes)
+Inv-loop count words len k₀ k = (k ≤ len) × (len ≤ length words)
 
 abbrev μ-loop : tie.MeasureT-loop
-μ-loop copies nodes len k₀ t6 k = len - k
+μ-loop count words len k₀ k = len - k
 
 least-requires : tie.Need-least-requires Inv-loop μ-loop
 least-requires c κs = search needs
-
-slice-aggregate-text : tie.Need-slice-aggregate-text Inv-loop μ-loop
-slice-aggregate-text c = search needs
-
-text-requires : tie.Need-text-requires Inv-loop μ-loop
-text-requires c κs = search needs
 
 loop-holds : tie.Need-loop-holds Inv-loop μ-loop
 loop-holds c = (omega arith, omega arith)
@@ -41,24 +35,16 @@ loop-less c = omega arith
 loop-again : tie.Need-loop-again Inv-loop μ-loop
 loop-again c = (omega arith, omega arith)
 
-slice-aggregate-text-2 : tie.Need-slice-aggregate-text-2 Inv-loop μ-loop
-slice-aggregate-text-2 c = search needs
-
-text-requires-2 : tie.Need-text-requires-2 Inv-loop μ-loop
-text-requires-2 c κs = search needs
-
 returns : tie.Need-returns Inv-loop μ-loop
 returns c = search needs
 
-pub say-nodes-spec : {M : Type 1} → statement M
-say-nodes-spec =
+pub say-words-spec : {M : Type 1} → statement M
+say-words-spec =
     tie.close
     (tie.spec
     Inv-loop
     μ-loop
     least-requires
-    slice-aggregate-text
-    text-requires
     loop-holds
     mul-say-word
     shared-slice-read-say-word
@@ -66,6 +52,4 @@ say-nodes-spec =
     add-k
     loop-less
     loop-again
-    slice-aggregate-text-2
-    text-requires-2
     returns)
