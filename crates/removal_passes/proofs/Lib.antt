@@ -13,6 +13,7 @@ pub mod ReadLaws
 pub mod FillLaws
 pub mod StepLaws
 pub mod StepMarks
+pub mod StepSearch
 pub mod FlagLaws
 pub mod Ascending
 pub mod ResultLaws
