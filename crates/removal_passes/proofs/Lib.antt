@@ -2,6 +2,7 @@
 pub mod Region
 pub mod ChainLaws
 pub mod LinkLaws
+pub mod NameLaws
 pub mod PositionLaws
 pub mod SlotLaws
 pub mod RestLaws

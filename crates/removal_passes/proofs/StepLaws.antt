@@ -92,8 +92,74 @@ module _ (flat : List ℕ) (k i name at len : ℕ) (one : 1 ≤ k) (inside : i +
       ∙ ap (λ (n : ℕ). isPrefix (take (k - 1) (drop (i + 1) flat)) (take n (take len (drop at flat)))) after-length
       ∙ ap (isPrefix (take (k - 1) (drop (i + 1) flat))) (take-take (k - 1) len (drop at flat) h)
 
+-- the size of the longest place so far
+abbrev pub bestOf : (ℕ → ℕ) → ℕ → ℕ → ℕ
+bestOf size from zero = 0
+bestOf size from (suc k) = size (from + k)
+
 pub true-false : {b : Bool} → b ≡ true → b ≡ false → ⊥
 true-false p q = subst T (sym p ∙ q) tt
+
+module _ (fit : ℕ → Bool) (size : ℕ → ℕ) (from : ℕ) where
+  -- a place that does not fit, or is not longer, changes nothing
+  pub longest-keep : (t j : ℕ) → 1 ≤ size t → (fit t ≡ true → size t ≤ bestOf size from j) → Longest fit size from t j → Longest fit size from (t + 1) j
+  longest-keep t zero one small h =
+      λ u l m f.
+      elim (ℕ-discrete u t) [
+        | yes e ↦ absurd (omega (arith, small (ap fit (sym e) ∙ f)))
+        | no n ↦ h u l (omega arith) f
+      ]
+  longest-keep t (suc k) one small h = (
+    omega (arith, h .0),
+    h .1,
+    λ u l m f.
+        elim (ℕ-discrete u t) [
+          | yes e ↦ omega (arith, small (ap fit (sym e) ∙ f), ap size e)
+          | no n ↦ h .2 u l (omega arith) f
+        ],
+    h .3,
+  )
+
+  -- a longer one that fits takes its place
+  pub longest-take : (t j : ℕ) → from ≤ t → fit t ≡ true → bestOf size from j < size t → Longest fit size from t j → Longest fit size from (t + 1) (t - from + 1)
+  longest-take t j up f more h =
+      rw (add-one (t - from)) (
+        omega (arith, z),
+        ap fit z ∙ f,
+        λ u l m g.
+            elim (ℕ-discrete u t) [
+              | yes e ↦ omega (arith, ap size e, ap size z)
+              | no n ↦ omega (arith, less j more h u l (omega arith) g, ap size z)
+            ],
+        λ u l m g. omega (arith, less j more h u l (omega (arith, z)) g, ap size z),
+      )
+    where
+      z : from + (t - from) ≡ t
+      z = omega arith
+
+      less : (j : ℕ) → bestOf size from j < size t → Longest fit size from t j → (u : ℕ) → from ≤ u → u < t → fit u ≡ true → size u < size t
+      less zero more h u l m g = absurd (h u l m g)
+      less (suc k) more h u l m g = omega (arith, h .2 u l m g)
+
+  pub best-take : (t : ℕ) → from ≤ t → size t ≡ bestOf size from (t - from + 1)
+  best-take t up = let z : t ≡ from + (t - from) = omega arith in rw (add-one (t - from)) (ap size z)
+
+-- what the loop for the longest place keeps
+abbrev pub LongestSo : (ℕ → Bool) → (ℕ → ℕ) → ℕ → ℕ → ℕ → ℕ → ℕ → Type 0
+LongestSo fit size from to best slot t = (from ≤ t) × (t ≤ to) × (slot ≤ t - from) × (best ≡ bestOf size from slot) × Longest fit size from t slot
+
+module _ (fit : ℕ → Bool) (size : ℕ → ℕ) (from to best slot t : ℕ) (inside : t < to) (h : LongestSo fit size from to best slot t) where
+  pub so-keep : (b j : ℕ) → b ≡ best → j ≡ slot → 1 ≤ size t → (fit t ≡ true → size t ≤ best) → LongestSo fit size from to b j (t + 1)
+  so-keep b j p q one small =
+      subst (λ (x : ℕ). LongestSo fit size from to x j (t + 1)) (sym p)
+      (subst (λ (x : ℕ). LongestSo fit size from to best x (t + 1)) (sym q)
+      (omega (arith, h .0), omega arith, omega (arith, h .0, h .2), h .3, longest-keep fit size from t slot one (λ f. omega (arith, small f, h .3)) (h .4)))
+
+  pub so-take : (b j : ℕ) → b ≡ size t → j ≡ t - from + 1 → fit t ≡ true → best < size t → LongestSo fit size from to b j (t + 1)
+  so-take b j p q f more =
+      subst (λ (x : ℕ). LongestSo fit size from to x j (t + 1)) (sym p)
+      (subst (λ (x : ℕ). LongestSo fit size from to (size t) x (t + 1)) (sym q)
+      (omega (arith, h .0), omega arith, omega (arith, h .0), best-take fit size from t (h .0), longest-take fit size from t slot (h .0) f (omega (arith, h .3)) (h .4)))
 
 -- a part of the places
 pub room-part : (flat s : List ℕ) (rest order from to at len f u : ℕ) → f ≤ u → u ≤ to → PlacesRoom flat s rest order from to at len → PlacesRoom flat s rest order f u at len

@@ -18,6 +18,7 @@ use Rattle.removal_passes.specs.Table.{table}
 use Rattle.removal_passes.specs.Positions.{restIn, restAt, headAt, tailAt, startAt}
 use Rattle.removal_passes.specs.Slots.{Bounds, slots, slotMark, Used}
 use Rattle.removal_passes.specs.Step.{tailFor, restFor, fitting, sizeKey, Rising, LongestIn, PositionRoom, PlacesRoom, SpanRoom, SpanIs, Longest, SlotTables, LiveIs, following, StepMeets}
+use Rattle.removal_passes.specs.Names.{Unlisted}
 use Rattle.removal_passes.specs.declared.step.Step.the-variants.{Dead, Live}
 use Rattle.removal_passes.proofs.Region.{table-at}
 use Rattle.removal_passes.proofs.KeyLaws.{tied}
@@ -217,6 +218,21 @@ module _ (D : Design) (L : PathList) (G : Graph) (B : Bounds) (s : List ℕ) (re
         → Longest (fitting (L .edges) s rest order (name ∷ m)) (restFor s rest order) (B .low c) (B .middle c) j
         → LiveIs L (places L s order) B c (name ∷ m) j
     step-live j e h = record { alive = step-alive e; inside = slot-inside j h; marks = slot-marks j h; used = slot-used j h }
+
+    -- an edge that is not listed leads to the empty mark
+    module _ (unlisted : Unlisted (L .edges) name) where
+      no-fit : (t : ℕ) → t < length (L .edges) → fitting (L .edges) s rest order (name ∷ m) t ≡ true → ⊥
+      no-fit t h f =
+          let i = getD (places L s order) t 0 in
+          let l = g .ordered .inside t (omega (arith, sized)) in
+          let q : T (eqb (getD (L .edges) i 0) name && isPrefix (take (restAt L i - 1) (drop (i + 1) (L .edges))) m) = subst (λ (u : List ℕ). T (isPrefix u (name ∷ m))) (tail-cons L (g .total) i l) (fit-prefix t h f) in
+          unlisted i l (eqb→eq (getD (L .edges) i 0) name (and-left (eqb (getD (L .edges) i 0) name) _ q))
+
+      pub step-unlisted : LiveIs L (places L s order) B c (name ∷ m) 0
+      step-unlisted =
+          step-live 0
+          (any-none (fitting (L .edges) s rest order (name ∷ m)) (restFor s rest order) (B .middle c) (B .high c) 0 refl (λ t h l. no-fit t (omega (arith, bounds-inside .2))))
+          (λ t h l. no-fit t (omega (arith, bounds-inside .1, bounds-inside .2)))
 
 -- the places of a kind at a node are ordered by length and edges
 module _ (D : Design) (L : PathList) (G : Graph) (B : Bounds) (s : List ℕ) (rest order c : ℕ) (g : SlotTables D L G B s rest order c) where

@@ -7,6 +7,7 @@ mod build;
 mod chains;
 mod fill;
 mod listed;
+mod names;
 pub mod remove;
 mod rows;
 mod show;

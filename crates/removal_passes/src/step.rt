@@ -3,7 +3,7 @@ ghost use mathlib.Core.Path.{_≡_};
 ghost use Prim.Native.Nat.{ℕ, _+_, _-_, _≤_, _<_};
 ghost use lib.ListN.{length, getD, take, drop};
 ghost use Rattle.timing.specs.Marks.{isPrefix};
-ghost use Rattle.removal_passes.specs.Step.{PositionRoom, PlacesRoom, SpanRoom, following, comesBefore, restFor, Halved, PlaceFits, LongestIn, StepMeets, SpanIs};
+ghost use Rattle.removal_passes.specs.Step.{PositionRoom, PlacesRoom, SpanRoom, following, fitting, comesBefore, restFor, Halved, PlaceFits, Longest, LongestIn, StepMeets, SpanIs};
 use crate::listed::edges_before;
 use timing::number_at;
 
@@ -151,9 +151,41 @@ fn cut_length(
     if k <= n { k } else { n }
 }
 
-// The first of the longest places that fit, counted from 1; 0 where none does. The places are ordered by
+// The first of the longest places that fit, counted from 1; 0 where none does. Looks at every place.
+fn scan_fit(
+    flat: &[u32],
+    s: &[u32],
+    rest: usize,
+    order: usize,
+    from: usize,
+    to: usize,
+    name: u32,
+    at: usize,
+    len: usize,
+) -> usize
+    requires { ⌜ PlacesRoom (now flat) (now s) rest order from to at len ⌝ }
+    ensures { λ r. ⌜ Longest (fitting (now (flat .entry)) (now (s .entry)) rest order (following (now (flat .entry)) name at len)) (restFor (now (s .entry)) rest order) from to r ⌝ }
+{
+    let mut best = 0;
+    let mut slot = 0;
+    let mut t = from;
+    while t < to {
+        let i = s[order + t] as usize;
+        let k = s[rest + i] as usize;
+        if best < k {
+            if fits(flat, s, rest, i, name, at, len) {
+                best = k;
+                slot = t - from + 1;
+            }
+        }
+        t += 1;
+    }
+    slot
+}
+
+// The same, by halving. The places are ordered by
 // their length and then by their edges, so that each length takes one search.
-fn longest_fit(
+fn search_fit(
     flat: &[u32],
     s: &[u32],
     rest: usize,
@@ -185,6 +217,27 @@ fn longest_fit(
         most = k - 1;
     }
     0
+}
+
+// The same; only few places are looked at one by one.
+fn longest_fit(
+    flat: &[u32],
+    s: &[u32],
+    rest: usize,
+    order: usize,
+    from: usize,
+    to: usize,
+    name: u32,
+    at: usize,
+    len: usize,
+) -> usize
+    requires { ⌜ PlacesRoom (now flat) (now s) rest order from to at len ⌝ }
+    ensures { λ r. ⌜ LongestIn (now (flat .entry)) (now (s .entry)) rest order (following (now (flat .entry)) name at len) from to r ⌝ }
+{
+    if to - from <= 16 {
+        return scan_fit(flat, s, rest, order, from, to, name, at, len);
+    }
+    search_fit(flat, s, rest, order, from, to, name, at, len)
 }
 
 // The mark at an edge's start: low, middle and high bound the places of its start copy.

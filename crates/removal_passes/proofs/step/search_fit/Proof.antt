@@ -6,8 +6,8 @@ use mathlib.Core.Bool.{false}
 use Rattle.removal_passes.specs.Step.{following, Rising}
 use Rattle.removal_passes.proofs.StepLaws.{room-part}
 use Rattle.removal_passes.proofs.StepSearch.{Below, below-start, below-cut, below-next, longest-found, none-left, none-short, rising-part}
-use Rattle.removal_passes.proofs.step.longest_fit.Statement.{statement}
-use Rattle.removal_passes.proofs.step.longest_fit.Tie as tie
+use Rattle.removal_passes.proofs.step.search_fit.Statement.{statement}
+use Rattle.removal_passes.proofs.step.search_fit.Tie as tie
 
 abbrev Inv-loop : tie.InvT-loop
 Inv-loop flat s rest order from to name at len hi₀ most₀ hi most =
@@ -138,8 +138,8 @@ returns-4 c =
     let a = b .args in
     λ up. none-left (a .flat .now) (a .s .now) (a .rest) (a .order) (a .from) (a .to) (a .name) (a .at) (a .len) (b .pre) (l .hi) (l .most) (l .inv .4 up) (c .loop-test .left)
 
-pub longest-fit-spec : {M : Type 1} → statement M
-longest-fit-spec =
+pub search-fit-spec : {M : Type 1} → statement M
+search-fit-spec =
     tie.close
     (tie.spec
     Inv-loop
