@@ -6,6 +6,7 @@ mod bounds;
 mod build;
 mod chains;
 mod fill;
+mod heap;
 mod listed;
 mod names;
 pub mod remove;
