@@ -14,11 +14,13 @@ use Rattle.removal_passes.specs.declared.step.Step.{Step}
 use Rattle.removal_passes.specs.Table.{table}
 use Rattle.removal_passes.specs.Positions.{restAt, Ordered}
 use Rattle.removal_passes.specs.Slots.{Bounded, slots, slotMark}
-use Rattle.removal_passes.specs.Step.{SlotTables, SpanRoom, SpanIs, PlacesRoom, StepMeets, StepIs}
+use Rattle.removal_passes.specs.Step.{SlotTables, SpanRoom, SpanIs, PlacesRoom, StepMeets, StepIs, LiveIs}
+use Rattle.removal_passes.specs.Names.{Unlisted}
+use Rattle.removal_passes.specs.declared.step.Step.the-variants.{Live}
 use Rattle.removal_passes.specs.Rows.{boundsIn, orderIn, Tabled}
 use Rattle.removal_passes.proofs.Region.{table-at, table-length}
 use Rattle.removal_passes.proofs.IntoLaws.{edgeAt, edges-map}
-use Rattle.removal_passes.proofs.StepMarks.{places-room, bounds-inside, span-room, span-mark, span-inside}
+use Rattle.removal_passes.proofs.StepMarks.{places-room, bounds-inside, span-room, span-mark, span-inside, step-unlisted}
 
 -- a table that lies in the first k words
 pub table-prefix : (s : List ℕ) (k base n : ℕ) → base + n ≤ k → k ≤ length s → table (take k s) base n ≡ table s base n
@@ -117,3 +119,20 @@ module _ (D : Design) (L : PathList) (G : Graph) (l : Layout) (flat gs ge gn s :
       (sym (t .legal .starts (edgeAt gs ge gn e) (edge-mem D L G l flat gs ge gn (take (l .slots) s) t e h))) in
       subst (λ (o : List ℕ). StepIs L o B (getD gs e 0) (getD gn e 0 ∷ slotMark L o B (getD ge e 0) j) r) order
       (subst (λ (w : List ℕ). StepIs L (table s (l .order) (length (L .edges))) B (getD gs e 0) (getD gn e 0 ∷ w) r) marks step)
+
+  -- an edge that names no listed one leads to the empty mark
+  pub along-unlisted : (e j : ℕ) → e < l .edges → getD s (l .out + l .copies + l .edges + e) 0 ≡ 0
+      → StepIs L (orderIn l flat (take (l .slots) s)) (boundsIn l (take (l .slots) s)) (getD gs e 0)
+      (getD gn e 0 ∷ slotMark L (orderIn l flat (take (l .slots) s)) (boundsIn l (take (l .slots) s)) (getD ge e 0) j) (Live 0)
+  along-unlisted e j h z =
+      let B = boundsIn l (take (l .slots) s) in
+      let start = start-inside D L G l flat gs ge gn (take (l .slots) s) t e h in
+      let n : length (L .edges) ≡ length flat = ap length (t .listed) in
+      let inside : l .order + length flat ≤ l .slots = omega (arith, t .laid .order, t .laid .low, t .laid .into, t .laid .out) in
+      let order : table s (l .order) (length (L .edges)) ≡ orderIn l flat (take (l .slots) s) =
+      ap (table s (l .order)) n ∙ sym (table-prefix s (l .slots) (l .order) (length flat) inside room) in
+      let unlisted : Unlisted flat (getD gn e 0) = t .named e h (getD-take (l .slots) s (l .out + l .copies + l .edges + e) 0 (omega (arith, t .laid .named)) ∙ z) in
+      subst (λ (o : List ℕ). LiveIs L o B (getD gs e 0) (getD gn e 0 ∷ slotMark L (orderIn l flat (take (l .slots) s)) B (getD ge e 0) j) 0) order
+      (step-unlisted D L G B s (l .rest) (l .order) (getD gs e 0) (slot-tables (getD gs e 0) start) (getD gn e 0) (slotMark L (orderIn l flat (take (l .slots) s)) B (getD ge e 0) j)
+      (sym (t .legal .starts (edgeAt gs ge gn e) (edge-mem D L G l flat gs ge gn (take (l .slots) s) t e h)))
+      (subst (λ (f : List ℕ). Unlisted f (getD gn e 0)) (sym (t .listed)) unlisted))

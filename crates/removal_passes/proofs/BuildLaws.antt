@@ -18,6 +18,7 @@ use Rattle.removal_passes.specs.Table.{table, Frame}
 use Rattle.removal_passes.specs.Positions.{restAt, Ordered}
 use Rattle.removal_passes.specs.Slots.{Bounds, Bounded, slots, slotBase}
 use Rattle.removal_passes.specs.Links.{Linkable, Chained, Linked}
+use Rattle.removal_passes.specs.Names.{LinkedNamed}
 use Rattle.removal_passes.specs.Listed.{Rests, RestTable, Sortable, Arranged}
 use Rattle.removal_passes.specs.Search.{ofStarts, ofNodes, boundsAt, Searchable, Fillable, Filled}
 use Rattle.removal_passes.specs.Rows.{Laid, Tabled, Ready, boundsIn, orderIn, flagIn}
@@ -36,6 +37,7 @@ module _ (copies edges listed : ℕ) (l : Layout) (w : LaidOut copies edges list
     low = omega (arith, w .low, w .into, w .copies);
     into = omega (arith, w .into, w .out, w .copies, w .edges);
     out = omega (arith, w .out, w .slots, w .copies, w .edges);
+    named = omega (arith, w .out, w .slots, w .copies, w .edges);
     size = e;
   }
 
@@ -202,7 +204,10 @@ module _ (D : Design) (L : PathList) (G : Graph) (starts flat lengths nodes gs g
               inside = λ e h. omega (arith, start-inside e h, w .copies);
             }
 
-            module _ (s₅ : List ℕ) (r₅ : Linked gs s₄ s₅ (l .out) (l .copies)) where
+            pub named-room : l .out + l .copies + length gs + length gn ≤ length s₄
+            named-room = omega (arith, enough, size₃, r₄ .frame .size, w .out, w .copies, w .slots, g .names)
+
+            module _ (s₅ : List ℕ) (r₅ : LinkedNamed gs flat gn s₄ s₅ (l .out) (l .copies)) where
               pub clear-room : l .slots + total ≤ length s₅
               clear-room = omega (arith, enough, size₃, r₄ .frame .size, r₅ .frame .size, total-is)
 
@@ -289,8 +294,16 @@ module _ (D : Design) (L : PathList) (G : Graph) (starts flat lengths nodes gs g
                       (kept₅ (l .out) (l .copies) (omega (arith, w .out, w .copies, w .slots)))
                       (kept₅ (l .out + l .copies) (l .edges) (omega (arith, w .out, w .copies, w .edges, w .slots)) ∙ ap (table s₅ (l .out + l .copies)) (w .edges))
                       (w .edges) (r₅ .chains);
+                  named = λ e h z. r₅ .named e (omega (arith, w .edges, g .names)) (sym (named-word e h) ∙ z);
                 }
                   where
+                    named-word : (e : ℕ) → e < l .edges → getD (take (l .slots) s₆) (l .out + l .copies + l .edges + e) 0 ≡ getD s₅ (l .out + l .copies + length gs + e) 0
+                    named-word e h =
+                        sym (table-at (take (l .slots) s₆) (l .out + l .copies + l .edges) (l .edges) e h)
+                        ∙ ap (λ (t : List ℕ). getD t e 0) (kept₅ (l .out + l .copies + l .edges) (l .edges) (omega (arith, w .out, w .copies, w .edges, w .slots)))
+                        ∙ table-at s₅ (l .out + l .copies + l .edges) (l .edges) e h
+                        ∙ ap (λ (m : ℕ). getD s₅ (l .out + l .copies + m + e) 0) (w .edges)
+
                     edges-ge : l .edges ≡ length ge
                     edges-ge = w .edges ∙ sym (g .ends)
 
@@ -335,28 +348,28 @@ candidates-slices D L G starts flat lengths nodes d e g =
     ∙ ap (λ (x : List ℕ). candidates (ofStarts x) (ofNodes (G .nodes)) (pathList flat lengths)) d
     ∙ ap (λ (x : List ℕ). candidates (ofStarts starts) (ofNodes x) (pathList flat lengths)) g
 
-module _ (starts flat lengths nodes gs ge : List ℕ) where
-  candidates-given : (D : Design) (L : PathList) (G : Graph) (gn : List ℕ) → Given D L G starts flat lengths nodes gs ge gn
+module _ (starts flat lengths nodes gs ge gn : List ℕ) where
+  candidates-given : (D : Design) (L : PathList) (G : Graph) → Given D L G starts flat lengths nodes gs ge gn
       → candidates D G L ≡ candidates (ofStarts starts) (ofNodes nodes) (pathList flat lengths)
-  candidates-given D L G gn g = candidates-slices D L G starts flat lengths nodes (g .design) (g .list) (g .copies)
+  candidates-given D L G g = candidates-slices D L G starts flat lengths nodes (g .design) (g .list) (g .copies)
 
-  pub given-room : (s : List ℕ) → Buildable starts flat lengths nodes gs ge s → (D : Design) (L : PathList) (G : Graph) (gn : List ℕ)
+  pub given-room : (s : List ℕ) → Buildable starts flat lengths nodes gs ge gn s → (D : Design) (L : PathList) (G : Graph)
       → Given D L G starts flat lengths nodes gs ge gn → 16 * (candidates D G L + length flat + length gs) ≤ length s
-  given-room s b D L G gn g = omega (arith, candidates-given D L G gn g, candidates-given (b .design) (b .list) (b .graph) (b .gn) (b .given), b .room)
+  given-room s b D L G g = omega (arith, candidates-given D L G g, candidates-given (b .design) (b .list) (b .graph) (b .given), b .room)
 
-  pub built : (s₀ s₁ s₂ s₃ s₄ s₅ s₆ : List ℕ) (l : Layout) (total : ℕ) → Buildable starts flat lengths nodes gs ge s₀
+  pub built : (s₀ s₁ s₂ s₃ s₄ s₅ s₆ : List ℕ) (l : Layout) (total : ℕ) → Buildable starts flat lengths nodes gs ge gn s₀
       → LaidOut (length nodes) (length gs) (length flat) l
       → Rests lengths s₀ s₁ (l .rest)
       → Arranged starts flat s₁ s₂ (l .rest) (l .order)
       → Filled starts flat lengths nodes s₂ s₃ (l .order) (l .low) total
       → Linked ge s₃ s₄ (l .into) (l .copies)
-      → Linked gs s₄ s₅ (l .out) (l .copies)
+      → LinkedNamed gs flat gn s₄ s₅ (l .out) (l .copies)
       → (table s₆ (l .slots) total ≡ replicate total 0) × Frame s₅ s₆ (l .slots) total
-      → Built starts flat lengths nodes gs ge s₀ s₆ l
+      → Built starts flat lengths nodes gs ge gn s₀ s₆ l
   built s₀ s₁ s₂ s₃ s₄ s₅ s₆ l total b w r₁ r₂ r₃ r₄ r₅ r₆ = record {
-    size = size₆ (b .design) (b .list) (b .graph) starts flat lengths nodes gs ge (b .gn) (b .given) l w s₀ (b .room) s₁ r₁ s₂ r₂ s₃ total r₃ s₄ r₄ s₅ r₅ s₆ (r₆ .0) (r₆ .1);
+    size = size₆ (b .design) (b .list) (b .graph) starts flat lengths nodes gs ge gn (b .given) l w s₀ (b .room) s₁ r₁ s₂ r₂ s₃ total r₃ s₄ r₄ s₅ r₅ s₆ (r₆ .0) (r₆ .1);
     laid = w;
-    clear = all-clear (b .design) (b .list) (b .graph) starts flat lengths nodes gs ge (b .gn) (b .given) l w s₀ (b .room) s₁ r₁ s₂ r₂ s₃ total r₃ s₄ r₄ s₅ r₅ s₆ (r₆ .0) (r₆ .1);
-    tabled = λ D L G gn g. all-tabled D L G starts flat lengths nodes gs ge gn g l w s₀ (given-room s₀ b D L G gn g) s₁ r₁ s₂ r₂ s₃ total r₃ s₄ r₄ s₅ r₅ s₆ (r₆ .0) (r₆ .1);
-    ready = λ D L G gn g. all-ready D L G starts flat lengths nodes gs ge gn g l w s₀ (given-room s₀ b D L G gn g) s₁ r₁ s₂ r₂ s₃ total r₃ s₄ r₄ s₅ r₅ s₆ (r₆ .0) (r₆ .1);
+    clear = all-clear (b .design) (b .list) (b .graph) starts flat lengths nodes gs ge gn (b .given) l w s₀ (b .room) s₁ r₁ s₂ r₂ s₃ total r₃ s₄ r₄ s₅ r₅ s₆ (r₆ .0) (r₆ .1);
+    tabled = λ D L G g. all-tabled D L G starts flat lengths nodes gs ge gn g l w s₀ (given-room s₀ b D L G g) s₁ r₁ s₂ r₂ s₃ total r₃ s₄ r₄ s₅ r₅ s₆ (r₆ .0) (r₆ .1);
+    ready = λ D L G g. all-ready D L G starts flat lengths nodes gs ge gn g l w s₀ (given-room s₀ b D L G g) s₁ r₁ s₂ r₂ s₃ total r₃ s₄ r₄ s₅ r₅ s₆ (r₆ .0) (r₆ .1);
   }

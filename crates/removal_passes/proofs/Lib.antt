@@ -2,6 +2,7 @@
 pub mod Region
 pub mod ChainLaws
 pub mod LinkLaws
+pub mod NameLaws
 pub mod PositionLaws
 pub mod SlotLaws
 pub mod RestLaws
@@ -13,6 +14,7 @@ pub mod ReadLaws
 pub mod FillLaws
 pub mod StepLaws
 pub mod StepMarks
+pub mod StepSearch
 pub mod FlagLaws
 pub mod Ascending
 pub mod ResultLaws

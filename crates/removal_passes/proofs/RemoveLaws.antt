@@ -23,14 +23,14 @@ use Rattle.removal_passes.proofs.ShowTables.{setting-of}
 use Rattle.removal_passes.proofs.ShownReadyLaws.{shown-ready}
 use Rattle.removal_passes.proofs.ResultLaws.{shown-nodes, shown-edges}
 
-pub buildable : (starts flat lengths nodes gs ge gn s : List ℕ) → WorkableIn starts flat lengths nodes gs ge gn s → Buildable starts flat lengths nodes gs ge s
+pub buildable : (starts flat lengths nodes gs ge gn s : List ℕ) → WorkableIn starts flat lengths nodes gs ge gn s → Buildable starts flat lengths nodes gs ge gn s
 buildable starts flat lengths nodes gs ge gn s x =
-    record { design = x .work .design; list = x .work .list; graph = x .work .graph; gn = gn; given = x .work .worked .given; room = x .room }
+    record { design = x .work .design; list = x .work .list; graph = x .work .graph; given = x .work .worked .given; room = x .room }
 
 module _ (starts flat lengths nodes gs ge gn s a : List ℕ) (l : Layout) (x : WorkableIn starts flat lengths nodes gs ge gn s)
-    (built : Built starts flat lengths nodes gs ge s a l) where
+    (built : Built starts flat lengths nodes gs ge gn s a l) where
   pub built-ready : Ready l flat gs ge gn a
-  built-ready = built .ready (x .work .design) (x .work .list) (x .work .graph) gn (x .work .worked .given)
+  built-ready = built .ready (x .work .design) (x .work .list) (x .work .graph) (x .work .worked .given)
 
   pub built-zero : AllZero l (take (l .slots) a) a
   built-zero d i h k = built .clear d i (omega (arith, built .laid .copies)) k
@@ -69,7 +69,7 @@ module _ (starts flat lengths nodes gs ge gn s a : List ℕ) (l : Layout) (x : W
 
       tables : (D : Design) (L : PathList) (G : Graph) → Given D L G starts flat lengths nodes gs ge gn → Tabled D L G l flat gs ge gn (take (l .slots) t)
       tables D L G g =
-          subst (λ (p : List ℕ). Tabled D L G l flat gs ge gn p) (sym (shown .tables ∙ reached .only .tables)) (built .tabled D L G gn g)
+          subst (λ (p : List ℕ). Tabled D L G l flat gs ge gn p) (sym (shown .tables ∙ reached .only .tables)) (built .tabled D L G g)
 
       pub found : Found starts flat lengths nodes gs ge gn s t l copies edges
       found =

@@ -48,7 +48,7 @@ module _ (flat : List ℕ) (a b len : ℕ) where
     same-miss h l m e = sym (same-step h l m ∙ ap (λ (t : Bool). t && sameFrom flat a b len (k + 1)) (eq-eqb _ _ e))
 
 -- a list begins with nothing that is longer, and only its start counts
-prefix-long : (u v : List ℕ) → length v < length u → isPrefix u v ≡ false
+pub prefix-long : (u v : List ℕ) → length v < length u → isPrefix u v ≡ false
 prefix-long [] v h = absurd (omega arith)
 prefix-long (x ∷ u) [] h = refl
 prefix-long (x ∷ u) (y ∷ v) h = go (eqb x y) (prefix-long u v (omega arith))
@@ -91,20 +91,6 @@ module _ (flat : List ℕ) (k i name at len : ℕ) (one : 1 ≤ k) (inside : i +
       ∙ prefix-cut (take (k - 1) (drop (i + 1) flat)) (take len (drop at flat))
       ∙ ap (λ (n : ℕ). isPrefix (take (k - 1) (drop (i + 1) flat)) (take n (take len (drop at flat)))) after-length
       ∙ ap (isPrefix (take (k - 1) (drop (i + 1) flat))) (take-take (k - 1) len (drop at flat) h)
-
--- looking at each of the places from t on
-module _ (fit : ℕ → Bool) (t to : ℕ) where
-  any-left : t < to → to - t ≡ suc (to - suc t)
-  any-left h = omega arith
-
-  pub any-hit : t < to → fit t ≡ true → anyOf fit (upto (to - t) t) ≡ true
-  any-hit h e = rw (any-left h, e)
-
-  pub any-miss : t < to → fit t ≡ false → anyOf fit (upto (to - (t + 1)) (t + 1)) ≡ anyOf fit (upto (to - t) t)
-  any-miss h e = rw (any-left h, e, add-one t)
-
-  pub any-end : to ≤ t → anyOf fit (upto (to - t) t) ≡ false
-  any-end h = let d : to - t ≡ 0 = omega arith in rw d
 
 -- the size of the longest place so far
 abbrev pub bestOf : (ℕ → ℕ) → ℕ → ℕ → ℕ

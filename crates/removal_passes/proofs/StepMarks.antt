@@ -11,28 +11,24 @@ use lib.ListN.{length, getD, take, drop}
 use Rattle.timing.specs.Lists.{anyOf, upto}
 use Rattle.timing.specs.Graphs.{Design, Graph, edgeStart, nodeOf}
 use Rattle.timing.specs.Marks.{PathList, pathList, pathsOf, isPrefix, tails, mark}
+use Rattle.timing.specs.Sorting.{before}
 use Rattle.theorems.proofs.Lists.{and-left, holds, fails, anyOf-intro, anyOf-elim, mem-upto, of-upto}
 use Rattle.theorems.proofs.Marks.{begins, Prefix, prefix-sound, prefix-complete, Tail, mark-unique}
 use Rattle.removal_passes.specs.Table.{table}
 use Rattle.removal_passes.specs.Positions.{restIn, restAt, headAt, tailAt, startAt}
 use Rattle.removal_passes.specs.Slots.{Bounds, slots, slotMark, Used}
-use Rattle.removal_passes.specs.Step.{tailFor, restFor, fitting, PositionRoom, PlacesRoom, SpanRoom, SpanIs, Longest, SlotTables, LiveIs, following, StepMeets}
+use Rattle.removal_passes.specs.Step.{tailFor, restFor, fitting, sizeKey, Rising, LongestIn, PositionRoom, PlacesRoom, SpanRoom, SpanIs, Longest, SlotTables, LiveIs, following, StepMeets}
+use Rattle.removal_passes.specs.Names.{Unlisted}
 use Rattle.removal_passes.specs.declared.step.Step.the-variants.{Dead, Live}
 use Rattle.removal_passes.proofs.Region.{table-at}
+use Rattle.removal_passes.proofs.KeyLaws.{tied}
+use Rattle.removal_passes.proofs.StepSearch.{is-true, is-false, any-none, any-some}
 use Rattle.removal_passes.proofs.PositionLaws.{mem-tails, mem-paths, rest-least, rest-inside, tail-length, tail-cons}
 
 getD-map-upto : (f : ℕ → ℕ) (n i j : ℕ) → j < n → getD (map f (upto n i)) j 0 ≡ f (i + j)
 getD-map-upto f zero i j h = absurd (omega arith)
 getD-map-upto f (suc n) i zero h = let e : i ≡ i + 0 = omega arith in ap f e
 getD-map-upto f (suc n) i (suc j) h = let e : suc i + j ≡ i + suc j = omega arith in getD-map-upto f n (suc i) j (omega arith) ∙ ap f e
-
-is-true : (b : Bool) → T b → b ≡ true
-is-true true t = refl
-is-true false t = absurd t
-
-is-false : (b : Bool) → (T b → ⊥) → b ≡ false
-is-false true f = absurd (f tt)
-is-false false f = refl
 
 -- the places of a copy, in order
 abbrev places : PathList → List ℕ → ℕ → List ℕ
@@ -223,22 +219,93 @@ module _ (D : Design) (L : PathList) (G : Graph) (B : Bounds) (s : List ℕ) (re
         → LiveIs L (places L s order) B c (name ∷ m) j
     step-live j e h = record { alive = step-alive e; inside = slot-inside j h; marks = slot-marks j h; used = slot-used j h }
 
+    -- an edge that is not listed leads to the empty mark
+    module _ (unlisted : Unlisted (L .edges) name) where
+      no-fit : (t : ℕ) → t < length (L .edges) → fitting (L .edges) s rest order (name ∷ m) t ≡ true → ⊥
+      no-fit t h f =
+          let i = getD (places L s order) t 0 in
+          let l = g .ordered .inside t (omega (arith, sized)) in
+          let q : T (eqb (getD (L .edges) i 0) name && isPrefix (take (restAt L i - 1) (drop (i + 1) (L .edges))) m) = subst (λ (u : List ℕ). T (isPrefix u (name ∷ m))) (tail-cons L (g .total) i l) (fit-prefix t h f) in
+          unlisted i l (eqb→eq (getD (L .edges) i 0) name (and-left (eqb (getD (L .edges) i 0) name) _ q))
+
+      pub step-unlisted : LiveIs L (places L s order) B c (name ∷ m) 0
+      step-unlisted =
+          step-live 0
+          (any-none (fitting (L .edges) s rest order (name ∷ m)) (restFor s rest order) (B .middle c) (B .high c) 0 refl (λ t h l. no-fit t (omega (arith, bounds-inside .2))))
+          (λ t h l. no-fit t (omega (arith, bounds-inside .1, bounds-inside .2)))
+
+-- the places of a kind at a node are ordered by length and edges
+module _ (D : Design) (L : PathList) (G : Graph) (B : Bounds) (s : List ℕ) (rest order c : ℕ) (g : SlotTables D L G B s rest order c) where
+  key-for : (t : ℕ) → t < length (L .edges) → sizeKey (L .edges) s rest order t ≡ restAt L (getD (places L s order) t 0) ∷ tailAt L (getD (places L s order) t 0)
+  key-for t h =
+      let i = getD s (order + t) 0 in
+      ap₂ (λ (n : ℕ) (u : List ℕ). n ∷ u) (rest-is D L G B s rest order c g i (place-in D L G B s rest order c g t h) ∙ ap (restAt L) (place-is D L G B s rest order c g t h)) (tail-is D L G B s rest order c g t h)
+
+  same-kind : (a b : ℕ) → a < b → b < length (L .edges)
+      → startAt D L (getD (places L s order) b 0) ≡ startAt D L (getD (places L s order) a 0)
+      → headAt L (getD (places L s order) b 0) ≡ headAt L (getD (places L s order) a 0)
+      → T (before (sizeKey (L .edges) s rest order b) (sizeKey (L .edges) s rest order a)) → ⊥
+  same-kind a b l m p q t =
+      let i = getD (places L s order) a 0 in
+      let j = getD (places L s order) b 0 in
+      g .ordered .rises a b l (omega (arith, sized D L G B s rest order c g))
+      (subst T
+      (ap₂ before (key-for b m) (key-for a (omega arith))
+      ∙ sym (tied (startAt D L j) (startAt D L i) (headAt L j ∷ restAt L j ∷ tailAt L j) (headAt L i ∷ restAt L i ∷ tailAt L i) p
+      ∙ tied (headAt L j) (headAt L i) (restAt L j ∷ tailAt L j) (restAt L i ∷ tailAt L i) q))
+      t)
+
+  rising-tails : Rising (L .edges) s rest order (B .low c) (B .middle c)
+  rising-tails = record {
+    rises = λ a b h l m.
+        let r = bounds-inside D L G B s rest order c g in
+        let z = sized D L G B s rest order c g in
+        let x = g .bounded .tails a (omega (arith, r .1, r .2, z)) .0 (h, omega arith) in
+        let y = g .bounded .tails b (omega (arith, r .1, r .2, z)) .0 (omega arith, m) in
+        same-kind a b l (omega (arith, r .1, r .2)) (y .0 ∙ sym (x .0)) (y .1 ∙ sym (x .1));
+  }
+
+  rising-heads : Rising (L .edges) s rest order (B .middle c) (B .high c)
+  rising-heads = record {
+    rises = λ a b h l m.
+        let r = bounds-inside D L G B s rest order c g in
+        let z = sized D L G B s rest order c g in
+        let x = g .bounded .heads a (omega (arith, r .2, z)) .0 (h, omega arith) in
+        let y = g .bounded .heads b (omega (arith, r .2, z)) .0 (omega arith, m) in
+        same-kind a b l (omega (arith, r .2)) (y .0 ∙ sym (x .0)) (y .1 ∙ sym (x .1));
+  }
+
 -- so the answers of the two searches are the step
 module _ (flat s : List ℕ) (rest order low middle high name at len : ℕ) where
-  pub dead-meets : anyOf (fitting flat s rest order (following flat name at len)) (upto (high - middle) middle) ≡ true → StepMeets flat s rest order low middle high name at len Dead
+  heads-at : (D : Design) (lengths : List ℕ) (G : Graph) (B : Bounds) (c : ℕ) → SlotTables D (pathList flat lengths) G B s rest order c → middle ≡ B .middle c → high ≡ B .high c
+      → (j : ℕ) → LongestIn flat s rest order (following flat name at len) middle high j
+      → Longest (fitting flat s rest order (following flat name at len)) (restFor s rest order) (B .middle c) (B .high c) j
+  heads-at D lengths G B c g m h j f =
+      subst (λ (x : ℕ). LongestIn flat s rest order (following flat name at len) (B .middle c) x j) h
+      (subst (λ (x : ℕ). LongestIn flat s rest order (following flat name at len) x high j) m f)
+      (rising-heads D (pathList flat lengths) G B s rest order c g)
+
+  tails-at : (D : Design) (lengths : List ℕ) (G : Graph) (B : Bounds) (c : ℕ) → SlotTables D (pathList flat lengths) G B s rest order c → low ≡ B .low c → middle ≡ B .middle c
+      → (j : ℕ) → LongestIn flat s rest order (following flat name at len) low middle j
+      → Longest (fitting flat s rest order (following flat name at len)) (restFor s rest order) (B .low c) (B .middle c) j
+  tails-at D lengths G B c g l m j f =
+      subst (λ (x : ℕ). LongestIn flat s rest order (following flat name at len) (B .low c) x j) m
+      (subst (λ (x : ℕ). LongestIn flat s rest order (following flat name at len) x middle j) l f)
+      (rising-tails D (pathList flat lengths) G B s rest order c g)
+
+  pub dead-meets : (j : ℕ) → (j ≡ 0 → ⊥) → LongestIn flat s rest order (following flat name at len) middle high j → StepMeets flat s rest order low middle high name at len Dead
   unfolding StepMeets
-  dead-meets e =
+  dead-meets j f e =
       λ D lengths G B c g l m h start.
       step-dead D (pathList flat lengths) G B s rest order c g name (take len (drop at flat)) start
-      (sym (ap₂ (λ (x y : ℕ). anyOf (fitting flat s rest order (following flat name at len)) (upto (x - y) y)) h m) ∙ e)
+      (any-some (fitting flat s rest order (following flat name at len)) (restFor s rest order) (B .middle c) (B .high c) j f (heads-at D lengths G B c g m h j e))
 
-  pub live-meets : (j : ℕ) → anyOf (fitting flat s rest order (following flat name at len)) (upto (high - middle) middle) ≡ false
-      → Longest (fitting flat s rest order (following flat name at len)) (restFor s rest order) low middle j
+  pub live-meets : (i j : ℕ) → i ≡ 0 → LongestIn flat s rest order (following flat name at len) middle high i
+      → LongestIn flat s rest order (following flat name at len) low middle j
       → StepMeets flat s rest order low middle high name at len (Live j)
   unfolding StepMeets
-  live-meets j e f =
+  live-meets i j z e f =
       λ D lengths G B c g l m h start.
       step-live D (pathList flat lengths) G B s rest order c g name (take len (drop at flat)) start j
-      (sym (ap₂ (λ (x y : ℕ). anyOf (fitting flat s rest order (following flat name at len)) (upto (x - y) y)) h m) ∙ e)
-      (subst (λ (x : ℕ). Longest (fitting flat s rest order (following flat name at len)) (restFor s rest order) (B .low c) x j) m
-      (subst (λ (x : ℕ). Longest (fitting flat s rest order (following flat name at len)) (restFor s rest order) x middle j) l f))
+      (any-none (fitting flat s rest order (following flat name at len)) (restFor s rest order) (B .middle c) (B .high c) i z (heads-at D lengths G B c g m h i e))
+      (tails-at D lengths G B c g l m j f)

@@ -21,7 +21,7 @@ pub record LaidOut (c e n : ℕ) (l : Layout) : Type 0 where
   pub low : l .low ≡ 2 * n
   pub into : l .into ≡ 2 * n + 4 * c
   pub out : l .out ≡ 2 * n + 5 * c + e
-  pub slots : l .slots ≡ 2 * n + 6 * c + 2 * e
+  pub slots : l .slots ≡ 2 * n + 6 * c + 3 * e
 
 -- what the lent slices are: a design's starts, a list that fits it, and a legal graph of it, all small enough
 pub record Given (D : Design) (L : PathList) (G : Graph) (starts flat lengths nodes gs ge gn : List ℕ) : Type 0 where
@@ -37,19 +37,18 @@ pub record Given (D : Design) (L : PathList) (G : Graph) (starts flat lengths no
   pub few-edges : length gs ≤ 65536
 
 -- they are this of some design, and the scratch is as long as test 31 asks
-pub record Buildable (starts flat lengths nodes gs ge s : List ℕ) : Type 0 where
+pub record Buildable (starts flat lengths nodes gs ge gn s : List ℕ) : Type 0 where
   pub design : Design
   pub list : PathList
   pub graph : Graph
-  pub gn : List ℕ
   pub given : Given design list graph starts flat lengths nodes gs ge gn
   pub room : 16 * (candidates design graph list + length flat + length gs) ≤ length s
 
 -- the tables are filled for whatever design the slices are given of, and no slot is marked
-pub record Built (starts flat lengths nodes gs ge s t : List ℕ) (l : Layout) : Type 0 where
+pub record Built (starts flat lengths nodes gs ge gn s t : List ℕ) (l : Layout) : Type 0 where
   pub size : length t ≡ length s
   pub laid : LaidOut (length nodes) (length gs) (length flat) l
   pub clear : (c j : ℕ) → c < length nodes → j < slots (boundsIn l (take (l .slots) t)) c → flagIn l t c j ≡ 0
-  pub tabled : (D : Design) (L : PathList) (G : Graph) (gn : List ℕ) → Given D L G starts flat lengths nodes gs ge gn
+  pub tabled : (D : Design) (L : PathList) (G : Graph) → Given D L G starts flat lengths nodes gs ge gn
       → Tabled D L G l flat gs ge gn (take (l .slots) t)
-  pub ready : (D : Design) (L : PathList) (G : Graph) (gn : List ℕ) → Given D L G starts flat lengths nodes gs ge gn → Ready l flat gs ge gn t
+  pub ready : (D : Design) (L : PathList) (G : Graph) → Given D L G starts flat lengths nodes gs ge gn → Ready l flat gs ge gn t

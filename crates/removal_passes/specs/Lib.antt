@@ -4,6 +4,7 @@ pub mod Positions
 pub mod Slots
 pub mod Chains
 pub mod Links
+pub mod Names
 pub mod Rows
 pub mod Along
 pub mod Result

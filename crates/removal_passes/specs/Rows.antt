@@ -14,6 +14,7 @@ use Rattle.removal_passes.specs.Table.{table}
 use Rattle.removal_passes.specs.Positions.{restAt, Ordered}
 use Rattle.removal_passes.specs.Slots.{Bounds, Bounded, slots, slotBase}
 use Rattle.removal_passes.specs.Links.{Chained}
+use Rattle.removal_passes.specs.Names.{Unlisted}
 
 -- the bounds of each copy, as the tables say
 abbrev pub boundsIn : Layout → List ℕ → Bounds
@@ -35,6 +36,7 @@ pub record Laid (l : Layout) (listed : ℕ) (p : List ℕ) : Type 0 where
   pub low : l .low + 4 * l .copies ≤ l .into
   pub into : l .into + (l .copies + l .edges) ≤ l .out
   pub out : l .out + (l .copies + l .edges) ≤ l .slots
+  pub named : l .out + l .copies + l .edges + l .edges ≤ l .slots
   pub size : length p ≡ l .slots
 
 -- the tables are those of a design, a list and a graph whose edges are lent as gs, ge and gn
@@ -56,6 +58,7 @@ pub record Tabled (D : Design) (L : PathList) (G : Graph) (l : Layout) (flat gs 
   pub bases : (c : ℕ) → c < l .copies → getD p (l .low + 3 * l .copies + c) 0 ≡ slotBase (boundsIn l p) c
   pub into : Chained ge (table p (l .into) (l .copies)) (table p (l .into + l .copies) (l .edges)) (l .copies) (l .edges) 0
   pub out : Chained gs (table p (l .out) (l .copies)) (table p (l .out + l .copies) (l .edges)) (l .copies) (l .edges) 0
+  pub named : (e : ℕ) → e < l .edges → getD p (l .out + l .copies + l .edges + e) 0 ≡ 0 → Unlisted flat (getD gn e 0)
 
 -- and the scratch has room for the slots, which all have numbers of 32 bits
 pub record Ready (l : Layout) (flat gs ge gn s : List ℕ) : Type 0 where

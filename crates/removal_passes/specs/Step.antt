@@ -3,8 +3,10 @@ use Prim.Native.Nat.{ℕ, zero, suc, _+_, _-_, _≤_, _<_}
 use mathlib.Core.Path.{_≡_}
 use mathlib.Core.Bool.{Bool, true, false}
 use mathlib.Core.List.{List, _∷_, map, List·Memᴰ}
+use lib.Dec.{T}
 use lib.ListN.{length, getD, take, drop}
 use Rattle.timing.specs.Lists.{isNil, sum, upto}
+use Rattle.timing.specs.Sorting.{before}
 use Rattle.timing.specs.Graphs.{Design, Graph, edgeStart, nodeOf}
 use Rattle.timing.specs.Marks.{PathList, pathList, pathsOf, isPrefix, mark}
 use Rattle.theorems.proofs.Marks.{begins}
@@ -28,6 +30,33 @@ tailFor flat s rest order t = take (restFor s rest order t) (drop (getD s (order
 -- whether w begins with them
 unfoldable pub fitting : List ℕ → List ℕ → ℕ → ℕ → List ℕ → ℕ → Bool
 fitting flat s rest order w t = isPrefix (tailFor flat s rest order t) w
+
+-- the same number and then these edges: by this the places of a kind at a node are ordered
+abbrev pub sizeKey : List ℕ → List ℕ → ℕ → ℕ → ℕ → List ℕ
+sizeKey flat s rest order t = restFor s rest order t ∷ tailFor flat s rest order t
+
+-- it never falls from `from` to `to`
+pub record Rising (flat s : List ℕ) (rest order from to : ℕ) : Type 0 where
+  pub rises : (a b : ℕ) → from ≤ a → a < b → b < to → T (before (sizeKey flat s rest order b) (sizeKey flat s rest order a)) → ⊥
+
+-- whether a place comes before the first k edges of w
+unfoldable pub comesBefore : List ℕ → List ℕ → ℕ → ℕ → List ℕ → ℕ → ℕ → Bool
+comesBefore flat s rest order w k t = before (sizeKey flat s rest order t) (k ∷ take k w)
+
+-- the places before r do so, and those from r on do not
+pub record Parted (low : ℕ → Bool) (from to r : ℕ) : Type 0 where
+  pub below : (t : ℕ) → from ≤ t → t < r → low t ≡ true
+  pub above : (t : ℕ) → r ≤ t → t < to → low t ≡ false
+
+pub record Halved (flat s : List ℕ) (rest order from to name at len k r : ℕ) : Type 0 where
+  pub least : from ≤ r
+  pub most : r ≤ to
+  pub parted : Rising flat s rest order from to → Parted (comesBefore flat s rest order (following flat name at len) k) from to r
+
+-- whether place t, if it is one before `to`, fits
+pub record PlaceFits (flat s : List ℕ) (rest order t to name at len : ℕ) (r : Bool) : Type 0 where
+  pub yes : r ≡ true → (t < to) × (fitting flat s rest order (following flat name at len) t ≡ true)
+  pub no : r ≡ false → t < to → fitting flat s rest order (following flat name at len) t ≡ false
 
 -- what has to lie inside the flat list and the scratch: for one position, for the places from `from` to `to`, for a slot
 pub record PositionRoom (flat s : List ℕ) (rest i at len : ℕ) : Type 0 where
@@ -53,6 +82,10 @@ Longest fit size from to (suc k) =
     × (fit (from + k) ≡ true)
     × ((t : ℕ) → from ≤ t → t < to → fit t ≡ true → size t ≤ size (from + k))
     × ((t : ℕ) → from ≤ t → t < from + k → fit t ≡ true → size t < size (from + k))
+
+-- what a search for the longest place finds
+abbrev pub LongestIn : List ℕ → List ℕ → ℕ → ℕ → List ℕ → ℕ → ℕ → ℕ → Type 0
+LongestIn flat s rest order w from to j = Rising flat s rest order from to → Longest (fitting flat s rest order w) (restFor s rest order) from to j
 
 -- the tables that say the slots of a copy
 pub record SlotTables (D : Design) (L : PathList) (G : Graph) (B : Bounds) (s : List ℕ) (rest order c : ℕ) : Type 0 where

@@ -14,6 +14,7 @@ use crate::chains::link_edges;
 use crate::listed::fill_rest;
 use crate::listed::order_positions;
 use crate::listed::start_at;
+use crate::names::link_named;
 use crate::rows::Layout;
 
 // The tables one after the other, with the slots last.
@@ -33,7 +34,7 @@ pub(crate) fn layout(copies: usize, edges: usize, listed: usize) -> Layout
         low,
         into,
         out,
-        slots: out + (copies + edges),
+        slots: out + (copies + 2 * edges),
     }
 }
 
@@ -45,17 +46,18 @@ pub(crate) fn build(
     nodes: &[u32],
     gs: &[u32],
     ge: &[u32],
+    gn: &[u32],
     s: &mut [u32],
 ) -> Layout
-    requires { ⌜ Buildable (now starts) (now flat) (now lengths) (now nodes) (now gs) (now ge) (now s) ⌝ }
-    ensures { λ r. ⌜ Built (now (starts .entry)) (now (flat .entry)) (now (lengths .entry)) (now (nodes .entry)) (now (gs .entry)) (now (ge .entry)) (now (s .entry)) (now (s .exit)) r ⌝ }
+    requires { ⌜ Buildable (now starts) (now flat) (now lengths) (now nodes) (now gs) (now ge) (now gn) (now s) ⌝ }
+    ensures { λ r. ⌜ Built (now (starts .entry)) (now (flat .entry)) (now (lengths .entry)) (now (nodes .entry)) (now (gs .entry)) (now (ge .entry)) (now (gn .entry)) (now (s .entry)) (now (s .exit)) r ⌝ }
 {
     let l = layout(nodes.len(), gs.len(), flat.len());
     fill_rest(s, l.rest, lengths);
     order_positions(starts, flat, s, l.rest, l.order);
     let total = fill_bounds(starts, flat, lengths, nodes, s, l.rest, l.order, l.low);
     link_edges(s, l.into, l.copies, ge);
-    link_edges(s, l.out, l.copies, gs);
+    link_named(s, l.out, l.copies, gs, flat, gn);
     clear(s, l.slots, total as usize);
     l
 }

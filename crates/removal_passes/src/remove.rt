@@ -44,7 +44,7 @@ fn search(
     requires { ⌜ WorkableIn (now starts) (now flat) (now lengths) (now nodes) (now gs) (now ge) (now gn) (now s) ⌝ }
     ensures { λ r. ⌜ Found (now (starts .entry)) (now (flat .entry)) (now (lengths .entry)) (now (nodes .entry)) (now (gs .entry)) (now (ge .entry)) (now (gn .entry)) (now (s .entry)) (now (s .exit)) (r .layout) (r .counts .copies) (r .counts .edges) ⌝ }
 {
-    let layout = build(starts, flat, lengths, nodes, gs, ge, s);
+    let layout = build(starts, flat, lengths, nodes, gs, ge, gn, s);
     reach_all(layout, flat, gs, ge, gn, s);
     let counts = show_all(layout, flat, gs, ge, gn, s);
     Finding { layout, counts }

@@ -14,7 +14,8 @@ use timing::number_at;
 
 // `low` has four tables of a word for each copy: the bounds of the copy's places in the order
 // (`Bounds` in specs/), and where its slots start. `into` and `out` are the chains of edges by end
-// and by start: a word for each copy, and then one for each edge. The slots stand last.
+// and by start: a word for each copy, and then one for each edge. After `out` stands a word for each
+// edge, which is 0 if the edge names no listed one. The slots stand last.
 pub(crate) struct Layout {
     pub(crate) copies: usize,
     pub(crate) edges: usize,
@@ -65,8 +66,8 @@ pub(crate) fn slot_count(l: Layout, s: &[u32], c: usize) -> usize
     middle_at(l, s, c) - low_at(l, s, c) + 1
 }
 
-// The slot at the start of edge e that slot j at its end leads to.
-pub(crate) fn step_along(
+// The slot at the start of edge e that slot j at its end leads to, found in the order of positions.
+fn step_listed(
     l: Layout,
     flat: &[u32],
     gs: &[u32],
@@ -98,6 +99,27 @@ pub(crate) fn step_along(
         span.at,
         span.len,
     )
+}
+
+// The slot at the start of edge e that slot j at its end leads to. An edge that names no
+// listed one leads to the empty mark.
+pub(crate) fn step_along(
+    l: Layout,
+    flat: &[u32],
+    gs: &[u32],
+    ge: &[u32],
+    gn: &[u32],
+    s: &[u32],
+    e: usize,
+    j: usize,
+) -> Step
+    requires { ⌜ Ready l (now flat) (now gs) (now ge) (now gn) (now s) × (e < l .edges) × (j < slots (boundsIn l (take (l .slots) (now s))) (getD (now ge) e 0)) ⌝ }
+    ensures { λ r. ⌜ StepAlong l (now (flat .entry)) (now (gs .entry)) (now (ge .entry)) (now (gn .entry)) (take (l .slots) (now (s .entry))) e j r ⌝ }
+{
+    if number_at(s, l.out + l.copies + l.edges + e) == 0 {
+        return Step::Live(0);
+    }
+    step_listed(l, flat, gs, ge, gn, s, e, j)
 }
 
 // Marks a slot as reached.

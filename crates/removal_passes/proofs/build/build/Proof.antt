@@ -1,43 +1,43 @@
 -- Each table meets what the next call asks, and all of them together are what is built.
 use borrow.Author.Needs.{needs}
-use Rattle.removal_passes.proofs.BuildLaws.{listed-few, rest-room, sortable, searchable, fillable, linkable-into, linkable-out, clear-room, built}
+use Rattle.removal_passes.proofs.BuildLaws.{named-room, listed-few, rest-room, sortable, searchable, fillable, linkable-into, linkable-out, clear-room, built}
 use Rattle.removal_passes.proofs.build.build.Statement.{statement}
 use Rattle.removal_passes.proofs.build.build.Tie as tie
 
 layout-requires : tie.Need-layout-requires
 layout-requires c κs =
-    let st = c .before .before .before .before .before .before .before in
+    let st = c .before .before .before .before .before .before .before .before in
     let a = st .args in
     let b = st .pre in
-    (b .given .few-copies, b .given .few-edges, listed-few (b .design) (b .list) (b .graph) (a .starts .now) (a .flat .now) (a .lengths .now) (a .nodes .now) (a .gs .now) (a .ge .now) (b .gn) (b .given))
+    (b .given .few-copies, b .given .few-edges, listed-few (b .design) (b .list) (b .graph) (a .starts .now) (a .flat .now) (a .lengths .now) (a .nodes .now) (a .gs .now) (a .ge .now) (a .gn .now) (b .given))
 
 fill-rest-requires : tie.Need-fill-rest-requires
 fill-rest-requires c κs =
     let y = c .before in
-    let st = y .before .before .before .before .before .before .before .before in
+    let st = y .before .before .before .before .before .before .before .before .before in
     let a = st .args in
     let b = st .pre in
-    rest-room (b .design) (b .list) (b .graph) (a .starts .now) (a .flat .now) (a .lengths .now) (a .nodes .now) (a .gs .now) (a .ge .now) (b .gn) (b .given) (y .layout .result) (y .layout .ensures) (a .s .now) (b .room)
+    rest-room (b .design) (b .list) (b .graph) (a .starts .now) (a .flat .now) (a .lengths .now) (a .nodes .now) (a .gs .now) (a .ge .now) (a .gn .now) (b .given) (y .layout .result) (y .layout .ensures) (a .s .now) (b .room)
 
 order-positions-requires : tie.Need-order-positions-requires
 order-positions-requires c κs =
     let f = c .before .before .before in
     let y = f .before .before in
-    let st = y .before .before .before .before .before .before .before .before in
+    let st = y .before .before .before .before .before .before .before .before .before in
     let a = st .args in
     let b = st .pre in
-    sortable (b .design) (b .list) (b .graph) (a .starts .now) (a .flat .now) (a .lengths .now) (a .nodes .now) (a .gs .now) (a .ge .now) (b .gn) (b .given) (y .layout .result) (y .layout .ensures) (a .s .now) (b .room) (f .fill-rest .last .0) (f .fill-rest .ensures)
+    sortable (b .design) (b .list) (b .graph) (a .starts .now) (a .flat .now) (a .lengths .now) (a .nodes .now) (a .gs .now) (a .ge .now) (a .gn .now) (b .given) (y .layout .result) (y .layout .ensures) (a .s .now) (b .room) (f .fill-rest .last .0) (f .fill-rest .ensures)
 
 fill-bounds-requires : tie.Need-fill-bounds-requires
 fill-bounds-requires c κs =
     let o = c .before .before .before in
     let f = o .before .before .before .before in
     let y = f .before .before in
-    let st = y .before .before .before .before .before .before .before .before in
+    let st = y .before .before .before .before .before .before .before .before .before in
     let a = st .args in
     let b = st .pre in (
-      searchable (b .design) (b .list) (b .graph) (a .starts .now) (a .flat .now) (a .lengths .now) (a .nodes .now) (a .gs .now) (a .ge .now) (b .gn) (b .given) (y .layout .result) (y .layout .ensures) (a .s .now) (b .room) (f .fill-rest .last .0) (f .fill-rest .ensures) (o .order-positions .last .1 .1 .0) (o .order-positions .ensures),
-      fillable (b .design) (b .list) (b .graph) (a .starts .now) (a .flat .now) (a .lengths .now) (a .nodes .now) (a .gs .now) (a .ge .now) (b .gn) (b .given) (y .layout .result) (y .layout .ensures) (a .s .now) (b .room) (f .fill-rest .last .0) (f .fill-rest .ensures) (o .order-positions .last .1 .1 .0) (o .order-positions .ensures),
+      searchable (b .design) (b .list) (b .graph) (a .starts .now) (a .flat .now) (a .lengths .now) (a .nodes .now) (a .gs .now) (a .ge .now) (a .gn .now) (b .given) (y .layout .result) (y .layout .ensures) (a .s .now) (b .room) (f .fill-rest .last .0) (f .fill-rest .ensures) (o .order-positions .last .1 .1 .0) (o .order-positions .ensures),
+      fillable (b .design) (b .list) (b .graph) (a .starts .now) (a .flat .now) (a .lengths .now) (a .nodes .now) (a .gs .now) (a .ge .now) (a .gn .now) (b .given) (y .layout .result) (y .layout .ensures) (a .s .now) (b .room) (f .fill-rest .last .0) (f .fill-rest .ensures) (o .order-positions .last .1 .1 .0) (o .order-positions .ensures),
     )
 
 link-edges-requires : tie.Need-link-edges-requires
@@ -46,22 +46,24 @@ link-edges-requires c κs =
     let o = h .before .before .before .before in
     let f = o .before .before .before .before in
     let y = f .before .before in
-    let st = y .before .before .before .before .before .before .before .before in
+    let st = y .before .before .before .before .before .before .before .before .before in
     let a = st .args in
     let b = st .pre in
-    linkable-into (b .design) (b .list) (b .graph) (a .starts .now) (a .flat .now) (a .lengths .now) (a .nodes .now) (a .gs .now) (a .ge .now) (b .gn) (b .given) (y .layout .result) (y .layout .ensures) (a .s .now) (b .room) (f .fill-rest .last .0) (f .fill-rest .ensures) (o .order-positions .last .1 .1 .0) (o .order-positions .ensures) (h .fill-bounds .last .1 .1 .1 .1 .0) (h .fill-bounds .result) (h .fill-bounds .ensures)
+    linkable-into (b .design) (b .list) (b .graph) (a .starts .now) (a .flat .now) (a .lengths .now) (a .nodes .now) (a .gs .now) (a .ge .now) (a .gn .now) (b .given) (y .layout .result) (y .layout .ensures) (a .s .now) (b .room) (f .fill-rest .last .0) (f .fill-rest .ensures) (o .order-positions .last .1 .1 .0) (o .order-positions .ensures) (h .fill-bounds .last .1 .1 .1 .1 .0) (h .fill-bounds .result) (h .fill-bounds .ensures)
 
-link-edges-requires-2 : tie.Need-link-edges-requires-2
-link-edges-requires-2 c κs =
+link-named-requires : tie.Need-link-named-requires
+link-named-requires c κs =
     let i = c .before .before .before in
     let h = i .before .before .before .before in
     let o = h .before .before .before .before in
     let f = o .before .before .before .before in
     let y = f .before .before in
-    let st = y .before .before .before .before .before .before .before .before in
+    let st = y .before .before .before .before .before .before .before .before .before in
     let a = st .args in
-    let b = st .pre in
-    linkable-out (b .design) (b .list) (b .graph) (a .starts .now) (a .flat .now) (a .lengths .now) (a .nodes .now) (a .gs .now) (a .ge .now) (b .gn) (b .given) (y .layout .result) (y .layout .ensures) (a .s .now) (b .room) (f .fill-rest .last .0) (f .fill-rest .ensures) (o .order-positions .last .1 .1 .0) (o .order-positions .ensures) (h .fill-bounds .last .1 .1 .1 .1 .0) (h .fill-bounds .result) (h .fill-bounds .ensures) (i .link-edges .last .0) (i .link-edges .ensures)
+    let b = st .pre in (
+      linkable-out (b .design) (b .list) (b .graph) (a .starts .now) (a .flat .now) (a .lengths .now) (a .nodes .now) (a .gs .now) (a .ge .now) (a .gn .now) (b .given) (y .layout .result) (y .layout .ensures) (a .s .now) (b .room) (f .fill-rest .last .0) (f .fill-rest .ensures) (o .order-positions .last .1 .1 .0) (o .order-positions .ensures) (h .fill-bounds .last .1 .1 .1 .1 .0) (h .fill-bounds .result) (h .fill-bounds .ensures) (i .link-edges .last .0) (i .link-edges .ensures),
+      named-room (b .design) (b .list) (b .graph) (a .starts .now) (a .flat .now) (a .lengths .now) (a .nodes .now) (a .gs .now) (a .ge .now) (a .gn .now) (b .given) (y .layout .result) (y .layout .ensures) (a .s .now) (b .room) (f .fill-rest .last .0) (f .fill-rest .ensures) (o .order-positions .last .1 .1 .0) (o .order-positions .ensures) (h .fill-bounds .last .1 .1 .1 .1 .0) (h .fill-bounds .result) (h .fill-bounds .ensures) (i .link-edges .last .0) (i .link-edges .ensures),
+    )
 
 cast-clear : tie.Need-cast-clear
 cast-clear c = search needs
@@ -74,10 +76,10 @@ clear-requires c κs =
     let o = h .before .before .before .before in
     let f = o .before .before .before .before in
     let y = f .before .before in
-    let st = y .before .before .before .before .before .before .before .before in
+    let st = y .before .before .before .before .before .before .before .before .before in
     let a = st .args in
     let b = st .pre in
-    clear-room (b .design) (b .list) (b .graph) (a .starts .now) (a .flat .now) (a .lengths .now) (a .nodes .now) (a .gs .now) (a .ge .now) (b .gn) (b .given) (y .layout .result) (y .layout .ensures) (a .s .now) (b .room) (f .fill-rest .last .0) (f .fill-rest .ensures) (o .order-positions .last .1 .1 .0) (o .order-positions .ensures) (h .fill-bounds .last .1 .1 .1 .1 .0) (h .fill-bounds .result) (h .fill-bounds .ensures) (i .link-edges .last .0) (i .link-edges .ensures) (e .link-edges2 .last .0) (e .link-edges2 .ensures)
+    clear-room (b .design) (b .list) (b .graph) (a .starts .now) (a .flat .now) (a .lengths .now) (a .nodes .now) (a .gs .now) (a .ge .now) (a .gn .now) (b .given) (y .layout .result) (y .layout .ensures) (a .s .now) (b .room) (f .fill-rest .last .0) (f .fill-rest .ensures) (o .order-positions .last .1 .1 .0) (o .order-positions .ensures) (h .fill-bounds .last .1 .1 .1 .1 .0) (h .fill-bounds .result) (h .fill-bounds .ensures) (i .link-edges .last .0) (i .link-edges .ensures) (e .link-named .last .0) (e .link-named .ensures)
 
 same-length : tie.Need-same-length
 same-length c =
@@ -88,10 +90,10 @@ same-length c =
     let o = h .before .before .before .before in
     let f = o .before .before .before .before in
     let y = f .before .before in
-    let st = y .before .before .before .before .before .before .before .before in
+    let st = y .before .before .before .before .before .before .before .before .before in
     let a = st .args in
     let b = st .pre in
-    (built (a .starts .now) (a .flat .now) (a .lengths .now) (a .nodes .now) (a .gs .now) (a .ge .now) (a .s .now) (f .fill-rest .last .0) (o .order-positions .last .1 .1 .0) (h .fill-bounds .last .1 .1 .1 .1 .0) (i .link-edges .last .0) (e .link-edges2 .last .0) (w .clear .last .0) (y .layout .result) (h .fill-bounds .result) b (y .layout .ensures) (f .fill-rest .ensures) (o .order-positions .ensures) (h .fill-bounds .ensures) (i .link-edges .ensures) (e .link-edges2 .ensures) (w .clear .ensures)) .size
+    (built (a .starts .now) (a .flat .now) (a .lengths .now) (a .nodes .now) (a .gs .now) (a .ge .now) (a .gn .now) (a .s .now) (f .fill-rest .last .0) (o .order-positions .last .1 .1 .0) (h .fill-bounds .last .1 .1 .1 .1 .0) (i .link-edges .last .0) (e .link-named .last .0) (w .clear .last .0) (y .layout .result) (h .fill-bounds .result) b (y .layout .ensures) (f .fill-rest .ensures) (o .order-positions .ensures) (h .fill-bounds .ensures) (i .link-edges .ensures) (e .link-named .ensures) (w .clear .ensures)) .size
 
 returns : tie.Need-returns
 returns c =
@@ -102,10 +104,10 @@ returns c =
     let o = h .before .before .before .before in
     let f = o .before .before .before .before in
     let y = f .before .before in
-    let st = y .before .before .before .before .before .before .before .before in
+    let st = y .before .before .before .before .before .before .before .before .before in
     let a = st .args in
     let b = st .pre in
-    built (a .starts .now) (a .flat .now) (a .lengths .now) (a .nodes .now) (a .gs .now) (a .ge .now) (a .s .now) (f .fill-rest .last .0) (o .order-positions .last .1 .1 .0) (h .fill-bounds .last .1 .1 .1 .1 .0) (i .link-edges .last .0) (e .link-edges2 .last .0) (w .clear .last .0) (y .layout .result) (h .fill-bounds .result) b (y .layout .ensures) (f .fill-rest .ensures) (o .order-positions .ensures) (h .fill-bounds .ensures) (i .link-edges .ensures) (e .link-edges2 .ensures) (w .clear .ensures)
+    built (a .starts .now) (a .flat .now) (a .lengths .now) (a .nodes .now) (a .gs .now) (a .ge .now) (a .gn .now) (a .s .now) (f .fill-rest .last .0) (o .order-positions .last .1 .1 .0) (h .fill-bounds .last .1 .1 .1 .1 .0) (i .link-edges .last .0) (e .link-named .last .0) (w .clear .last .0) (y .layout .result) (h .fill-bounds .result) b (y .layout .ensures) (f .fill-rest .ensures) (o .order-positions .ensures) (h .fill-bounds .ensures) (i .link-edges .ensures) (e .link-named .ensures) (w .clear .ensures)
 
 pub build-spec : {M : Type 1} → statement M
 build-spec =
@@ -116,7 +118,7 @@ build-spec =
     order-positions-requires
     fill-bounds-requires
     link-edges-requires
-    link-edges-requires-2
+    link-named-requires
     cast-clear
     clear-requires
     same-length

@@ -6,8 +6,8 @@ use mathlib.Core.Logic.{⊎-elim}
 use lib.ListN.{getD}
 use Rattle.removal_passes.specs.Step.{following, fitting, restFor, Longest, PositionRoom}
 use Rattle.removal_passes.proofs.StepLaws.{LongestSo, so-keep, so-take, true-false}
-use Rattle.removal_passes.proofs.step.longest_fit.Statement.{statement}
-use Rattle.removal_passes.proofs.step.longest_fit.Tie as tie
+use Rattle.removal_passes.proofs.step.scan_fit.Statement.{statement}
+use Rattle.removal_passes.proofs.step.scan_fit.Tie as tie
 
 abbrev Inv-loop : tie.InvT-loop
 Inv-loop flat s rest order from to name at len best₀ slot₀ t₀ best slot t =
@@ -90,8 +90,8 @@ returns c =
     (λ (t : ℕ). Longest (fitting (a .flat .now) (a .s .now) (a .rest) (a .order) (following (a .flat .now) (a .name) (a .at) (a .len))) (restFor (a .s .now) (a .rest) (a .order)) (a .from) t (l .loop .slot))
     e (l .loop .inv .4)
 
-pub longest-fit-spec : {M : Type 1} → statement M
-longest-fit-spec =
+pub scan-fit-spec : {M : Type 1} → statement M
+scan-fit-spec =
     tie.close
     (tie.spec
     Inv-loop
