@@ -47,6 +47,14 @@ module _ (flat : List ℕ) (a b len : ℕ) where
     pub same-miss : k < len → a + len ≤ length flat → b + len ≤ length flat → getD flat (a + k) 0 ≡ getD flat (b + k) 0 → sameFrom flat a b len (k + 1) ≡ sameFrom flat a b len k
     same-miss h l m e = sym (same-step h l m ∙ ap (λ (t : Bool). t && sameFrom flat a b len (k + 1)) (eq-eqb _ _ e))
 
+-- a list begins with itself
+prefix-self : (u : List ℕ) → isPrefix u u ≡ true
+prefix-self [] = refl
+prefix-self (x ∷ u) = ap (λ (t : Bool). t && isPrefix u u) (eq-eqb x x refl) ∙ prefix-self u
+
+pub same-place : (flat : List ℕ) (a b len : ℕ) → a ≡ b → true ≡ isPrefix (take len (drop a flat)) (take len (drop b flat))
+same-place flat a b len e = sym (ap (λ (i : ℕ). isPrefix (take len (drop a flat)) (take len (drop i flat))) (sym e) ∙ prefix-self (take len (drop a flat)))
+
 -- a list begins with nothing that is longer, and only its start counts
 pub prefix-long : (u v : List ℕ) → length v < length u → isPrefix u v ≡ false
 prefix-long [] v h = absurd (omega arith)

@@ -36,6 +36,17 @@ pub(crate) fn same_edges(flat: &[u32], a: usize, b: usize, len: usize) -> bool
     true
 }
 
+// The same; a mark is mostly the part of the flat list right after the position that leads to it.
+fn same_part(flat: &[u32], a: usize, b: usize, len: usize) -> bool
+    requires { ⌜ (a + len ≤ length (now flat)) × (b + len ≤ length (now flat)) ⌝ }
+    ensures { λ r. ⌜ r ≡ isPrefix (take len (drop a (now (flat .entry)))) (take len (drop b (now (flat .entry)))) ⌝ }
+{
+    if a == b {
+        return true;
+    }
+    same_edges(flat, a, b, len)
+}
+
 // Whether what stands from position i to the end of its path is a start of the edge `name` and the mark.
 fn fits(flat: &[u32], s: &[u32], rest: usize, i: usize, name: u32, at: usize, len: usize) -> bool
     requires { ⌜ PositionRoom (now flat) (now s) rest i at len ⌝ }
@@ -50,7 +61,7 @@ fn fits(flat: &[u32], s: &[u32], rest: usize, i: usize, name: u32, at: usize, le
     if len < more {
         return false;
     }
-    same_edges(flat, i + 1, at, more)
+    same_part(flat, i + 1, at, more)
 }
 
 // Whether what stands at a place, its length and then its edges, comes before k and the first k of the

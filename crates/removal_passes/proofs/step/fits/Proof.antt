@@ -42,18 +42,18 @@ returns-2 c =
     let k = getD (a .s .now) (a .rest + a .i) 0 in
     sym (fit-long (a .flat .now) k (a .i) (a .name) (a .at) (a .len) (b .pre .some) (b .pre .inside) (c .before .if1 .left) (b .pre .mark-inside) (c .if2 .taken))
 
-add-same-edges : tie.Need-add-same-edges
-add-same-edges c = search needs
+add-same-part : tie.Need-add-same-part
+add-same-part c = search needs
 
-same-edges-requires : tie.Need-same-edges-requires
-same-edges-requires c κs = search needs
+same-part-requires : tie.Need-same-part-requires
+same-part-requires c κs = search needs
 
 returns-3 : tie.Need-returns-3
 returns-3 c =
     let b = c .before .before .before .before .before .before .before in
     let a = b .args in
     let k = getD (a .s .now) (a .rest + a .i) 0 in
-    c .same-edges .ensures ∙ sym (fit-same (a .flat .now) k (a .i) (a .name) (a .at) (a .len) (b .pre .some) (b .pre .inside) (c .before .before .if1 .left) (c .before .if2 .left))
+    c .same-part .ensures ∙ sym (fit-same (a .flat .now) k (a .i) (a .name) (a .at) (a .len) (b .pre .some) (b .pre .inside) (c .before .before .if1 .left) (c .before .if2 .left))
 
 pub fits-spec : {M : Type 1} → statement M
 fits-spec =
@@ -68,6 +68,6 @@ fits-spec =
     returns
     sub-more
     returns-2
-    add-same-edges
-    same-edges-requires
+    add-same-part
+    same-part-requires
     returns-3)
