@@ -15,7 +15,7 @@
 #include <string.h>
 #include <time.h>
 
-enum { ROUNDS = 25, ROOM_COPIES = 16384, ROOM_EDGES = 65536, SERIES = 32, MOST_WORDS = 1 << 24 };
+enum { ROUNDS = 7, ROOM_COPIES = 16384, ROOM_EDGES = 65536, SERIES = 32, MOST_WORDS = 1 << 24 };
 static const double ROUND_SECONDS = 0.02;
 
 /* ---- Two libraries ------------------------------------------------------------------------------------------------------------ */
@@ -265,7 +265,7 @@ static double measure(const char *name, work w)
         differ = 1;
         return 0;
     }
-    double once = time_of(w, 0, 1), best[2] = {1e9, 1e9};
+    double reference = time_of(w, 0, 1), library = time_of(w, 1, 1), once = reference > library ? reference : library, best[2] = {1e9, 1e9};
     size_t repeats = once > ROUND_SECONDS ? 1 : (size_t)(ROUND_SECONDS / once) + 1;
     for (int round = 0; round < ROUNDS; round++)
         for (int which = 0; which < 2; which++) {

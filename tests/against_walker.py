@@ -24,7 +24,7 @@ import time
 
 import decks
 import removal_cases
-import unfit_cases
+import times_cases
 import walker
 from removal_cases import DESIGN, GIVEN, HELD, Series, exact, hub, pattern, thresholds
 from walker import Design, Graph, PathList, Room
@@ -150,7 +150,7 @@ def random_series(rng):
 
 
 def of_unfit_graphs():
-    for given in unfit_cases.graph_cases():
+    for given in times_cases.cases():
         design = Design(given.nodes, given.starts, given.ends, given.delays)
         graph = Graph(given.copy_nodes, given.copy_starts, given.copy_ends, given.names)
         yield "graphs", times_request("times", design, graph, given.allowed, given.rooms)
