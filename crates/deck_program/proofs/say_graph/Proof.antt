@@ -1,0 +1,50 @@
+use native.Mathlib.Omega.{arith}
+use lib.ListN.{length-take}
+use borrow.Author.Needs.{needs}
+use Rattle.deck_program.proofs.say_graph.Statement.{statement}
+use Rattle.deck_program.proofs.say_graph.Tie as tie
+
+least-requires : tie.Need-least-requires
+least-requires c κs = search needs
+
+array-borrow-prefix-arrivals : tie.Need-array-borrow-prefix-arrivals
+array-borrow-prefix-arrivals c = search needs
+
+slice-aggregate-say-times : tie.Need-slice-aggregate-say-times
+slice-aggregate-say-times c = simp length-take (omega (arith, c .before .before .least .ensures .2))
+
+array-borrow-prefix-requireds : tie.Need-array-borrow-prefix-requireds
+array-borrow-prefix-requireds c = search needs
+
+slice-aggregate-say-times-2 : tie.Need-slice-aggregate-say-times-2
+slice-aggregate-say-times-2 c = simp length-take (omega (arith, c .before .before .before .least .ensures .2))
+
+array-borrow-prefix-slacks : tie.Need-array-borrow-prefix-slacks
+array-borrow-prefix-slacks c = search needs
+
+slice-aggregate-say-times-3 : tie.Need-slice-aggregate-say-times-3
+slice-aggregate-say-times-3 c = simp length-take (omega (arith, c .before .before .before .before .least .ensures .2))
+
+say-times-requires : tie.Need-say-times-requires
+say-times-requires c κs = search needs
+
+same-length : tie.Need-same-length
+same-length c = search needs
+
+returns : tie.Need-returns
+returns c = search needs
+
+pub say-graph-spec : {M : Type 1} → statement M
+say-graph-spec =
+    tie.close
+    (tie.spec
+    least-requires
+    array-borrow-prefix-arrivals
+    slice-aggregate-say-times
+    array-borrow-prefix-requireds
+    slice-aggregate-say-times-2
+    array-borrow-prefix-slacks
+    slice-aggregate-say-times-3
+    say-times-requires
+    same-length
+    returns)

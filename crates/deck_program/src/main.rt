@@ -1,0 +1,317 @@
+// The deck program: reads a deck on standard input, and prints its true graph with all times, or the
+// refusal. Every number printed is from a proved call; the sizes are document 01's.
+mod lines;
+mod text;
+
+use cases::least;
+use libc::STDIN_FILENO;
+use lines::put_copies;
+use lines::put_counts;
+use lines::put_edges;
+use lines::put_nodes;
+use lines::put_refused;
+use text::flush;
+use timing::DeckRead;
+use timing::GraphMade;
+use timing::MAX_DECK_BYTES;
+use timing::Verdict;
+use timing::refuse;
+
+// The records of all nodes, in slices with one place for each.
+fn say_records(
+    buf: &mut [u8],
+    at: usize,
+    n: u32,
+    nodes: &[u32],
+    arrivals: &[i64],
+    requireds: &[i64],
+    slacks: &[i64],
+    known: &mut [u32],
+    na: &mut [i64],
+    nr: &mut [i64],
+    ns: &mut [i64],
+) -> usize {
+    let v = times::node_records(n, nodes, arrivals, requireds, slacks, known, na, nr, ns);
+    match v {
+        Verdict::Passed => put_nodes(buf, at, known, na, nr, ns),
+        Verdict::Refused(r) => put_refused(buf, at, r),
+    }
+}
+
+fn say_nodes(
+    buf: &mut [u8],
+    at: usize,
+    n: u32,
+    nodes: &[u32],
+    arrivals: &[i64],
+    requireds: &[i64],
+    slacks: &[i64],
+) -> usize {
+    let mut known = [0; 4096];
+    let mut na = [0; 4096];
+    let mut nr = [0; 4096];
+    let mut ns = [0; 4096];
+    let count = least(n as usize, 4096);
+    say_records(
+        buf,
+        at,
+        n,
+        nodes,
+        arrivals,
+        requireds,
+        slacks,
+        &mut known[..count],
+        &mut na[..count],
+        &mut nr[..count],
+        &mut ns[..count],
+    )
+}
+
+// The graph with all times, in slices with one place for each copy.
+fn say_times(
+    buf: &mut [u8],
+    at: usize,
+    n: u32,
+    starts: &[u32],
+    ends: &[u32],
+    delays: &[i32],
+    t: u32,
+    nodes: &[u32],
+    from: &[u32],
+    to: &[u32],
+    via: &[u32],
+    arrivals: &mut [i64],
+    requireds: &mut [i64],
+    slacks: &mut [i64],
+) -> usize {
+    let v = times::times(
+        n,
+        starts,
+        ends,
+        delays,
+        t,
+        nodes,
+        from,
+        to,
+        via,
+        arrivals,
+        requireds,
+        slacks,
+    );
+    match v {
+        Verdict::Passed => {
+            let a = put_counts(buf, at, nodes.len(), from.len());
+            let b = put_copies(buf, a, nodes, arrivals, requireds, slacks);
+            let c = put_edges(buf, b, from, to, via);
+            say_nodes(buf, c, n, nodes, arrivals, requireds, slacks)
+        }
+        Verdict::Refused(r) => put_refused(buf, at, r),
+    }
+}
+
+fn say_graph(
+    buf: &mut [u8],
+    at: usize,
+    n: u32,
+    starts: &[u32],
+    ends: &[u32],
+    delays: &[i32],
+    t: u32,
+    nodes: &[u32],
+    from: &[u32],
+    to: &[u32],
+    via: &[u32],
+) -> usize {
+    let mut arrivals = [0; 512];
+    let mut requireds = [0; 512];
+    let mut slacks = [0; 512];
+    let count = least(nodes.len(), 512);
+    say_times(
+        buf,
+        at,
+        n,
+        starts,
+        ends,
+        delays,
+        t,
+        nodes,
+        from,
+        to,
+        via,
+        &mut arrivals[..count],
+        &mut requireds[..count],
+        &mut slacks[..count],
+    )
+}
+
+// Removes the listed paths, and says what is left.
+fn say_removal(
+    buf: &mut [u8],
+    at: usize,
+    n: u32,
+    starts: &[u32],
+    ends: &[u32],
+    delays: &[i32],
+    listed: &[u32],
+    lengths: &[u32],
+    t: u32,
+    nodes: &mut [u32],
+    from: &mut [u32],
+    to: &mut [u32],
+    via: &mut [u32],
+    scratch: &mut [u32],
+) -> usize {
+    let made = removal::remove_from_design(
+        n,
+        starts,
+        ends,
+        delays,
+        listed,
+        lengths,
+        nodes,
+        from,
+        to,
+        via,
+        scratch,
+    );
+    match made {
+        GraphMade::Refused(r) => put_refused(buf, at, r),
+        GraphMade::Counts { copies, edges } => {
+            let c = least(copies, nodes.len());
+            let e = least(least(edges, from.len()), least(to.len(), via.len()));
+            say_graph(
+                buf,
+                at,
+                n,
+                starts,
+                ends,
+                delays,
+                t,
+                &nodes[..c],
+                &from[..e],
+                &to[..e],
+                &via[..e],
+            )
+        }
+    }
+}
+
+// Tests a deck, and says its true graph or the refusal. 25 is tested before 31.
+fn say_deck(
+    buf: &mut [u8],
+    at: usize,
+    n: u32,
+    starts: &[u32],
+    ends: &[u32],
+    delays: &[i32],
+    listed: &[u32],
+    lengths: &[u32],
+    t: u32,
+) -> usize {
+    let verdict = design::test_deck(n, starts, ends, delays, listed, lengths, t);
+    if let Verdict::Refused(r) = verdict {
+        return put_refused(buf, at, r);
+    }
+    let mut nodes = [0; 512];
+    let mut from = [0; 2048];
+    let mut to = [0; 2048];
+    let mut via = [0; 2048];
+    let mut scratch = [0; 16384];
+    say_removal(
+        buf,
+        at,
+        n,
+        starts,
+        ends,
+        delays,
+        listed,
+        lengths,
+        t,
+        &mut nodes,
+        &mut from,
+        &mut to,
+        &mut via,
+        &mut scratch,
+    )
+}
+
+// Reads a deck into the tables, and says what is made of it.
+fn say_read(
+    buf: &mut [u8],
+    at: usize,
+    deck: &[u8],
+    starts: &mut [u32],
+    ends: &mut [u32],
+    delays: &mut [i32],
+    listed: &mut [u32],
+    lengths: &mut [u32],
+) -> usize {
+    let read = deck::read_deck(deck, starts, ends, delays, listed, lengths);
+    match read {
+        DeckRead::Refused(r) => put_refused(buf, at, r),
+        DeckRead::Deck {
+            nodes,
+            edges,
+            listed: count,
+            paths,
+            allowed,
+        } => {
+            let m = least(least(edges, starts.len()), least(ends.len(), delays.len()));
+            let k = least(count, listed.len());
+            let p = least(paths, lengths.len());
+            say_deck(
+                buf,
+                at,
+                nodes,
+                &starts[..m],
+                &ends[..m],
+                &delays[..m],
+                &listed[..k],
+                &lengths[..p],
+                allowed,
+            )
+        }
+    }
+}
+
+fn say(buf: &mut [u8], deck: &[u8]) -> usize {
+    let mut starts = [0; 1024];
+    let mut ends = [0; 1024];
+    let mut delays = [0; 1024];
+    let mut listed = [0; 1024];
+    let mut lengths = [0; 256];
+    say_read(
+        buf,
+        0,
+        deck,
+        &mut starts,
+        &mut ends,
+        &mut delays,
+        &mut listed,
+        &mut lengths,
+    )
+}
+
+// Whether a further byte stands on standard input.
+fn more_bytes() -> bool {
+    let mut further = [0; 1];
+    io::read_full(STDIN_FILENO, &mut further) != 0
+}
+
+// 4 is tested before all.
+fn run(buf: &mut [u8], deck: &[u8]) -> usize {
+    if deck.len() == MAX_DECK_BYTES {
+        if more_bytes() {
+            return put_refused(buf, 0, refuse(4, MAX_DECK_BYTES));
+        }
+    }
+    say(buf, deck)
+}
+
+fn main() {
+    let mut input = io::large_buffer();
+    let mut output = io::large_buffer();
+    let len = io::read_full(STDIN_FILENO, &mut input);
+    let end = run(&mut output, &input[..len]);
+    flush(&output, end);
+}
