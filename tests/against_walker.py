@@ -284,6 +284,8 @@ def first_difference(requests, found):
 
 
 def run_calls(command, requests):
+    if not requests:
+        return
     run = subprocess.run(command, input=b"".join(request.sent for request in requests), capture_output=True)
     if run.stdout != b"".join(request.expected for request in requests):
         raise Differs("C calls: " + first_difference(requests, run.stdout) + "\n" + run.stderr.decode(errors="replace")[:3000])
