@@ -26,7 +26,7 @@ use Rattle.timing.specs.Calls.{GraphSlices, graphSlices, graphOf, slicesOf, gra
 use Rattle.timing.proofs.Verdicts.{then-passed, unless-passed}
 use Rattle.theorems.proofs.Series.{graph-slices, slices-sizes, removal-few, outcome-made}
 use Rattle.theorems.proofs.Records.{front-made}
-use Rattle.removal_passes.specs.Remove.{Answered}
+use Rattle.removal.specs.Remove.{Answered}
 use Rattle.jaqhweni.specs.Deck.{deckRemoval}
 
 passed-on : (v w : Verdict) → v ≡ Passed → (v then w) ≡ w

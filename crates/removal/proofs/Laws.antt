@@ -26,10 +26,10 @@ use Rattle.theorems.proofs.Lists.{and-left, and-right, holds, length-upto}
 use Rattle.timing.proofs.Verdicts.{then-passed, unless-passed}
 use Rattle.theorems.proofs.Tested.{DesignFits, design-fits, ListFits, list-fits, Formed, formed, tests-count, no-delays}
 use Rattle.theorems.proofs.Legal.{Legal, fits-legal, formed-legal}
-use Rattle.removal_passes.specs.Fill.{SameRooms}
-use Rattle.removal_passes.specs.Remove.{Worked, Workable, Removed, removalOutcome, AllRemoved}
+use Rattle.removal.specs.Fill.{SameRooms}
+use Rattle.removal.specs.Remove.{Worked, Workable, Removed, removalOutcome, AllRemoved}
 use Rattle.removal.specs.Numbered.{Numberable, DesignRemoved}
-use Rattle.removal_passes.proofs.IntoLaws.{design-into, formed-into, length-edges}
+use Rattle.removal.proofs.IntoLaws.{design-into, formed-into, length-edges}
 
 -- the tests as they are called, one verdict handed on to the next, are those of the definitions
 pub list-chain : (d l o t u : Verdict) → ((((d then l) then o) then t) then u) ≡ (d then (l then (o then (t then u))))

@@ -8,8 +8,8 @@ use Rattle.timing.specs.declared.GraphMade.{GraphMade}
 use Rattle.timing.specs.Graphs.{Design, design, designGraph}
 use Rattle.timing.specs.Marks.{PathList, pathList}
 use Rattle.theorems.proofs.Tested.{DesignFits, ListFits}
-use Rattle.removal_passes.specs.Fill.{SameRooms}
-use Rattle.removal_passes.specs.Remove.{Removed, removalOutcome}
+use Rattle.removal.specs.Fill.{SameRooms}
+use Rattle.removal.specs.Remove.{Removed, removalOutcome}
 
 -- a design and a list that pass their tests, with as many numbers as nodes and as edges
 pub record Numberable (starts ends listed lengths : List ℕ) (n m : ℕ) (from to via : List ℕ) : Type 0 where

@@ -1,6 +1,9 @@
 // Removal of listed paths, from the design and from an earlier true graph. The room is four slices:
 // the node of each copy, and the start copy, the end copy and the design edge of each edge. A
 // refusal changes nothing in it, and places past the result stay as they are.
+//
+// All tables of a removal stand in the lent scratch, each at an offset: `s[base + i]` is entry i of the
+// table at `base`. Nothing is written to the room before 33 and 34 are settled.
 ghost use mathlib.Core.Path.{_≡_};
 ghost use Prim.Native.Nat.{ℕ, _≤_, _<_};
 ghost use lib.ListN.{length};
@@ -11,16 +14,28 @@ ghost use Rattle.timing.specs.Refusals.{_then_};
 ghost use Rattle.timing.specs.Tests.{sameSizes, designSizes, listSizes, designTests, listTests, graphTest};
 ghost use Rattle.timing.specs.Calls.{graphSlices, graphOf, lentRemoval, removeFromDesign, removeFromGraph, graphAnswer, nodesAfter, startsAfter, endsAfter, namesAfter, scratchAfter};
 ghost use Rattle.removal.specs.Numbered.{Numberable, DesignRemoved};
+use crate::remove::remove;
 use design::and_design_tests;
 use design::and_list_sizes;
 use design::and_list_tests;
 use design::design_sizes;
 use graph::and_graph_test;
-use removal_passes::remove::remove;
 use timing::GraphMade;
 use timing::Verdict;
 use timing::same_sizes;
 use timing::then;
+
+mod bounds;
+mod build;
+mod chains;
+mod fill;
+mod heap;
+mod listed;
+mod names;
+mod remove;
+mod rows;
+mod show;
+mod step;
 
 // The tests of a design and a list: 30, with those of the call's other slices between, and then 10
 // to 14 and 20 to 24.

@@ -8,7 +8,7 @@ use timing::GraphMade;
 
 // Sets place k to first + k mod 65,536, so that a word that is moved or changed is seen; and answers
 // how many places are set, which is at most the count.
-pub fn set_pattern(first: u32, count: usize, words: &mut [u32]) -> usize
+pub(crate) fn set_pattern(first: u32, count: usize, words: &mut [u32]) -> usize
     requires { ⌜ first ≤ 3400000000 ⌝ }
     ensures { λ r. ⌜ r ≤ length (now (words .exit)) ⌝ }
 {

@@ -3,7 +3,7 @@ use mathlib.Core.Path.{sym, subst₂}
 use mathlib.Core.List.{List}
 use Prim.Native.Nat.{ℕ}
 use lib.ListN.{length}
-use Rattle.removal_passes.specs.Remove.{Workable, AllRemoved}
+use Rattle.removal.specs.Remove.{Workable, AllRemoved}
 use Rattle.removal.proofs.Laws.{numbered-workable, numbered-removed}
 use borrow.Author.Needs.{needs}
 use Rattle.removal.proofs.remove_numbered.Statement.{statement}

@@ -3,7 +3,7 @@ use mathlib.Core.Path.{sym, _∙_, subst}
 use lib.ListN.{length}
 use Rattle.timing.specs.Graphs.{design, Graph}
 use Rattle.timing.specs.Calls.{Outcome, lentRemoval}
-use Rattle.removal_passes.specs.Remove.{Answered}
+use Rattle.removal.specs.Remove.{Answered}
 use Rattle.jaqhweni.specs.Deck.{deckRemoval}
 use Rattle.jaqhweni.proofs.DeckLaws.{same-passes, deck-refused, deck-passed, answered-refused}
 use borrow.Author.Needs.{needs}

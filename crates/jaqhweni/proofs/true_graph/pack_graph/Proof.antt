@@ -6,7 +6,7 @@ use Rattle.timing.specs.declared.GraphMade.{GraphMade}
 use Rattle.timing.specs.declared.GraphMade.the-variants.{Counts}
 use Rattle.timing.specs.Graphs.{design, Graph}
 use Rattle.timing.specs.Calls.{graphSlices, slicesOf, Outcome, lentRemoval, cWritten, roomAfterC}
-use Rattle.removal_passes.specs.Remove.{Answered}
+use Rattle.removal.specs.Remove.{Answered}
 use Rattle.jaqhweni.specs.Deck.{deckRemoval}
 use Rattle.jaqhweni.proofs.DeckLaws.{made-few, MadeOf, made-of, refused-of, Front, nodes-front, from-front, to-front, via-front, pack-answer, pack-room}
 use borrow.Author.Needs.{needs}

@@ -1,0 +1,138 @@
+-- The step against an edge of the graph: its ends are copies, what the searches ask is there, and what they find is the step.
+use Prim.Native.Nat.{ℕ, _+_, _≤_, _<_}
+use native.Mathlib.Omega.{arith}
+use mathlib.Core.Path.{_≡_, sym, _∙_, ap, subst}
+use mathlib.Core.List.{List, _∷_, map, List·Memᴰ, Memᴰ·map}
+use lib.ListN.{length, getD, take, drop}
+use lib.Seq.{getD-take, ext-getD, length-take-le}
+use Rattle.timing.specs.Lists.{upto}
+use Rattle.timing.specs.Graphs.{Design, Edge, Graph}
+use Rattle.timing.specs.Marks.{PathList}
+use Rattle.theorems.proofs.Lists.{mem-upto}
+use Rattle.removal.specs.declared.rows.Layout.{Layout}
+use Rattle.removal.specs.declared.step.Step.{Step}
+use Rattle.removal.specs.Table.{table}
+use Rattle.removal.specs.Positions.{restAt, Ordered}
+use Rattle.removal.specs.Slots.{Bounded, slots, slotMark}
+use Rattle.removal.specs.Step.{SlotTables, SpanRoom, SpanIs, PlacesRoom, StepMeets, StepIs, LiveIs}
+use Rattle.removal.specs.Names.{Unlisted}
+use Rattle.removal.specs.declared.step.Step.the-variants.{Live}
+use Rattle.removal.specs.Rows.{boundsIn, orderIn, Tabled}
+use Rattle.removal.proofs.Region.{table-at, table-length}
+use Rattle.removal.proofs.IntoLaws.{edgeAt, edges-map}
+use Rattle.removal.proofs.StepMarks.{places-room, bounds-inside, span-room, span-mark, span-inside, step-unlisted}
+
+-- a table that lies in the first k words
+pub table-prefix : (s : List ℕ) (k base n : ℕ) → base + n ≤ k → k ≤ length s → table (take k s) base n ≡ table s base n
+table-prefix s k base n h r =
+    let size : length (take k s) ≡ k = length-take-le k s r in
+    let one : length (table (take k s) base n) ≡ n = table-length (take k s) base n (omega arith) in
+    let two : length (table s base n) ≡ n = table-length s base n (omega arith) in
+    ext-getD 0 (table (take k s) base n) (table s base n) (one ∙ sym two)
+    (λ i m. table-at (take k s) base n i (omega arith) ∙ getD-take k s (base + i) 0 (omega arith) ∙ sym (table-at s base n i (omega arith)))
+
+-- edge e of the lists is an edge of the graph
+module _ (D : Design) (L : PathList) (G : Graph) (l : Layout) (flat gs ge gn p : List ℕ) (t : Tabled D L G l flat gs ge gn p) where
+  pub edge-mem : (e : ℕ) → e < l .edges → List·Memᴰ (edgeAt gs ge gn e) (G .edges)
+  edge-mem e h =
+      subst (λ (es : List Edge). List·Memᴰ (edgeAt gs ge gn e) es)
+      (sym (t .edges ∙ edges-map gs ge gn (t .ends ∙ sym (t .starts)) (t .names ∙ sym (t .starts))))
+      (Memᴰ·map (edgeAt gs ge gn) (mem-upto (length gs) 0 e (omega arith) (omega (arith, t .starts))))
+
+  pub edge-up : (e : ℕ) → e < l .edges → getD gs e 0 < getD ge e 0
+  edge-up e h = t .legal .rising .up (edgeAt gs ge gn e) (edge-mem e h)
+
+  pub end-inside : (e : ℕ) → e < l .edges → getD ge e 0 < l .copies
+  end-inside e h = omega (arith, t .legal .rising .inside (edgeAt gs ge gn e) (edge-mem e h), t .copies)
+
+  pub start-inside : (e : ℕ) → e < l .edges → getD gs e 0 < l .copies
+  start-inside e h = omega (arith, edge-up e h, end-inside e h)
+
+module _ (D : Design) (L : PathList) (G : Graph) (l : Layout) (flat gs ge gn s : List ℕ)
+    (t : Tabled D L G l flat gs ge gn (take (l .slots) s)) (room : l .slots ≤ length s) where
+  pub slot-tables : (c : ℕ) → c < l .copies → SlotTables D L G (boundsIn l (take (l .slots) s)) s (l .rest) (l .order) c
+  slot-tables c h =
+      let n : length (L .edges) ≡ length flat = ap length (t .listed) in
+      let inside : l .order + length flat ≤ l .slots = omega (arith, t .laid .order, t .laid .low, t .laid .into, t .laid .out) in
+      let first : l .rest + length flat ≤ l .slots = omega (arith, t .laid .rest) in
+      let order = table-prefix s (l .slots) (l .order) (length flat) inside room in
+      let rests = table-prefix s (l .slots) (l .rest) (length flat) first room in
+      record {
+        total = t .fits .total;
+        filled = t .fits .filled;
+        rest-room = omega arith;
+        order-room = omega arith;
+        rests = subst (λ (k : ℕ). table s (l .rest) k ≡ map (restAt L) (upto k 0)) (sym n) (sym rests ∙ t .rests);
+        ordered = subst (λ (k : ℕ). Ordered D L (table s (l .order) k)) (sym n) (subst (λ (o : List ℕ). Ordered D L o) order (t .ordered));
+        bounded = subst (λ (k : ℕ). Bounded D L G (table s (l .order) k) (boundsIn l (take (l .slots) s)) c) (sym n)
+            (subst (λ (o : List ℕ). Bounded D L G o (boundsIn l (take (l .slots) s)) c) order (t .bounded c h));
+      }
+
+  -- what the searches ask
+  pub span-asked : (c low j : ℕ) → c < l .copies → low ≡ boundsIn l (take (l .slots) s) .low c → j < slots (boundsIn l (take (l .slots) s)) c
+      → SpanRoom s (l .rest) (l .order) low j
+  span-asked c low j h e k =
+      subst (λ (x : ℕ). SpanRoom s (l .rest) (l .order) x j) (sym e) (span-room D L G (boundsIn l (take (l .slots) s)) s (l .rest) (l .order) c (slot-tables c h) j k)
+
+  pub span-within : (c low j at len : ℕ) → c < l .copies → low ≡ boundsIn l (take (l .slots) s) .low c → j < slots (boundsIn l (take (l .slots) s)) c
+      → SpanIs s (l .rest) (l .order) low j at len → at + len ≤ length flat
+  span-within c low j at len h e k is =
+      let r = span-inside D L G (boundsIn l (take (l .slots) s)) s (l .rest) (l .order) c (slot-tables c h) j at len k
+      (subst (λ (x : ℕ). SpanIs s (l .rest) (l .order) x j at len) e is) in
+      omega (arith, r, ap length (t .listed))
+
+  pub places-asked : (a low middle high at len : ℕ) → a < l .copies → low ≡ boundsIn l (take (l .slots) s) .low a
+      → middle ≡ boundsIn l (take (l .slots) s) .middle a → high ≡ boundsIn l (take (l .slots) s) .high a → at + len ≤ length flat
+      → PlacesRoom flat s (l .rest) (l .order) low high at len × ((low ≤ middle) × (middle ≤ high))
+  places-asked a low middle high at len h x y z k =
+      let g = slot-tables a h in
+      let b = bounds-inside D L G (boundsIn l (take (l .slots) s)) s (l .rest) (l .order) a g in
+      let n : length (L .edges) ≡ length flat = ap length (t .listed) in (
+        subst (λ (f : List ℕ). PlacesRoom f s (l .rest) (l .order) low high at len) (t .listed)
+            (places-room D L G (boundsIn l (take (l .slots) s)) s (l .rest) (l .order) a g low high at len (omega (arith, b .0, b .1)) (omega (arith, b .2)) (omega arith)),
+        (omega (arith, b .0), omega (arith, b .1)),
+      )
+
+  -- and what they find is the step
+  pub along-is : (e j a c low middle high from at len : ℕ) (r : Step) → e < l .edges → a ≡ getD gs e 0 → c ≡ getD ge e 0
+      → j < slots (boundsIn l (take (l .slots) s)) (getD ge e 0)
+      → from ≡ boundsIn l (take (l .slots) s) .low c → SpanIs s (l .rest) (l .order) from j at len
+      → low ≡ boundsIn l (take (l .slots) s) .low a → middle ≡ boundsIn l (take (l .slots) s) .middle a → high ≡ boundsIn l (take (l .slots) s) .high a
+      → StepMeets flat s (l .rest) (l .order) low middle high (getD gn e 0) at len r
+      → StepIs L (orderIn l flat (take (l .slots) s)) (boundsIn l (take (l .slots) s)) (getD gs e 0)
+      (getD gn e 0 ∷ slotMark L (orderIn l flat (take (l .slots) s)) (boundsIn l (take (l .slots) s)) (getD ge e 0) j) r
+  unfolding StepMeets
+  along-is e j a c low middle high from at len r h qa qc k f is x y z m =
+      let B = boundsIn l (take (l .slots) s) in
+      let start = start-inside D L G l flat gs ge gn (take (l .slots) s) t e h in
+      let end = end-inside D L G l flat gs ge gn (take (l .slots) s) t e h in
+      let n : length (L .edges) ≡ length flat = ap length (t .listed) in
+      let inside : l .order + length flat ≤ l .slots = omega (arith, t .laid .order, t .laid .low, t .laid .into, t .laid .out) in
+      let order : table s (l .order) (length (L .edges)) ≡ orderIn l flat (take (l .slots) s) =
+      ap (table s (l .order)) n ∙ sym (table-prefix s (l .slots) (l .order) (length flat) inside room) in
+      let marks : take len (drop at (L .edges)) ≡ slotMark L (table s (l .order) (length (L .edges))) B (getD ge e 0) j =
+      span-mark D L G B s (l .rest) (l .order) (getD ge e 0) (slot-tables (getD ge e 0) end) j at len k
+      (subst (λ (i : ℕ). SpanIs s (l .rest) (l .order) i j at len) (f ∙ ap (B .low) qc) is) in
+      let meets : StepMeets (L .edges) s (l .rest) (l .order) low middle high (getD gn e 0) at len r =
+      subst (λ (g : List ℕ). StepMeets g s (l .rest) (l .order) low middle high (getD gn e 0) at len r) (sym (t .listed)) m in
+      let step = meets D (L .lengths) G B (getD gs e 0) (slot-tables (getD gs e 0) start) (x ∙ ap (B .low) qa) (y ∙ ap (B .middle) qa) (z ∙ ap (B .high) qa)
+      (sym (t .legal .starts (edgeAt gs ge gn e) (edge-mem D L G l flat gs ge gn (take (l .slots) s) t e h))) in
+      subst (λ (o : List ℕ). StepIs L o B (getD gs e 0) (getD gn e 0 ∷ slotMark L o B (getD ge e 0) j) r) order
+      (subst (λ (w : List ℕ). StepIs L (table s (l .order) (length (L .edges))) B (getD gs e 0) (getD gn e 0 ∷ w) r) marks step)
+
+  -- an edge that names no listed one leads to the empty mark
+  pub along-unlisted : (e j : ℕ) → e < l .edges → getD s (l .out + l .copies + l .edges + e) 0 ≡ 0
+      → StepIs L (orderIn l flat (take (l .slots) s)) (boundsIn l (take (l .slots) s)) (getD gs e 0)
+      (getD gn e 0 ∷ slotMark L (orderIn l flat (take (l .slots) s)) (boundsIn l (take (l .slots) s)) (getD ge e 0) j) (Live 0)
+  along-unlisted e j h z =
+      let B = boundsIn l (take (l .slots) s) in
+      let start = start-inside D L G l flat gs ge gn (take (l .slots) s) t e h in
+      let n : length (L .edges) ≡ length flat = ap length (t .listed) in
+      let inside : l .order + length flat ≤ l .slots = omega (arith, t .laid .order, t .laid .low, t .laid .into, t .laid .out) in
+      let order : table s (l .order) (length (L .edges)) ≡ orderIn l flat (take (l .slots) s) =
+      ap (table s (l .order)) n ∙ sym (table-prefix s (l .slots) (l .order) (length flat) inside room) in
+      let unlisted : Unlisted flat (getD gn e 0) = t .named e h (getD-take (l .slots) s (l .out + l .copies + l .edges + e) 0 (omega (arith, t .laid .named)) ∙ z) in
+      subst (λ (o : List ℕ). LiveIs L o B (getD gs e 0) (getD gn e 0 ∷ slotMark L (orderIn l flat (take (l .slots) s)) B (getD ge e 0) j) 0) order
+      (step-unlisted D L G B s (l .rest) (l .order) (getD gs e 0) (slot-tables (getD gs e 0) start) (getD gn e 0) (slotMark L (orderIn l flat (take (l .slots) s)) B (getD ge e 0) j)
+      (sym (t .legal .starts (edgeAt gs ge gn e) (edge-mem D L G l flat gs ge gn (take (l .slots) s) t e h)))
+      (subst (λ (f : List ℕ). Unlisted f (getD gn e 0)) (sym (t .listed)) unlisted))

@@ -1,0 +1,22 @@
+-- What pass 2 leaves is what pass 3 asks.
+use Prim.Native.Nat.{ℕ}
+use native.Mathlib.Omega.{arith}
+use mathlib.Core.List.{List}
+use lib.ListN.{take}
+use Rattle.timing.specs.Graphs.{Design, Graph}
+use Rattle.timing.specs.Marks.{PathList}
+use Rattle.removal.specs.declared.rows.Layout.{Layout}
+use Rattle.removal.specs.Rows.{boundsIn, orderIn, Tabled, Ready, flagIn}
+use Rattle.removal.specs.Show.{ShowsAll}
+use Rattle.removal.specs.Fill.{ShownReady}
+
+pub shown-ready : (l : Layout) (flat gs ge gn t : List ℕ) (copies edges : ℕ) → Ready l flat gs ge gn t
+    → ((D : Design) (L : PathList) (G : Graph) → Tabled D L G l flat gs ge gn (take (l .slots) t)
+    → ShowsAll G L (orderIn l flat (take (l .slots) t)) (boundsIn l (take (l .slots) t)) (flagIn l t) copies edges)
+    → ShownReady l flat gs ge gn t
+shown-ready l flat gs ge gn t copies edges r a =
+    record {
+      ready = r;
+      rows = λ D L G x c h. a D L G x .rows c (omega (arith, x .copies));
+      numbered = λ c j h i s. a (r .design) (r .list) (r .graph) (r .tabled) .numbers c j (omega (arith, r .tabled .copies)) i s;
+    }

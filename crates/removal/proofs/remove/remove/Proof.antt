@@ -1,0 +1,85 @@
+-- 31 is tested with the count of candidates; where it passes, the scratch is enough.
+use Prim.Native.Nat.{ℕ, _+_, _*_}
+use mathlib.Core.Path.{sym, _∙_, subst}
+use lib.Dec.{leb}
+use lib.ListN.{length}
+use Rattle.timing.specs.declared.Refusal.{Refusal}
+use Rattle.timing.specs.declared.GraphMade.the-variants.{Refused as NoGraph}
+use Rattle.theorems.proofs.Lists.{holds}
+use Rattle.removal.specs.Remove.{AllRemoved}
+use Rattle.removal.proofs.AnswerLaws.{work-countable, work-in, removed-refused, removed-made}
+use borrow.Author.Needs.{needs}
+use Rattle.removal.proofs.remove.remove.Statement.{statement}
+use Rattle.removal.proofs.remove.remove.Tie as tie
+
+count-candidates-requires : tie.Need-count-candidates-requires
+count-candidates-requires c κs =
+    let st = c .before .before .before .before .before .before .before .before .before .before .before .before in
+    let a = st .args in
+    work-countable (a .starts .now) (a .flat .now) (a .lengths .now) (a .nodes .now) (a .gs .now) (a .ge .now) (a .gn .now) (st .pre .0)
+
+scratch-fits-requires : tie.Need-scratch-fits-requires
+scratch-fits-requires c κs =
+    let st = c .before .before .before .before .before .before .before .before .before .before .before .before .before in
+    let g = st .pre .0 .worked .given in
+    let a = st .args in
+    (c .count-candidates .ensures .1, work-countable (a .starts .now) (a .flat .now) (a .lengths .now) (a .nodes .now) (a .gs .now) (a .ge .now) (a .gn .now) (st .pre .0) .0 .few, g .few-edges)
+
+remove-with-requires : tie.Need-remove-with-requires
+remove-with-requires c κs =
+    let k = c .before .before .before .before .before .before .before in
+    let st = k .before .before .before .before .before .before .before .before .before .before .before .before .before in
+    let a = st .args in
+    let n : ℕ = k .count-candidates .result in
+    (work-in (a .starts .now) (a .flat .now) (a .lengths .now) (a .nodes .now) (a .gs .now) (a .ge .now) (a .gn .now) n (k .count-candidates .ensures .0) (a .s .now) (st .pre .0) (holds (leb (16 * (n + length (a .flat .now) + length (a .gs .now))) (length (a .s .now))) (sym (c .before .before .before .before .before .before .scratch-fits .ensures) ∙ c .before .before .before .before .before .if1 .taken)), st .pre .1)
+
+same-length : tie.Need-same-length
+same-length c = search needs
+
+same-length-2 : tie.Need-same-length-2
+same-length-2 c = search needs
+
+same-length-3 : tie.Need-same-length-3
+same-length-3 c = search needs
+
+same-length-4 : tie.Need-same-length-4
+same-length-4 c = search needs
+
+same-length-5 : tie.Need-same-length-5
+same-length-5 c = search needs
+
+returns : tie.Need-returns
+returns c =
+    let r = c .before .before .before .before .before .before .before .before .before .before in
+    let k = r .before .before .before .before .before .before .before .before in
+    let st = k .before .before .before .before .before .before .before .before .before .before .before .before .before in
+    let a = st .args in
+    removed-made (a .starts .now) (a .flat .now) (a .lengths .now) (a .nodes .now) (a .gs .now) (a .ge .now) (a .gn .now) (k .count-candidates .result) (k .count-candidates .ensures .0) (a .room .now) (a .from .now) (a .to .now) (a .via .now) (a .s .now) (sym (r .before .before .before .before .before .before .before .scratch-fits .ensures) ∙ r .before .before .before .before .before .before .if1 .taken) (r .remove-with .result)
+    (r .remove-with .last .1 .1 .1 .1 .1 .1 .1 .0) (r .remove-with .last .1 .1 .1 .1 .1 .1 .1 .1 .0) (r .remove-with .last .1 .1 .1 .1 .1 .1 .1 .1 .1 .0) (r .remove-with .last .1 .1 .1 .1 .1 .1 .1 .1 .1 .1 .0) (r .remove-with .last .1 .1 .1 .1 .1 .1 .1 .1 .1 .1 .1 .0) (r .remove-with .ensures)
+
+refuse-requires : tie.Need-refuse-requires
+refuse-requires c κs = search needs
+
+returns-2 : tie.Need-returns-2
+returns-2 c =
+    let k = c .before .before .before in
+    let st = k .before .before .before .before .before .before .before .before .before .before .before .before .before in
+    let a = st .args in
+    subst (λ (x : Refusal). AllRemoved (a .starts .now) (a .flat .now) (a .lengths .now) (a .nodes .now) (a .gs .now) (a .ge .now) (a .gn .now) (NoGraph x) (a .room .now) (a .from .now) (a .to .now) (a .via .now) (a .s .now) (a .room .now) (a .from .now) (a .to .now) (a .via .now) (a .s .now)) (sym (c .refuse .ensures))
+    (removed-refused (a .starts .now) (a .flat .now) (a .lengths .now) (a .nodes .now) (a .gs .now) (a .ge .now) (a .gn .now) (k .count-candidates .result) (k .count-candidates .ensures .0) (a .room .now) (a .from .now) (a .to .now) (a .via .now) (a .s .now) (sym (c .before .before .scratch-fits .ensures) ∙ c .before .if1 .left))
+
+pub remove-spec : {M : Type 1} → statement M
+remove-spec =
+    tie.close
+    (tie.spec
+    count-candidates-requires
+    scratch-fits-requires
+    remove-with-requires
+    same-length
+    same-length-2
+    same-length-3
+    same-length-4
+    same-length-5
+    returns
+    refuse-requires
+    returns-2)

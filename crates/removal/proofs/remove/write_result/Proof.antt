@@ -1,0 +1,67 @@
+-- A refusal changes nothing; or there is room, and the result is written.
+use mathlib.Core.Path.{sym, _∙_}
+use lib.ListN.{length}
+use Rattle.removal.proofs.RemoveLaws.{slots-room}
+use Rattle.removal.proofs.AnswerLaws.{counts-fit, room-refused, room-made}
+use borrow.Author.Needs.{needs}
+use Rattle.removal.proofs.remove.write_result.Statement.{statement}
+use Rattle.removal.proofs.remove.write_result.Tie as tie
+
+room-tests-requires : tie.Need-room-tests-requires
+room-tests-requires c κs = search needs
+
+enum-known-verdict : tie.Need-enum-known-verdict
+enum-known-verdict c = search needs
+
+returns : tie.Need-returns
+returns c =
+    let w = c .before .before .before in
+    let st = w .before .before .before .before .before .before .before .before .before .before .before in
+    let a = st .args in
+    room-refused (a .l) (a .flat .now) (a .nodes .now) (a .gs .now) (a .ge .now) (a .gn .now) (a .s .now) (a .room .now) (a .from .now) (a .to .now) (a .via .now) (a .counts .copies) (a .counts .edges) (st .pre .0) (c .before .verdict .given .0 .0) (sym (w .room-tests .ensures) ∙ c .before .verdict .given .1)
+
+enum-told : tie.Need-enum-told
+enum-told c = search needs
+
+fill-all-requires : tie.Need-fill-all-requires
+fill-all-requires c κs =
+    let w = c .before .before .before .before .before .before in
+    let st = w .before .before .before .before .before .before .before .before .before .before .before in
+    let a = st .args in
+    let h = counts-fit (a .counts .copies) (a .counts .edges) (length (a .room .now)) (length (a .from .now)) (sym (w .room-tests .ensures) ∙ c .before .before .before .before .enum-told .given .1) in
+    slots-room (a .l) (a .flat .now) (a .nodes .now) (a .gs .now) (a .ge .now) (a .gn .now) (a .s .now) (a .room .now) (a .from .now) (a .to .now) (a .via .now) (a .counts .copies) (a .counts .edges) (st .pre .0) (st .pre .1) (h .0) (h .1)
+
+same-length : tie.Need-same-length
+same-length c = search needs
+
+same-length-2 : tie.Need-same-length-2
+same-length-2 c = search needs
+
+same-length-3 : tie.Need-same-length-3
+same-length-3 c = search needs
+
+same-length-4 : tie.Need-same-length-4
+same-length-4 c = search needs
+
+returns-2 : tie.Need-returns-2
+returns-2 c =
+    let f = c .before .before .before .before .before .before .before .before in
+    let w = f .before .before .before .before .before .before .before in
+    let st = w .before .before .before .before .before .before .before .before .before .before .before in
+    let a = st .args in
+    room-made (a .l) (a .flat .now) (a .nodes .now) (a .gs .now) (a .ge .now) (a .gn .now) (a .s .now) (a .room .now) (a .from .now) (a .to .now) (a .via .now) (a .counts .copies) (a .counts .edges) (st .pre .0) (sym (w .room-tests .ensures) ∙ f .before .before .before .before .before .enum-told .given .1) (f .fill-all .last .1 .1 .1 .1 .1 .1 .1 .0) (f .fill-all .last .1 .1 .1 .1 .1 .1 .1 .1 .0) (f .fill-all .last .1 .1 .1 .1 .1 .1 .1 .1 .1 .0) (f .fill-all .last .1 .1 .1 .1 .1 .1 .1 .1 .1 .1 .0) (f .fill-all .ensures)
+
+pub write-result-spec : {M : Type 1} → statement M
+write-result-spec =
+    tie.close
+    (tie.spec
+    room-tests-requires
+    enum-known-verdict
+    returns
+    enum-told
+    fill-all-requires
+    same-length
+    same-length-2
+    same-length-3
+    same-length-4
+    returns-2)

@@ -1,0 +1,34 @@
+-- `mark_reached` meets its contract: it is one store.
+use Prim.Native.Nat.{ℕ, _<_}
+use native.Mathlib.Omega.{arith}
+use mathlib.Core.Path.{ap}
+use lib.ListN.{length, set}
+use Rattle.removal.proofs.RowLaws.{place-inside}
+use borrow.Author.Needs.{needs}
+use Rattle.removal.proofs.rows.mark_reached.Statement.{statement}
+use Rattle.removal.proofs.rows.mark_reached.Tie as tie
+
+-- the slot stands in the scratch
+inside : (c : tie.After-slot-place) → c .slot-place .result < length (c .before .before .before .args .s .now)
+inside c =
+    let p = c .before .before .before in
+    omega (arith, c .slot-place .ensures, place-inside (p .args .l) (p .args .s .now) (p .pre .0) (p .args .c) (p .args .j) (p .pre .1) (p .pre .2))
+
+slot-place-requires : tie.Need-slot-place-requires
+slot-place-requires c κs = search needs
+
+mul-s : tie.Need-mul-s
+mul-s c = omega (arith, inside c)
+
+slice-write-s : tie.Need-slice-write-s
+slice-write-s c = inside c
+
+same-length : tie.Need-same-length
+same-length c = search needs
+
+returns : tie.Need-returns
+returns c = ap (λ (i : ℕ). set (c .before .before .before .args .s .now) i 1) (c .slot-place .ensures)
+
+pub mark-reached-spec : {M : Type 1} → statement M
+mark-reached-spec =
+    tie.close (tie.spec slot-place-requires mul-s slice-write-s same-length returns)

@@ -1,0 +1,26 @@
+-- `middle_at` meets its contract: it reads a table.
+use mathlib.Core.Path.{_∙_}
+use Rattle.removal.proofs.RowLaws.{middle-read}
+use borrow.Author.Needs.{needs}
+use Rattle.removal.proofs.rows.middle_at.Statement.{statement}
+use Rattle.removal.proofs.rows.middle_at.Tie as tie
+
+add-number-at : tie.Need-add-number-at
+add-number-at c = search needs
+
+add-number-at-2 : tie.Need-add-number-at-2
+add-number-at-2 c = search needs
+
+number-at-requires : tie.Need-number-at-requires
+number-at-requires c κs = search needs
+
+cast-result : tie.Need-cast-result
+cast-result c = search needs
+
+returns : tie.Need-returns
+returns c =
+    let p = c .before .before .before in c .number-at .ensures ∙ middle-read (p .args .l) (p .args .s .now) (p .pre .0) (p .args .c) (p .pre .1)
+
+pub middle-at-spec : {M : Type 1} → statement M
+middle-at-spec =
+    tie.close (tie.spec add-number-at add-number-at-2 number-at-requires cast-result returns)

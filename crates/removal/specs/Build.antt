@@ -1,0 +1,54 @@
+-- Where the tables are put, what filling them asks, and what it gives.
+use Prim.Native.Nat.{ℕ, _+_, _*_, _≤_, _<_}
+use mathlib.Core.Path.{_≡_}
+use mathlib.Core.List.{List}
+use lib.ListN.{length, take}
+use Rattle.timing.specs.Graphs.{Design, Graph, edgesOf}
+use Rattle.timing.specs.Marks.{PathList, pathList}
+use Rattle.timing.specs.Tests.{candidates}
+use Rattle.theorems.proofs.Legal.{Legal}
+use Rattle.theorems.proofs.Tested.{ListFits}
+use Rattle.removal.specs.declared.rows.Layout.{Layout}
+use Rattle.removal.specs.Slots.{slots}
+use Rattle.removal.specs.Rows.{boundsIn, flagIn, Tabled, Ready}
+
+-- the tables for c copies, e edges and n listed edges, one after the other
+pub record LaidOut (c e n : ℕ) (l : Layout) : Type 0 where
+  pub copies : l .copies ≡ c
+  pub edges : l .edges ≡ e
+  pub rest : l .rest ≡ 0
+  pub order : l .order ≡ n
+  pub low : l .low ≡ 2 * n
+  pub into : l .into ≡ 2 * n + 4 * c
+  pub out : l .out ≡ 2 * n + 5 * c + e
+  pub slots : l .slots ≡ 2 * n + 6 * c + 3 * e
+
+-- what the lent slices are: a design's starts, a list that fits it, and a legal graph of it, all small enough
+pub record Given (D : Design) (L : PathList) (G : Graph) (starts flat lengths nodes gs ge gn : List ℕ) : Type 0 where
+  pub legal : Legal D G
+  pub fits : ListFits D L
+  pub design : D .starts ≡ starts
+  pub list : L ≡ pathList flat lengths
+  pub copies : G .nodes ≡ nodes
+  pub edges : G .edges ≡ edgesOf gs ge gn
+  pub ends : length ge ≡ length gs
+  pub names : length gn ≡ length gs
+  pub few-copies : length nodes ≤ 16384
+  pub few-edges : length gs ≤ 65536
+
+-- they are this of some design, and the scratch is as long as test 31 asks
+pub record Buildable (starts flat lengths nodes gs ge gn s : List ℕ) : Type 0 where
+  pub design : Design
+  pub list : PathList
+  pub graph : Graph
+  pub given : Given design list graph starts flat lengths nodes gs ge gn
+  pub room : 16 * (candidates design graph list + length flat + length gs) ≤ length s
+
+-- the tables are filled for whatever design the slices are given of, and no slot is marked
+pub record Built (starts flat lengths nodes gs ge gn s t : List ℕ) (l : Layout) : Type 0 where
+  pub size : length t ≡ length s
+  pub laid : LaidOut (length nodes) (length gs) (length flat) l
+  pub clear : (c j : ℕ) → c < length nodes → j < slots (boundsIn l (take (l .slots) t)) c → flagIn l t c j ≡ 0
+  pub tabled : (D : Design) (L : PathList) (G : Graph) → Given D L G starts flat lengths nodes gs ge gn
+      → Tabled D L G l flat gs ge gn (take (l .slots) t)
+  pub ready : (D : Design) (L : PathList) (G : Graph) → Given D L G starts flat lengths nodes gs ge gn → Ready l flat gs ge gn t

@@ -1,0 +1,86 @@
+-- What the passes find together, and what a whole removal answers and leaves behind.
+use Prim.Native.Nat.{ℕ, _+_, _*_, _≤_}
+use mathlib.Core.Path.{_≡_}
+use mathlib.Core.List.{List, flatMap}
+use lib.ListN.{length, take}
+use Rattle.timing.specs.declared.GraphMade.{GraphMade}
+use Rattle.timing.specs.Graphs.{Design, Graph, edgesIn}
+use Rattle.timing.specs.Marks.{PathList, pathsOf}
+use Rattle.timing.specs.TrueGraphs.{trueGraph}
+use Rattle.timing.specs.Tests.{candidates, roomTests}
+use Rattle.timing.specs.Calls.{Outcome, outcome, removal, removalTests, graphSlices, roomOf, graphAnswer, nodesAfter, startsAfter, endsAfter, namesAfter, scratchAfter}
+use Rattle.theorems.proofs.Tested.{DesignFits}
+use Rattle.removal.specs.declared.rows.Layout.{Layout}
+use Rattle.removal.specs.Result.{shownBelow}
+use Rattle.removal.specs.Rows.{Tabled}
+use Rattle.removal.specs.Fill.{EdgesInto, ShownReady, SameRooms, boundsNow, shownNow, edgesNow}
+use Rattle.removal.specs.Build.{Given}
+
+-- the lent slices are of a design, a list and a graph, and the edges into each copy are in order
+pub record Worked (D : Design) (L : PathList) (G : Graph) (starts flat lengths nodes gs ge gn : List ℕ) : Type 0 where
+  pub given : Given D L G starts flat lengths nodes gs ge gn
+  pub fits : DesignFits D
+  pub into : EdgesInto G (edgesIn G)
+
+-- they are this of some design
+pub record Workable (starts flat lengths nodes gs ge gn : List ℕ) : Type 0 where
+  pub design : Design
+  pub list : PathList
+  pub graph : Graph
+  pub worked : Worked design list graph starts flat lengths nodes gs ge gn
+
+-- and the scratch is as long as test 31 asks
+pub record WorkableIn (starts flat lengths nodes gs ge gn s : List ℕ) : Type 0 where
+  pub work : Workable starts flat lengths nodes gs ge gn
+  pub room : 16 * (candidates (work .design) (work .graph) (work .list) + length flat + length gs) ≤ length s
+
+-- The passes over the slots are done: so many are shown, with so many edges between them.
+pub record AllFound (l : Layout) (flat nodes gs ge gn t : List ℕ) (copies edges : ℕ) : Type 0 where
+  pub shown : ShownReady l flat gs ge gn t
+  pub copies-of : l .copies ≡ length nodes
+  pub slots-counted : copies ≡ length (shownBelow (boundsNow l t) (shownNow l t) (l .copies))
+  pub edges-counted : (D : Design) (L : PathList) (G : Graph) → Tabled D L G l flat gs ge gn (take (l .slots) t)
+      → edges ≡ length (flatMap (edgesNow l flat t L G) (shownBelow (boundsNow l t) (shownNow l t) (l .copies)))
+  pub copies-are : (D : Design) (L : PathList) (G : Graph) → Tabled D L G l flat gs ge gn (take (l .slots) t) → copies ≡ length (trueGraph G (pathsOf L) .nodes)
+  pub edges-are : (D : Design) (L : PathList) (G : Graph) → Tabled D L G l flat gs ge gn (take (l .slots) t) → EdgesInto G (edgesIn G)
+      → edges ≡ length (trueGraph G (pathsOf L) .edges)
+
+-- t is the scratch then, with the tables of whatever design the slices are given of
+pub record Found (starts flat lengths nodes gs ge gn s t : List ℕ) (l : Layout) (copies edges : ℕ) : Type 0 where
+  pub size : length t ≡ length s
+  pub tabled : (D : Design) (L : PathList) (G : Graph) → Given D L G starts flat lengths nodes gs ge gn → Tabled D L G l flat gs ge gn (take (l .slots) t)
+  pub all : AllFound l flat nodes gs ge gn t copies edges
+
+-- the answer and the room are those of an outcome
+pub record Answered (o : Outcome Graph) (r : GraphMade) (room from to via room′ from′ to′ via′ : List ℕ) : Type 0 where
+  pub answer : r ≡ graphAnswer o
+  pub nodes : room′ ≡ nodesAfter o room
+  pub starts : from′ ≡ startsAfter o from
+  pub ends : to′ ≡ endsAfter o to
+  pub names : via′ ≡ namesAfter o via
+
+-- what is made where only 33 and 34 are left to test
+abbrev pub roomOutcome : PathList → Graph → List ℕ → List ℕ → List ℕ → List ℕ → Outcome Graph
+roomOutcome L G room from to via = outcome (roomTests (roomOf (graphSlices room from to via)) (trueGraph G (pathsOf L))) (trueGraph G (pathsOf L))
+
+unfoldable pub RoomAnswered : Layout → List ℕ → List ℕ → List ℕ → List ℕ → List ℕ → List ℕ → GraphMade → List ℕ → List ℕ → List ℕ → List ℕ → List ℕ → List ℕ → List ℕ → List ℕ → Type 0
+RoomAnswered l flat nodes gs ge gn s r room from to via room′ from′ to′ via′ =
+    (D : Design) (L : PathList) (G : Graph) → Tabled D L G l flat gs ge gn (take (l .slots) s) → G .nodes ≡ nodes → EdgesInto G (edgesIn G)
+    → Answered (roomOutcome L G room from to via) r room from to via room′ from′ to′ via′
+
+-- and where 31 is too
+abbrev pub removalOutcome : Design → PathList → Graph → List ℕ → List ℕ → List ℕ → List ℕ → List ℕ → Outcome Graph
+removalOutcome D L G room from to via s =
+    outcome (removalTests D G (removal L (roomOf (graphSlices room from to via)) (length s))) (trueGraph G (pathsOf L))
+
+-- the scratch is too
+pub record Removed (o : Outcome Graph) (r : GraphMade) (room from to via s room′ from′ to′ via′ s′ : List ℕ) : Type 0 where
+  pub answered : Answered o r room from to via room′ from′ to′ via′
+  pub scratch : s′ ≡ scratchAfter o s
+
+module _ (starts flat lengths nodes gs ge gn : List ℕ) (r : GraphMade) (room from to via s room′ from′ to′ via′ s′ : List ℕ) where
+  unfoldable pub SearchRemoved : Type 0
+  SearchRemoved = (D : Design) (L : PathList) (G : Graph) → Worked D L G starts flat lengths nodes gs ge gn → Removed (roomOutcome L G room from to via) r room from to via s room′ from′ to′ via′ s′
+
+  unfoldable pub AllRemoved : Type 0
+  AllRemoved = (D : Design) (L : PathList) (G : Graph) → Worked D L G starts flat lengths nodes gs ge gn → Removed (removalOutcome D L G room from to via s) r room from to via s room′ from′ to′ via′ s′

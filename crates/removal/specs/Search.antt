@@ -1,0 +1,69 @@
+-- Searching the order of positions: the node at which a position's edge starts and whether it is the first of its path, as one
+-- number, never fall along the order, so that the bounds of a node are found by halving.
+use Prim.Native.Nat.{ℕ, _+_, _*_, _≤_, _<_}
+use mathlib.Core.Path.{_≡_}
+use mathlib.Core.List.{List, [], map}
+use lib.ListN.{length, getD, set}
+use Rattle.timing.specs.Lists.{sum, upto}
+use Rattle.timing.specs.Graphs.{Design, design, Graph, graph}
+use Rattle.timing.specs.Marks.{PathList, pathList}
+use Rattle.removal.specs.Table.{table, Frame}
+use Rattle.removal.specs.Positions.{restIn, headAt, startAt, Ordered}
+use Rattle.removal.specs.Slots.{Bounds, Bounded, slotBase}
+
+-- a design of which only the edges' starts are looked at, and a graph of which only the copies' nodes are
+abbrev pub ofStarts : List ℕ → Design
+ofStarts starts = design 0 starts [] []
+
+abbrev pub ofNodes : List ℕ → Graph
+ofNodes nodes = graph nodes []
+
+abbrev pub codeAt : List ℕ → PathList → ℕ → ℕ
+codeAt starts L i = 2 * startAt (ofStarts starts) L i + headAt L i
+
+-- the tables `rest` and `order` of the listed positions, both in the scratch, up to word `top`
+pub record Searchable (starts flat lengths s : List ℕ) (rest order top : ℕ) : Type 0 where
+  pub rest-room : rest + length flat ≤ top
+  pub order-room : order + length flat ≤ top
+  pub room : top ≤ length s
+  pub total : sum lengths ≡ length flat
+  pub filled : (j : ℕ) → j < length lengths → 0 < getD lengths j 0
+  pub rests : table s rest (length flat) ≡ map (restIn lengths) (upto (length flat) 0)
+  pub ordered : Ordered (ofStarts starts) (pathList flat lengths) (table s order (length flat))
+
+-- r places of the order have a code below the key
+pub record Lower (starts : List ℕ) (L : PathList) (order : List ℕ) (key r : ℕ) : Type 0 where
+  pub within : r ≤ length order
+  pub below : (t : ℕ) → t < r → codeAt starts L (getD order t 0) < key
+  pub above : (t : ℕ) → r ≤ t → t < length order → key ≤ codeAt starts L (getD order t 0)
+
+pub record Around (starts : List ℕ) (L : PathList) (order : List ℕ) (v low middle high : ℕ) : Type 0 where
+  pub lows : Lower starts L order (2 * v) low
+  pub middles : Lower starts L order (2 * v + 1) middle
+  pub highs : Lower starts L order (2 * v + 2) high
+
+-- the bounds that three tables of n words hold
+abbrev pub boundsIn : List ℕ → List ℕ → List ℕ → Bounds
+boundsIn lows middles highs = record { low = λ c. getD lows c 0; middle = λ c. getD middles c 0; high = λ c. getD highs c 0 }
+
+abbrev pub boundsAt : List ℕ → ℕ → ℕ → Bounds
+boundsAt s base n = boundsIn (table s base n) (table s (base + n) n) (table s (base + n + n) n)
+
+-- four stores as entry c of four tables of n words, one after the other
+unfoldable pub putFour : List ℕ → ℕ → ℕ → ℕ → ℕ → ℕ → ℕ → ℕ → List ℕ
+putFour s base n c x y z w = set (set (set (set s (base + c) x) (base + n + c) y) (base + n + n + c) z) (base + n + n + n + c) w
+
+-- what filling in the bounds asks, besides: the four tables stand after the others
+pub record Fillable (flat nodes s : List ℕ) (base : ℕ) : Type 0 where
+  pub room : base + length nodes + length nodes + length nodes + length nodes ≤ length s
+  pub copies : length nodes ≤ 65536
+  pub listed : length flat ≤ 8192
+
+-- and what it gives
+pub record Filled (starts flat lengths nodes s t : List ℕ) (order base total : ℕ) : Type 0 where
+  pub frame : Frame s t base (length nodes + length nodes + length nodes + length nodes)
+  pub bounded : (c : ℕ) → c < length nodes
+      → Bounded (ofStarts starts) (pathList flat lengths) (ofNodes nodes) (table t order (length flat)) (boundsAt t base (length nodes)) c
+  pub bases : (c : ℕ) → c < length nodes
+      → getD (table t (base + length nodes + length nodes + length nodes) (length nodes)) c 0 ≡ slotBase (boundsAt t base (length nodes)) c
+  pub slots : total ≡ slotBase (boundsAt t base (length nodes)) (length nodes)

@@ -1,0 +1,162 @@
+// The bounds of each copy's node in the order of positions, and where its slots stand.
+ghost use mathlib.Core.Path.{_≡_};
+ghost use Prim.Native.Nat.{ℕ, _+_, _*_, _≤_, _<_};
+ghost use lib.ListN.{length, getD};
+ghost use Rattle.timing.specs.Marks.{pathList};
+ghost use Rattle.removal.specs.Table.{table};
+ghost use Rattle.removal.specs.Positions.{headIn};
+ghost use Rattle.removal.specs.Search.{codeAt, Searchable, Lower, Around, putFour, Fillable, Filled};
+
+// What stands at i, and 0 past the end.
+fn at(s: &[u32], i: usize) -> u32
+    ensures { λ r. ⌜ r ≡ getD (now (s .entry)) i 0 ⌝ }
+{
+    if i < s.len() { s[i] } else { 0 }
+}
+
+// 1 for the first position of a path, else 0. No path is empty, so that one starts where the one
+// before has one edge left.
+fn head_at(
+    starts: &[u32],
+    flat: &[u32],
+    lengths: &[u32],
+    s: &[u32],
+    rest: usize,
+    order: usize,
+    top: usize,
+    p: usize,
+) -> usize
+    requires { ⌜ Searchable (now starts) (now flat) (now lengths) (now s) rest order top × (p < length (now flat)) ⌝ }
+    ensures { λ r. ⌜ r ≡ headIn (now (lengths .entry)) p ⌝ }
+{
+    if p == 0 {
+        return 1;
+    }
+    if at(s, rest + (p - 1)) == 1 {
+        return 1;
+    }
+    0
+}
+
+// The code of what stands at place t of the order.
+fn code_at(
+    starts: &[u32],
+    flat: &[u32],
+    lengths: &[u32],
+    s: &[u32],
+    rest: usize,
+    order: usize,
+    top: usize,
+    t: usize,
+) -> usize
+    requires { ⌜ Searchable (now starts) (now flat) (now lengths) (now s) rest order top × (t < length (now flat)) ⌝ }
+    ensures { λ r. ⌜ r ≡ codeAt (now (starts .entry)) (pathList (now (flat .entry)) (now (lengths .entry))) (getD (table (now (s .entry)) order (length (now (flat .entry)))) t 0) ⌝ }
+{
+    let p = at(s, order + t) as usize;
+    let e = at(flat, p) as usize;
+    let v = at(starts, e) as usize;
+    2 * v + head_at(starts, flat, lengths, s, rest, order, top, p)
+}
+
+// How many places of the order have a code below the key.
+fn lower_bound(
+    starts: &[u32],
+    flat: &[u32],
+    lengths: &[u32],
+    s: &[u32],
+    rest: usize,
+    order: usize,
+    top: usize,
+    key: usize,
+) -> usize
+    requires { ⌜ Searchable (now starts) (now flat) (now lengths) (now s) rest order top ⌝ }
+    ensures { λ r. ⌜ Lower (now (starts .entry)) (pathList (now (flat .entry)) (now (lengths .entry))) (table (now (s .entry)) order (length (now (flat .entry)))) key r ⌝ }
+{
+    let mut lo = 0;
+    let mut hi = flat.len();
+    while lo < hi {
+        let mid = lo + (hi - lo) / 2;
+        if code_at(starts, flat, lengths, s, rest, order, top, mid) < key {
+            lo = mid + 1;
+        } else {
+            hi = mid;
+        }
+    }
+    lo
+}
+
+// The bounds of a copy's node, and the slots of the copies before it.
+struct Four {
+    low: u32,
+    middle: u32,
+    high: u32,
+    before: u32,
+}
+
+// The bounds of a node, with the slots that stand before.
+fn around(
+    starts: &[u32],
+    flat: &[u32],
+    lengths: &[u32],
+    s: &[u32],
+    rest: usize,
+    order: usize,
+    top: usize,
+    v: u32,
+    before: u32,
+) -> Four
+    requires { ⌜ Searchable (now starts) (now flat) (now lengths) (now s) rest order top × (length (now flat) ≤ 8192) ⌝ }
+    ensures { λ r. ⌜ Around (now (starts .entry)) (pathList (now (flat .entry)) (now (lengths .entry))) (table (now (s .entry)) order (length (now (flat .entry)))) v (r .low) (r .middle) (r .high) × (r .before ≡ before) ⌝ }
+{
+    let key = 2 * (v as usize);
+    let low = lower_bound(starts, flat, lengths, s, rest, order, top, key) as u32;
+    let middle = lower_bound(starts, flat, lengths, s, rest, order, top, key + 1) as u32;
+    let high = lower_bound(starts, flat, lengths, s, rest, order, top, key + 2) as u32;
+    Four {
+        low,
+        middle,
+        high,
+        before,
+    }
+}
+
+// Stores four numbers as entry c of four tables of n words, one after the other.
+fn put_four(s: &mut [u32], base: usize, n: usize, c: usize, four: Four)
+    requires { ⌜ (c < n) × (base + n + n + n + n ≤ length (now s)) ⌝ }
+    ensures { λ r. ⌜ now (s .exit) ≡ putFour (now (s .entry)) base n c (four .low) (four .middle) (four .high) (four .before) ⌝ }
+{
+    let second = base + n;
+    let third = second + n;
+    let fourth = third + n;
+    s[base + c] = four.low;
+    s[second + c] = four.middle;
+    s[third + c] = four.high;
+    s[fourth + c] = four.before;
+}
+
+// Fills in the four tables from base on, a word for each copy: its three bounds, and how many slots
+// the copies before it have. Gives the number of all slots.
+pub(crate) fn fill_bounds(
+    starts: &[u32],
+    flat: &[u32],
+    lengths: &[u32],
+    nodes: &[u32],
+    s: &mut [u32],
+    rest: usize,
+    order: usize,
+    base: usize,
+) -> u32
+    requires { ⌜ Searchable (now starts) (now flat) (now lengths) (now s) rest order base × Fillable (now flat) (now nodes) (now s) base ⌝ }
+    ensures { λ r. ⌜ Filled (now (starts .entry)) (now (flat .entry)) (now (lengths .entry)) (now (nodes .entry)) (now (s .entry)) (now (s .exit)) order base r ⌝ }
+{
+    let n = nodes.len();
+    let mut total: u32 = 0;
+    let mut c = 0;
+    while c < n {
+        let four = around(starts, flat, lengths, s, rest, order, base, nodes[c], total);
+        put_four(s, base, n, c, four);
+        total = total + (four.middle - four.low + 1);
+        c += 1;
+    }
+    total
+}
