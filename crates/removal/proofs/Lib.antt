@@ -15,6 +15,7 @@ pub mod FillLaws
 pub mod StepLaws
 pub mod StepMarks
 pub mod StepSearch
+pub mod TailLaws
 pub mod FlagLaws
 pub mod Ascending
 pub mod ResultLaws

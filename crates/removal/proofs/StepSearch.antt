@@ -107,7 +107,7 @@ module _ (flat s : List ℕ) (rest order from to : ℕ) (w : List ℕ) (k lo hi 
   narrowed-end h n = record { below = n .below; above = λ t l m. n .above t (omega arith) m }
 
 -- a list that another begins with is its start
-prefix-take : (u v : List ℕ) → Prefix u v → u ≡ take (length u) v
+pub prefix-take : (u v : List ℕ) → Prefix u v → u ≡ take (length u) v
 prefix-take [] v p = refl
 prefix-take (x ∷ u) [] p = absurd p
 prefix-take (x ∷ u) (y ∷ v) p = ap₂ (λ (a : ℕ) (l : List ℕ). a ∷ l) (p .0) (prefix-take u v (p .1))

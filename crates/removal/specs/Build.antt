@@ -18,10 +18,12 @@ pub record LaidOut (c e n : ℕ) (l : Layout) : Type 0 where
   pub edges : l .edges ≡ e
   pub rest : l .rest ≡ 0
   pub order : l .order ≡ n
-  pub low : l .low ≡ 2 * n
-  pub into : l .into ≡ 2 * n + 4 * c
-  pub out : l .out ≡ 2 * n + 5 * c + e
-  pub slots : l .slots ≡ 2 * n + 6 * c + 3 * e
+  pub rank : l .rank ≡ 2 * n
+  pub link : l .link ≡ 3 * n
+  pub low : l .low ≡ 4 * n
+  pub into : l .into ≡ 4 * n + 4 * c
+  pub out : l .out ≡ 4 * n + 5 * c + e
+  pub slots : l .slots ≡ 4 * n + 6 * c + 3 * e
 
 -- what the lent slices are: a design's starts, a list that fits it, and a legal graph of it, all small enough
 pub record Given (D : Design) (L : PathList) (G : Graph) (starts flat lengths nodes gs ge gn : List ℕ) : Type 0 where

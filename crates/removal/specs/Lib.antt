@@ -13,6 +13,8 @@ pub mod Fill
 pub mod Flags
 pub mod Reach
 pub mod Listed
+pub mod Ranks
+pub mod Tails
 pub mod Search
 pub mod Step
 pub mod Build

@@ -15,6 +15,8 @@ use Rattle.removal.specs.Positions.{restAt, Ordered}
 use Rattle.removal.specs.Slots.{Bounds, Bounded, slots, slotBase}
 use Rattle.removal.specs.Links.{Chained}
 use Rattle.removal.specs.Names.{Unlisted}
+use Rattle.removal.specs.Ranks.{RestsFall, Ranked}
+use Rattle.removal.specs.Tails.{LinkedTo}
 
 -- the bounds of each copy, as the tables say
 abbrev pub boundsIn : Layout → List ℕ → Bounds
@@ -33,6 +35,8 @@ orderIn l flat p = table p (l .order) (length flat)
 pub record Laid (l : Layout) (listed : ℕ) (p : List ℕ) : Type 0 where
   pub rest : l .rest + listed ≤ l .order
   pub order : l .order + listed ≤ l .low
+  pub rank : l .rank + listed ≤ l .low
+  pub link : l .link + listed ≤ l .low
   pub low : l .low + 4 * l .copies ≤ l .into
   pub into : l .into + (l .copies + l .edges) ≤ l .out
   pub out : l .out + (l .copies + l .edges) ≤ l .slots
@@ -53,7 +57,10 @@ pub record Tabled (D : Design) (L : PathList) (G : Graph) (l : Layout) (flat gs 
   pub few-edges : l .edges ≤ 65536
   pub laid : Laid l (length flat) p
   pub rests : table p (l .rest) (length flat) ≡ map (restAt L) (upto (length flat) 0)
+  pub falls : RestsFall flat (table p (l .rest) (length flat))
   pub ordered : Ordered D L (orderIn l flat p)
+  pub ranked : Ranked flat (table p (l .rest) (length flat)) (table p (l .rank) (length flat))
+  pub links : (n : ℕ) → LinkedTo flat (table p (l .rest) (length flat)) (table p (l .link) (length flat)) n
   pub bounded : (c : ℕ) → c < l .copies → Bounded D L G (orderIn l flat p) (boundsIn l p) c
   pub bases : (c : ℕ) → c < l .copies → getD p (l .low + 3 * l .copies + c) 0 ≡ slotBase (boundsIn l p) c
   pub into : Chained ge (table p (l .into) (l .copies)) (table p (l .into + l .copies) (l .edges)) (l .copies) (l .edges) 0

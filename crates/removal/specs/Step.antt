@@ -48,17 +48,26 @@ pub record Parted (low : ℕ → Bool) (from to r : ℕ) : Type 0 where
   pub below : (t : ℕ) → from ≤ t → t < r → low t ≡ true
   pub above : (t : ℕ) → r ≤ t → t < to → low t ≡ false
 
-pub record Halved (flat s : List ℕ) (rest order from to name at len k r : ℕ) : Type 0 where
+pub record Halved (flat s : List ℕ) (rest order from to name at len r : ℕ) : Type 0 where
   pub least : from ≤ r
   pub most : r ≤ to
-  pub parted : Rising flat s rest order from to → Parted (comesBefore flat s rest order (following flat name at len) k) from to r
+  pub parted : Rising flat s rest order from to → Parted (comesBefore flat s rest order (following flat name at len) (len + 1)) from to r
 
--- whether place t, if it is one before `to`, fits
+-- whether place t, if it is one before `to`, has as many edges as the edge and the mark, and fits
 pub record PlaceFits (flat s : List ℕ) (rest order t to name at len : ℕ) (r : Bool) : Type 0 where
-  pub yes : r ≡ true → (t < to) × (fitting flat s rest order (following flat name at len) t ≡ true)
-  pub no : r ≡ false → t < to → fitting flat s rest order (following flat name at len) t ≡ false
+  pub yes : r ≡ true → (t < to) × (restFor s rest order t ≡ len + 1) × (fitting flat s rest order (following flat name at len) t ≡ true)
+  pub no : r ≡ false → t < to → restFor s rest order t ≡ len + 1 → fitting flat s rest order (following flat name at len) t ≡ false
 
--- what has to lie inside the flat list and the scratch: for one position, for the places from `from` to `to`, for a slot
+-- what has to lie inside the flat list and the scratch: for a place and for those from `from` to `to`, for one position and for
+-- the positions of these places, for a slot
+pub record PlaceIn (flat s : List ℕ) (order t : ℕ) : Type 0 where
+  pub read : order + t < length s
+  pub inside : getD s (order + t) 0 < length flat
+
+pub record PlacesIn (flat s : List ℕ) (order from to : ℕ) : Type 0 where
+  pub up : from ≤ to
+  pub places : (t : ℕ) → t < to → PlaceIn flat s order t
+
 pub record PositionRoom (flat s : List ℕ) (rest i at len : ℕ) : Type 0 where
   pub read : rest + i < length s
   pub some : 1 ≤ getD s (rest + i) 0

@@ -23,7 +23,9 @@ pub(crate) fn layout(copies: usize, edges: usize, listed: usize) -> Layout
     ensures { λ r. ⌜ LaidOut copies edges listed r ⌝ }
 {
     let order = listed;
-    let low = order + listed;
+    let rank = order + listed;
+    let link = rank + listed;
+    let low = link + listed;
     let into = low + 4 * copies;
     let out = into + (copies + edges);
     Layout {
@@ -31,6 +33,8 @@ pub(crate) fn layout(copies: usize, edges: usize, listed: usize) -> Layout
         edges,
         rest: 0,
         order,
+        rank,
+        link,
         low,
         into,
         out,

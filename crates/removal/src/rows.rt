@@ -12,7 +12,7 @@ use crate::step::slot_span;
 use crate::step::step_back;
 use timing::number_at;
 
-// `low` has four tables of a word for each copy: the bounds of the copy's places in the order
+// `rest`, `order`, `rank` and `link` have a word for each listed edge. `low` has four tables of a word for each copy: the bounds of the copy's places in the order
 // (`Bounds` in specs/), and where its slots start. `into` and `out` are the chains of edges by end
 // and by start: a word for each copy, and then one for each edge. After `out` stands a word for each
 // edge, which is 0 if the edge names no listed one. The slots stand last.
@@ -21,6 +21,8 @@ pub(crate) struct Layout {
     pub(crate) edges: usize,
     pub(crate) rest: usize,
     pub(crate) order: usize,
+    pub(crate) rank: usize,
+    pub(crate) link: usize,
     pub(crate) low: usize,
     pub(crate) into: usize,
     pub(crate) out: usize,
@@ -92,6 +94,8 @@ fn step_listed(
         s,
         l.rest,
         l.order,
+        l.rank,
+        l.link,
         low,
         middle,
         high,

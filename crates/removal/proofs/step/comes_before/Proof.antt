@@ -1,12 +1,37 @@
--- The lengths decide, then the first edges, and then the edges after them.
-use Prim.Native.Nat.{ℕ}
+-- The lengths decide, then the first edges, and then the ranks of what follows these.
+use Prim.Native.Nat.{ℕ, _+_, _≤_, _<_}
 use native.Mathlib.Omega.{arith}
-use mathlib.Core.Path.{sym, _∙_, ap}
+use mathlib.Core.Path.{_≡_, sym, _∙_, ap, ap₂}
 use lib.Dec.{ltb}
-use Rattle.removal.proofs.StepSearch.{key-size, key-other, key-same, key-is, read-inside}
+use lib.ListN.{length, getD}
+use Rattle.removal.specs.Table.{table}
+use Rattle.removal.proofs.Region.{table-at}
+use Rattle.removal.proofs.StepSearch.{key-size, key-other, key-same, key-is}
+use Rattle.removal.proofs.TailLaws.{mark-small, rank-decides}
+use Rattle.removal.proofs.KeyLaws.{edges-none}
 use borrow.Author.Needs.{needs}
 use Rattle.removal.proofs.step.comes_before.Statement.{statement}
 use Rattle.removal.proofs.step.comes_before.Tie as tie
+
+abbrev rests : tie.Start → List ℕ
+rests b = table (b .args .s .now) (b .args .rest) (length (b .args .flat .now))
+
+abbrev ranks : tie.Start → List ℕ
+ranks b = table (b .args .s .now) (b .args .rank) (length (b .args .flat .now))
+
+small : (b : tie.Start) → b .args .len ≤ length (b .args .flat .now)
+small b = mark-small (b .args .flat .now) (rests b) (b .args .at) (b .args .len) (b .pre .1 .falls) (b .pre .2)
+
+-- the position, and how many edges it has
+module _ (b : tie.Start) (i n : ℕ) (p : i ≡ getD (b .args .s .now) (b .args .order + b .args .t) 0) (q : n ≡ getD (b .args .s .now) (b .args .rest + i) 0) where
+  inside : i < length (b .args .flat .now)
+  inside = omega (arith, b .pre .0 .inside)
+
+  size : getD (rests b) i 0 ≡ n
+  size = table-at (b .args .s .now) (b .args .rest) (length (b .args .flat .now)) i inside ∙ sym q
+
+  whole : i + n ≤ length (b .args .flat .now)
+  whole = omega (arith, b .pre .1 .falls .inside i inside, size)
 
 add-number-at : tie.Need-add-number-at
 add-number-at c = search needs
@@ -23,11 +48,14 @@ add-number-at-2 c = search needs
 number-at-requires-2 : tie.Need-number-at-requires-2
 number-at-requires-2 c κs = search needs
 
-cast-if1 : tie.Need-cast-if1
-cast-if1 c = search needs
+cast-n : tie.Need-cast-n
+cast-n c = search needs
 
-cast-result : tie.Need-cast-result
-cast-result c = search needs
+add-if1 : tie.Need-add-if1
+add-if1 c = omega (arith, small (c .before .before .before .before))
+
+add-result : tie.Need-add-result
+add-result c = omega (arith, small (c .before .before .before .before .before))
 
 returns : tie.Need-returns
 returns c =
@@ -35,8 +63,8 @@ returns c =
     let a = b .args in
     let i = c .before .before .number-at in
     let n = c .before .number-at2 in
-    key-size (a .flat .now) (i .result) (n .result) (a .name) (a .at) (a .len) (a .k) (c .if1 .taken)
-    ∙ key-is (a .flat .now) (a .s .now) (a .rest) (a .order) (a .t) (a .name) (a .at) (a .len) (a .k) (i .result) (n .result) (i .ensures) (n .ensures)
+    key-size (a .flat .now) (i .result) (n .result) (a .name) (a .at) (a .len) (a .len + 1) (c .if1 .taken)
+    ∙ key-is (a .flat .now) (a .s .now) (a .rest) (a .order) (a .t) (a .name) (a .at) (a .len) (a .len + 1) (i .result) (n .result) (i .ensures) (n .ensures)
 
 number-at-requires-3 : tie.Need-number-at-requires-3
 number-at-requires-3 c κs = search needs
@@ -49,26 +77,10 @@ returns-2 c =
     let n = c .before .before .before .number-at2 in
     let first = c .before .number-at3 in
     ap (λ (x : ℕ). ltb x (a .name)) (first .ensures)
-    ∙ key-other (a .flat .now) (i .result) (n .result) (a .name) (a .at) (a .len) (a .k) (b .pre .2) (b .pre .3) (c .before .before .if1 .left)
-    (read-inside (a .flat .now) (a .s .now) (a .rest) (a .order) (a .t) (a .at) (a .len) (i .result) (n .result) (i .ensures) (n .ensures) (b .pre .0))
+    ∙ key-other (a .flat .now) (i .result) (n .result) (a .name) (a .at) (a .len) (a .len + 1) (omega arith) (omega arith) (c .before .before .if1 .left)
+    (whole b (i .result) (n .result) (i .ensures) (n .ensures))
     (λ q. c .if2 .taken (first .ensures ∙ q))
-    ∙ key-is (a .flat .now) (a .s .now) (a .rest) (a .order) (a .t) (a .name) (a .at) (a .len) (a .k) (i .result) (n .result) (i .ensures) (n .ensures)
-
-add-edges-before : tie.Need-add-edges-before
-add-edges-before c = search needs
-
-sub-edges-before : tie.Need-sub-edges-before
-sub-edges-before c = search needs
-
-edges-before-requires : tie.Need-edges-before-requires
-edges-before-requires c κs =
-    let b = c .before .before .before .before .before .before .before in
-    let a = b .args in
-    let i = c .before .before .before .before .number-at in
-    let n = c .before .before .before .number-at2 in
-    let inside = read-inside (a .flat .now) (a .s .now) (a .rest) (a .order) (a .t) (a .at) (a .len) (i .result) (n .result) (i .ensures) (n .ensures) (b .pre .0) in
-    let same = c .before .before .if1 .left in
-    (omega (arith, inside, same, b .pre .2), omega (arith, same, b .pre .2, b .pre .3, b .pre .0 .mark-inside))
+    ∙ key-is (a .flat .now) (a .s .now) (a .rest) (a .order) (a .t) (a .name) (a .at) (a .len) (a .len + 1) (i .result) (n .result) (i .ensures) (n .ensures)
 
 returns-3 : tie.Need-returns-3
 returns-3 c =
@@ -76,11 +88,30 @@ returns-3 c =
     let a = b .args in
     let i = c .before .before .before .before .before .number-at in
     let n = c .before .before .before .before .number-at2 in
-    c .edges-before .ensures
-    ∙ key-same (a .flat .now) (i .result) (n .result) (a .name) (a .at) (a .len) (a .k) (b .pre .2) (b .pre .3) (c .before .before .before .if1 .left)
-    (read-inside (a .flat .now) (a .s .now) (a .rest) (a .order) (a .t) (a .at) (a .len) (i .result) (n .result) (i .ensures) (n .ensures) (b .pre .0))
+    let same = c .before .before .before .if1 .left in
+    sym (edges-none (a .flat .now) (i .result + 1) (a .at) (n .result - 1) (omega (arith, same, c .if3 .taken)))
+    ∙ key-same (a .flat .now) (i .result) (n .result) (a .name) (a .at) (a .len) (a .len + 1) (omega arith) (omega arith) same
+    (whole b (i .result) (n .result) (i .ensures) (n .ensures))
     (sym (c .before .before .number-at3 .ensures) ∙ c .before .if2 .left)
-    ∙ key-is (a .flat .now) (a .s .now) (a .rest) (a .order) (a .t) (a .name) (a .at) (a .len) (a .k) (i .result) (n .result) (i .ensures) (n .ensures)
+    ∙ key-is (a .flat .now) (a .s .now) (a .rest) (a .order) (a .t) (a .name) (a .at) (a .len) (a .len + 1) (i .result) (n .result) (i .ensures) (n .ensures)
+
+add-number-at-3 : tie.Need-add-number-at-3
+add-number-at-3 c = search needs
+
+add-number-at-4 : tie.Need-add-number-at-4
+add-number-at-4 c = search needs
+
+number-at-requires-4 : tie.Need-number-at-requires-4
+number-at-requires-4 c κs = search needs
+
+add-number-at-5 : tie.Need-add-number-at-5
+add-number-at-5 c = ?
+
+number-at-requires-5 : tie.Need-number-at-requires-5
+number-at-requires-5 c κs = search needs
+
+returns-4 : tie.Need-returns-4
+returns-4 c = ?
 
 pub comes-before-spec : {M : Type 1} → statement M
 comes-before-spec =
@@ -91,12 +122,16 @@ comes-before-spec =
     cast-i
     add-number-at-2
     number-at-requires-2
-    cast-if1
-    cast-result
+    cast-n
+    add-if1
+    add-result
     returns
     number-at-requires-3
     returns-2
-    add-edges-before
-    sub-edges-before
-    edges-before-requires
-    returns-3)
+    returns-3
+    add-number-at-3
+    add-number-at-4
+    number-at-requires-4
+    add-number-at-5
+    number-at-requires-5
+    returns-4)
