@@ -16,11 +16,13 @@ use Rattle.removal.specs.Positions.{restAt, Ordered}
 use Rattle.removal.specs.Slots.{Bounded, slots, slotMark}
 use Rattle.removal.specs.Step.{SlotTables, SpanRoom, SpanIs, PlacesRoom, StepMeets, StepIs, LiveIs}
 use Rattle.removal.specs.Names.{Unlisted}
+use Rattle.removal.specs.Ranks.{RestsFall, Ranked}
+use Rattle.removal.specs.Tails.{LinkedTo, MarkAt, Findable}
 use Rattle.removal.specs.declared.step.Step.the-variants.{Live}
 use Rattle.removal.specs.Rows.{boundsIn, orderIn, Tabled}
 use Rattle.removal.proofs.Region.{table-at, table-length}
 use Rattle.removal.proofs.IntoLaws.{edgeAt, edges-map}
-use Rattle.removal.proofs.StepMarks.{places-room, bounds-inside, span-room, span-mark, span-inside, step-unlisted}
+use Rattle.removal.proofs.StepMarks.{places-room, bounds-inside, span-room, span-mark, span-inside, span-whole, step-unlisted}
 
 -- a table that lies in the first k words
 pub table-prefix : (s : List ℕ) (k base n : ℕ) → base + n ≤ k → k ≤ length s → table (take k s) base n ≡ table s base n
@@ -80,6 +82,30 @@ module _ (D : Design) (L : PathList) (G : Graph) (l : Layout) (flat gs ge gn s :
       let r = span-inside D L G (boundsIn l (take (l .slots) s)) s (l .rest) (l .order) c (slot-tables c h) j at len k
       (subst (λ (x : ℕ). SpanIs s (l .rest) (l .order) x j at len) e is) in
       omega (arith, r, ap length (t .listed))
+
+  pub find-asked : (c low j at len : ℕ) → c < l .copies → low ≡ boundsIn l (take (l .slots) s) .low c → j < slots (boundsIn l (take (l .slots) s)) c
+      → SpanIs s (l .rest) (l .order) low j at len → Findable flat s (l .rest) (l .rank) (l .link) at len
+  find-asked c low j at len h e k is =
+      let first : l .rest + length flat ≤ l .slots = omega (arith, t .laid .rest, t .laid .order, t .laid .low, t .laid .into, t .laid .out) in
+      let second : l .rank + length flat ≤ l .slots = omega (arith, t .laid .rank, t .laid .low, t .laid .into, t .laid .out) in
+      let third : l .link + length flat ≤ l .slots = omega (arith, t .laid .link, t .laid .low, t .laid .into, t .laid .out) in
+      let rests = table-prefix s (l .slots) (l .rest) (length flat) first room in
+      let ranks = table-prefix s (l .slots) (l .rank) (length flat) second room in
+      let links = table-prefix s (l .slots) (l .link) (length flat) third room in
+      record {
+        compare = record {
+          rest-room = omega arith;
+          rank-room = omega arith;
+          falls = subst (RestsFall flat) rests (t .falls);
+          ranked = subst (λ (x : List ℕ). Ranked flat x (table s (l .rank) (length flat))) rests (subst (Ranked flat (table (take (l .slots) s) (l .rest) (length flat))) ranks (t .ranked));
+        };
+        link-room = omega arith;
+        links = subst (λ (x : List ℕ). LinkedTo flat x (table s (l .link) (length flat)) len) rests
+            (subst (λ (x : List ℕ). LinkedTo flat (table (take (l .slots) s) (l .rest) (length flat)) x len) links (t .links len));
+        mark = subst (λ (f : List ℕ). MarkAt f (table s (l .rest) (length f)) at len) (t .listed)
+            (span-whole D L G (boundsIn l (take (l .slots) s)) s (l .rest) (l .order) c (slot-tables c h) j at len k
+            (subst (λ (x : ℕ). SpanIs s (l .rest) (l .order) x j at len) e is));
+      }
 
   pub places-asked : (a low middle high at len : ℕ) → a < l .copies → low ≡ boundsIn l (take (l .slots) s) .low a
       → middle ≡ boundsIn l (take (l .slots) s) .middle a → high ≡ boundsIn l (take (l .slots) s) .high a → at + len ≤ length flat

@@ -16,6 +16,7 @@ pub mod StepLaws
 pub mod StepMarks
 pub mod StepSearch
 pub mod TailLaws
+pub mod ShorterLaws
 pub mod FlagLaws
 pub mod Ascending
 pub mod ResultLaws

@@ -37,7 +37,7 @@ prefix-cut (x ∷ u) (y ∷ v) = ap (λ (t : Bool). eqb x y && t) (prefix-cut u 
 
 -- a position fits where its edge is the one named, and the edges after it are the first ones of the mark
 module _ (flat : List ℕ) (k i name at len : ℕ) (one : 1 ≤ k) (inside : i + k ≤ length flat) where
-  fit-cons : isPrefix (take k (drop i flat)) (name ∷ take len (drop at flat)) ≡ (eqb (getD flat i 0) name && isPrefix (take (k - 1) (drop (i + 1) flat)) (take len (drop at flat)))
+  pub fit-cons : isPrefix (take k (drop i flat)) (name ∷ take len (drop at flat)) ≡ (eqb (getD flat i 0) name && isPrefix (take (k - 1) (drop (i + 1) flat)) (take len (drop at flat)))
   fit-cons =
       let d : k ≡ suc (k - 1) = omega arith in
       ap₂ (λ (n : ℕ) (u : List ℕ). isPrefix (take n u) (name ∷ take len (drop at flat))) d (drop-cons flat i 0 (omega arith))

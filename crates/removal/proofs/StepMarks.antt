@@ -19,6 +19,7 @@ use Rattle.removal.specs.Positions.{restIn, restAt, headAt, tailAt, star
 use Rattle.removal.specs.Slots.{Bounds, slots, slotMark, Used}
 use Rattle.removal.specs.Step.{tailFor, restFor, fitting, sizeKey, Rising, LongestIn, PositionRoom, PlacesRoom, SpanRoom, SpanIs, Longest, SlotTables, LiveIs, following, StepMeets}
 use Rattle.removal.specs.Names.{Unlisted}
+use Rattle.removal.specs.Tails.{MarkAt}
 use Rattle.removal.specs.declared.step.Step.the-variants.{Dead, Live}
 use Rattle.removal.proofs.Region.{table-at}
 use Rattle.removal.proofs.KeyLaws.{tied}
@@ -103,6 +104,17 @@ module _ (D : Design) (L : PathList) (G : Graph) (B : Bounds) (s : List ℕ) (re
       let t = B .low c + (suc k - 1) in
       let l = place-in t (slot-place (suc k) h (omega arith)) in
       omega (arith, p .size (omega arith), p .position (omega arith), rest-is (getD s (order + t) 0) l, rest-inside L (g .total) (getD s (order + t) 0) l)
+
+  pub span-whole : (j at len : ℕ) → j < slots B c → SpanIs s rest order (B .low c) j at len → MarkAt (L .edges) (table s rest (length (L .edges))) at len
+  span-whole zero at len h p = record { position = λ k. absurd (omega (arith, p .none refl)); size = λ k. absurd (omega (arith, p .none refl)) }
+  span-whole (suc k) at len h p =
+      let t = B .low c + (suc k - 1) in
+      let l = place-in t (slot-place (suc k) h (omega arith)) in
+      let e = p .position (omega arith) in
+      record {
+        position = λ m. omega arith;
+        size = λ m. p .size (omega arith) ∙ ap (λ (i : ℕ). getD s (rest + i) 0) (sym e) ∙ sym (table-at s rest (length (L .edges)) at (omega arith));
+      }
 
   -- the edge and the mark at its end
   module _ (name : ℕ) (m : List ℕ) (start : edgeStart D name ≡ nodeOf G c) where

@@ -121,7 +121,7 @@ pub record Below (flat s : List ℕ) (rest order from to : ℕ) (w : List ℕ) (
   pub short : (t : ℕ) → from ≤ t → t < to → fitting flat s rest order w t ≡ true → restFor s rest order t ≤ most
 
 module _ (flat s : List ℕ) (rest order from to name at len : ℕ) (room : PlacesRoom flat s rest order from to at len) where
-  tail-size : (t : ℕ) → t < to → length (tailFor flat s rest order t) ≡ restFor s rest order t
+  pub tail-size : (t : ℕ) → t < to → length (tailFor flat s rest order t) ≡ restFor s rest order t
   tail-size t h =
       let i = getD s (order + t) 0 in
       let r = room .positions t h .inside in
@@ -154,7 +154,7 @@ module _ (flat s : List ℕ) (rest order from to name at len : ℕ) (room : Plac
       (subst (λ (x : List ℕ). T (before x (k ∷ take k (following flat name at len)))) (fit-key t k h f e)
       (holds (before (sizeKey flat s rest order t) (k ∷ take k (following flat name at len))) b))
 
-  not-before-size : (t k : ℕ) → comesBefore flat s rest order (following flat name at len) k t ≡ false → k ≤ restFor s rest order t
+  pub not-before-size : (t k : ℕ) → comesBefore flat s rest order (following flat name at len) k t ≡ false → k ≤ restFor s rest order t
   unfolding comesBefore
   not-before-size t k b = go (decLt (restFor s rest order t) k)
     where
@@ -182,13 +182,6 @@ module _ (flat s : List ℕ) (rest order from to name at len : ℕ) (room : Plac
         go (no f) (no g) = omega arith
 
     module _ (hi most : ℕ) (low : from < hi) (high : hi ≤ to) (b : Below flat s rest order from to (following flat name at len) hi most) where
-      -- the last place before hi bounds the lengths
-      pub below-cut : (k : ℕ) → ((x : ℕ) → x ≤ most → x ≤ restFor s rest order (hi - 1) → x ≤ k) → Below flat s rest order from to (following flat name at len) hi k
-      below-cut k f = record {
-        before-hi = b .before-hi;
-        short = λ t h l g. f (restFor s rest order t) (b .short t h l g) (rising-size t (hi - 1) h (omega (arith, b .before-hi t h l g)) (omega arith));
-      }
-
       module _ (p : ℕ) (q : Parted (comesBefore flat s rest order (following flat name at len) most) from hi p) (least : from ≤ p) where
         -- the place found is the first of the longest
         pub longest-found : p < hi → fitting flat s rest order (following flat name at len) p ≡ true

@@ -8,7 +8,7 @@ use Rattle.removal.specs.Step.{StepMeets}
 use Rattle.removal.specs.Rows.{boundsIn, Held}
 use Rattle.removal.specs.Along.{StepAlong}
 use Rattle.removal.proofs.RowLaws.{ready-held}
-use Rattle.removal.proofs.AlongLaws.{start-inside, end-inside, span-asked, span-within, places-asked, along-is}
+use Rattle.removal.proofs.AlongLaws.{start-inside, end-inside, span-asked, span-within, find-asked, places-asked, along-is}
 use borrow.Author.Needs.{needs}
 use Rattle.removal.proofs.rows.step_listed.Statement.{statement}
 use Rattle.removal.proofs.rows.step_listed.Tie as tie
@@ -82,11 +82,16 @@ step-back-requires c κs =
     let a = p .args in
     let r = p .pre .0 in
     let span = c .before .before .before .before .slot-span in
+    let asked =
     places-asked (r .design) (r .list) (r .graph) (a .l) (a .flat .now) (a .gs .now) (a .ge .now) (a .gn .now) (a .s .now) (r .tabled) (room p) (c .before .before .before .before .before .before .before .number-at .result)
     (c .before .before .before .low-at2 .result) (c .before .before .middle-at .result) (c .before .high-at .result) (span .result .at) (span .result .len) (starts (c .before .before .before .before .before .before .before))
     (c .before .before .before .low-at2 .ensures) (c .before .before .middle-at .ensures) (c .before .high-at .ensures)
     (span-within (r .design) (r .list) (r .graph) (a .l) (a .flat .now) (a .gs .now) (a .ge .now) (a .gn .now) (a .s .now) (r .tabled) (room p) (c .before .before .before .before .before .before .number-at2 .result) (c .before .before .before .before .before .low-at .result) (a .j) (span .result .at) (span .result .len)
-    (ends (c .before .before .before .before .before .before)) (c .before .before .before .before .before .low-at .ensures) (slot (c .before .before .before .before .before .before)) (span .ensures))
+    (ends (c .before .before .before .before .before .before)) (c .before .before .before .before .before .low-at .ensures) (slot (c .before .before .before .before .before .before)) (span .ensures)) in
+    let found =
+    find-asked (r .design) (r .list) (r .graph) (a .l) (a .flat .now) (a .gs .now) (a .ge .now) (a .gn .now) (a .s .now) (r .tabled) (room p) (c .before .before .before .before .before .before .number-at2 .result) (c .before .before .before .before .before .low-at .result) (a .j) (span .result .at) (span .result .len)
+    (ends (c .before .before .before .before .before .before)) (c .before .before .before .before .before .low-at .ensures) (slot (c .before .before .before .before .before .before)) (span .ensures) in
+    ((asked .0, found), asked .1)
 
 returns : tie.Need-returns
 unfolding StepAlong

@@ -1,9 +1,11 @@
 -- The lengths decide, then the first edges, and then the ranks of what follows these.
-use Prim.Native.Nat.{ℕ, _+_, _≤_, _<_}
+use Prim.Native.Nat.{ℕ, _+_, _-_, _≤_, _<_}
 use native.Mathlib.Omega.{arith}
 use mathlib.Core.Path.{_≡_, sym, _∙_, ap, ap₂}
+use mathlib.Core.List.{List}
 use lib.Dec.{ltb}
-use lib.ListN.{length, getD}
+use lib.ListN.{length, getD, take, drop}
+use Rattle.timing.specs.Sorting.{before}
 use Rattle.removal.specs.Table.{table}
 use Rattle.removal.proofs.Region.{table-at}
 use Rattle.removal.proofs.StepSearch.{key-size, key-other, key-same, key-is}
@@ -105,13 +107,35 @@ number-at-requires-4 : tie.Need-number-at-requires-4
 number-at-requires-4 c κs = search needs
 
 add-number-at-5 : tie.Need-add-number-at-5
-add-number-at-5 c = ?
+add-number-at-5 c =
+    let b = c .before .before .before .before .before .before .before .before .before in
+    omega (arith, b .pre .1 .rank-room, b .pre .2 .position (omega (arith, c .before .if3 .left)))
 
 number-at-requires-5 : tie.Need-number-at-requires-5
 number-at-requires-5 c κs = search needs
 
 returns-4 : tie.Need-returns-4
-returns-4 c = ?
+returns-4 c =
+    let b = c .before .before .before .before .before .before .before .before .before .before in
+    let a = b .args in
+    let i = c .before .before .before .before .before .before .before .number-at in
+    let n = c .before .before .before .before .before .before .number-at2 in
+    let same = c .before .before .before .before .before .if1 .left in
+    let some : 0 < a .len = omega (arith, c .before .before .if3 .left) in
+    let lies = inside b (i .result) (n .result) (i .ensures) (n .ensures) in
+    let whole-in = whole b (i .result) (n .result) (i .ensures) (n .ensures) in
+    let e : a .rank + i .result + 1 ≡ a .rank + (i .result + 1) = omega arith in
+    let d : n .result - 1 ≡ a .len = omega arith in
+    let first : c .before .number-at4 .result ≡ getD (ranks b) (i .result + 1) 0 =
+    c .before .number-at4 .ensures ∙ ap (λ (x : ℕ). getD (a .s .now) x 0) e ∙ sym (table-at (a .s .now) (a .rank) (length (a .flat .now)) (i .result + 1) (omega arith)) in
+    let second : c .number-at5 .result ≡ getD (ranks b) (a .at) 0 =
+    c .number-at5 .ensures ∙ sym (table-at (a .s .now) (a .rank) (length (a .flat .now)) (a .at) (b .pre .2 .position some)) in
+    ap₂ ltb first second
+    ∙ rank-decides (a .flat .now) (rests b) (ranks b) (b .pre .1 .falls) (b .pre .1 .ranked) (i .result) (a .at) (a .len) lies (size b (i .result) (n .result) (i .ensures) (n .ensures) ∙ same) some (b .pre .2)
+    ∙ ap (λ (x : ℕ). before (take x (drop (i .result + 1) (a .flat .now))) (take x (drop (a .at) (a .flat .now)))) (sym d)
+    ∙ key-same (a .flat .now) (i .result) (n .result) (a .name) (a .at) (a .len) (a .len + 1) (omega arith) (omega arith) same whole-in
+    (sym (c .before .before .before .before .number-at3 .ensures) ∙ c .before .before .before .if2 .left)
+    ∙ key-is (a .flat .now) (a .s .now) (a .rest) (a .order) (a .t) (a .name) (a .at) (a .len) (a .len + 1) (i .result) (n .result) (i .ensures) (n .ensures)
 
 pub comes-before-spec : {M : Type 1} → statement M
 comes-before-spec =

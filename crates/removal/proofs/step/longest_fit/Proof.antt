@@ -1,75 +1,136 @@
-  use Rattle.removal.proofs.step.longest_fit.Statement.{statement}
-  use Rattle.removal.proofs.step.longest_fit.Tie as tie
-  use Rattle.removal.proofs.step.longest_fit.Reads as reads
-  use Rattle.removal.proofs.step.longest_fit.Lts as lts
-  use Rattle.removal.proofs.step.first_from.Reads as first-from-reads
-  use Rattle.removal.proofs.step.place_fits.Reads as place-fits-reads
-  use Rattle.removal.proofs.step.shorter_mark.Reads as shorter-mark-reads
-  
-  abbrev Inv-loop : tie.InvT-loop
-  Inv-loop flat s rest order rank link from to name at len hi₀ u₀ n₀ hi u n = ?
-  
-  abbrev μ-loop : tie.MeasureT-loop
-  μ-loop flat s rest order rank link from to name at len hi₀ u₀ n₀ hi u n = ?
-  
-  -- src/step.rt:151:5
-  loop-holds : tie.Need-loop-holds Inv-loop μ-loop
-  loop-holds c = ?
-  
-  -- src/step.rt:152:13
-  first-from-requires : tie.Need-first-from-requires Inv-loop μ-loop
-  first-from-requires c κs = ?
-  
-  -- src/step.rt:153:12
-  place-fits-requires : tie.Need-place-fits-requires Inv-loop μ-loop
-  place-fits-requires c κs = ?
-  
-  -- src/step.rt:154:20
-  sub-result : tie.Need-sub-result Inv-loop μ-loop
-  sub-result c = ?
-  
-  -- src/step.rt:154:20
-  add-result : tie.Need-add-result Inv-loop μ-loop
-  add-result c = ?
-  
-  -- src/step.rt:154:13
-  returns : tie.Need-returns Inv-loop μ-loop
-  returns c = ?
-  
-  -- src/step.rt:157:13
-  returns-2 : tie.Need-returns-2 Inv-loop μ-loop
-  returns-2 c = ?
-  
-  -- src/step.rt:159:13
-  shorter-mark-requires : tie.Need-shorter-mark-requires Inv-loop μ-loop
-  shorter-mark-requires c κs = ?
-  
-  -- src/step.rt:151:5
-  loop-less : tie.Need-loop-less Inv-loop μ-loop
-  loop-less c = ?
-  
-  -- src/step.rt:151:5
-  loop-again : tie.Need-loop-again Inv-loop μ-loop
-  loop-again c = ?
-  
-  -- src/step.rt:132:1
-  returns-3 : tie.Need-returns-3 Inv-loop μ-loop
-  returns-3 c = ?
-  
-  pub longest-fit-spec : {M : Type 1} → statement M
-  longest-fit-spec =
-      tie.close
-      (tie.spec
-      Inv-loop
-      μ-loop
-      loop-holds
-      first-from-requires
-      place-fits-requires
-      sub-result
-      add-result
-      returns
-      returns-2
-      shorter-mark-requires
-      loop-less
-      loop-again
-      returns-3)
+-- The mark that is tried next is the longest tail that the one before begins with.
+use Prim.Native.Nat.{ℕ, _+_, _-_, _≤_, _<_}
+use native.Mathlib.Omega.{arith}
+use mathlib.Core.Path.{_≡_, sym, _∙_, subst}
+use mathlib.Core.List.{List}
+use lib.ListN.{length, getD}
+use Rattle.removal.specs.Table.{table}
+use Rattle.removal.specs.Step.{PlacesIn, PlacesRoom}
+use Rattle.removal.specs.Tails.{Shorter, LinkRoom}
+use Rattle.removal.proofs.Region.{table-at}
+use Rattle.removal.proofs.ShorterLaws.{Trying, trying-start, trying-hit, trying-none, trying-next, trying-end, next-less}
+use Rattle.removal.proofs.step.longest_fit.Statement.{statement}
+use Rattle.removal.proofs.step.longest_fit.Tie as tie
+
+abbrev Inv-loop : tie.InvT-loop
+Inv-loop flat s rest order rank link from to name at len hi₀ u₀ n₀ hi u n = Trying flat s rest order from to name at len hi u n
+
+abbrev μ-loop : tie.MeasureT-loop
+μ-loop flat s rest order rank link from to name at len hi₀ u₀ n₀ hi u n = n
+
+-- the places before `hi` lie inside
+module _ (b : tie.Start Inv-loop μ-loop) where
+  places-in : (from hi : ℕ) → from ≤ hi → hi ≤ b .args .to → PlacesIn (b .args .flat .now) (b .args .s .now) (b .args .order) from hi
+  places-in from hi up h = record {
+    up = up;
+    places = λ t l.
+        let r = b .pre .0 .positions t (omega arith) in
+        record { read = omega (arith, b .pre .0 .read); inside = omega (arith, r .some, r .inside) };
+  }
+
+  -- the word of the table for a mark that is not empty
+  module _ (hi u n : ℕ) (k : Trying (b .args .flat .now) (b .args .s .now) (b .args .rest) (b .args .order) (b .args .from) (b .args .to) (b .args .name) (b .args .at) (b .args .len) hi u n) (some : 0 < n) where
+    word-is : getD (table (b .args .s .now) (b .args .link) (length (b .args .flat .now))) u 0 ≡ getD (b .args .s .now) (b .args .link + u) 0
+    word-is = table-at (b .args .s .now) (b .args .link) (length (b .args .flat .now)) u (k .mark .position some)
+
+    shorter-is : Shorter (b .args .flat .now) (table (b .args .s .now) (b .args .rest) (length (b .args .flat .now))) u (getD (b .args .s .now) (b .args .link + u) 0)
+    shorter-is =
+        subst (Shorter (b .args .flat .now) (table (b .args .s .now) (b .args .rest) (length (b .args .flat .now))) u) word-is
+        (b .pre .1 .links u (k .mark .position some) (omega (arith, k .mark .size some, k .small)))
+
+    link-room : LinkRoom (b .args .s .now) (b .args .rest) (b .args .link) u
+    link-room = record {
+      read = omega (arith, b .pre .1 .link-room, k .mark .position some);
+      mark = λ h. omega (arith, b .pre .1 .compare .rest-room, shorter-is .inside h);
+    }
+
+loop-holds : tie.Need-loop-holds Inv-loop μ-loop
+loop-holds c =
+    let b = c .before .before in
+    let a = b .args in
+    trying-start (a .flat .now) (a .s .now) (a .rest) (a .order) (a .from) (a .to) (a .name) (a .at) (a .len) (b .pre .0) (b .pre .1 .mark)
+
+first-from-requires : tie.Need-first-from-requires Inv-loop μ-loop
+first-from-requires c κs =
+    let l = c .before .loop in
+    let b = c .before .before .before .before in
+    (places-in b (b .args .from) (l .hi) (l .inv .low) (l .inv .high), b .pre .1 .compare, l .inv .mark)
+
+place-fits-requires : tie.Need-place-fits-requires Inv-loop μ-loop
+place-fits-requires c κs =
+    let l = c .before .before .loop in
+    let b = c .before .before .before .before .before in
+    (places-in b (c .first-from .result) (l .hi) (c .first-from .ensures .most) (l .inv .high), b .pre .1 .compare, l .inv .mark)
+
+sub-result : tie.Need-sub-result Inv-loop μ-loop
+sub-result c = omega (arith, c .before .before .first-from .ensures .least)
+
+add-result : tie.Need-add-result Inv-loop μ-loop
+add-result c = omega (arith, c .before .before .first-from .ensures .most)
+
+returns : tie.Need-returns Inv-loop μ-loop
+returns c =
+    let b = c .before .before .before .before .before .before .before in
+    let a = b .args in
+    let l = c .before .before .before .before .loop in
+    let p = c .before .before .first-from in
+    let y = c .before .place-fits .ensures .yes (c .if1 .taken) in
+    λ up. trying-hit (a .flat .now) (a .s .now) (a .rest) (a .order) (a .from) (a .to) (a .name) (a .at) (a .len) (b .pre .0) (l .hi) (l .u) (l .n) (l .inv) (p .result) (p .ensures) up (c .before .before .before .loop-test .taken) (y .0) (y .1) (y .2)
+
+returns-2 : tie.Need-returns-2 Inv-loop μ-loop
+returns-2 c =
+    let b = c .before .before .before .before .before .before .before .before in
+    let a = b .args in
+    let l = c .before .before .before .before .before .loop in
+    let p = c .before .before .before .first-from in
+    λ up. trying-none (a .flat .now) (a .s .now) (a .rest) (a .order) (a .from) (a .to) (a .name) (a .at) (a .len) (b .pre .0) (l .hi) (l .u) (l .n) (l .inv) (p .result) (p .ensures) up (c .before .before .before .before .loop-test .taken) (c .before .before .place-fits .ensures .no (c .before .if1 .left)) (c .if2 .taken)
+
+shorter-mark-requires : tie.Need-shorter-mark-requires Inv-loop μ-loop
+shorter-mark-requires c κs =
+    let b = c .before .before .before .before .before .before .before .before in
+    let l = c .before .before .before .before .before .loop in
+    link-room b (l .hi) (l .u) (l .n) (l .inv) (omega (arith, c .if2 .left))
+
+loop-less : tie.Need-loop-less Inv-loop μ-loop
+loop-less c =
+    let b = c .before .before .before .before .before .before .before .before .before in
+    let a = b .args in
+    let l = c .before .before .before .before .before .before .loop in
+    let some : 0 < l .n = omega (arith, c .before .if2 .left) in
+    next-less (a .flat .now) (a .s .now) (a .rest) (a .order) (a .from) (a .to) (a .name) (a .at) (a .len) (b .pre .0) (l .hi) (l .u) (l .n) (l .inv) (b .pre .1 .compare .falls) (getD (a .s .now) (a .link + l .u) 0) (c .shorter-mark .result .at) (c .shorter-mark .result .len) some
+    (shorter-is b (l .hi) (l .u) (l .n) (l .inv) some) (c .shorter-mark .ensures)
+
+loop-again : tie.Need-loop-again Inv-loop μ-loop
+loop-again c =
+    let b = c .before .before .before .before .before .before .before .before .before in
+    let a = b .args in
+    let l = c .before .before .before .before .before .before .loop in
+    let p = c .before .before .before .before .first-from in
+    let some : 0 < l .n = omega (arith, c .before .if2 .left) in
+    trying-next (a .flat .now) (a .s .now) (a .rest) (a .order) (a .from) (a .to) (a .name) (a .at) (a .len) (b .pre .0) (l .hi) (l .u) (l .n) (l .inv) (b .pre .1 .compare .falls) (getD (a .s .now) (a .link + l .u) 0) (c .shorter-mark .result .at) (c .shorter-mark .result .len) some
+    (shorter-is b (l .hi) (l .u) (l .n) (l .inv) some) (c .shorter-mark .ensures) (p .result) (p .ensures) (c .before .before .before .before .before .loop-test .taken) (c .before .before .before .place-fits .ensures .no (c .before .before .if1 .left))
+
+returns-3 : tie.Need-returns-3 Inv-loop μ-loop
+returns-3 c =
+    let b = c .before .before .before .before in
+    let a = b .args in
+    let l = c .before .loop in
+    trying-end (a .flat .now) (a .s .now) (a .rest) (a .order) (a .from) (a .to) (a .name) (a .at) (a .len) (b .pre .0) (l .hi) (l .u) (l .n) (l .inv) (c .loop-test .left)
+
+pub longest-fit-spec : {M : Type 1} → statement M
+longest-fit-spec =
+    tie.close
+    (tie.spec
+    Inv-loop
+    μ-loop
+    loop-holds
+    first-from-requires
+    place-fits-requires
+    sub-result
+    add-result
+    returns
+    returns-2
+    shorter-mark-requires
+    loop-less
+    loop-again
+    returns-3)

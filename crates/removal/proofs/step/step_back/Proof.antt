@@ -18,7 +18,7 @@ longest-fit-requires-2 : tie.Need-longest-fit-requires-2
 longest-fit-requires-2 c κs =
     let b = c .before .before .before .before in
     let a = b .args in
-    room-part (a .flat .now) (a .s .now) (a .rest) (a .order) (a .low) (a .high) (a .at) (a .len) (a .low) (a .middle) (b .pre .1 .0) (b .pre .1 .1) (b .pre .0)
+    (room-part (a .flat .now) (a .s .now) (a .rest) (a .order) (a .low) (a .high) (a .at) (a .len) (a .low) (a .middle) (b .pre .1 .0) (b .pre .1 .1) (b .pre .0 .0), b .pre .0 .1)
 
 returns-2 : tie.Need-returns-2
 returns-2 c =
