@@ -16,7 +16,11 @@ pub mod StepLaws
 pub mod StepMarks
 pub mod StepSearch
 pub mod TailLaws
+pub mod PartLaws
+pub mod LevelLaws
+pub mod RankLaws
 pub mod ShorterLaws
+pub mod ShorterTails
 pub mod FlagLaws
 pub mod Ascending
 pub mod ResultLaws

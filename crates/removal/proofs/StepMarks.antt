@@ -39,13 +39,13 @@ module _ (D : Design) (L : PathList) (G : Graph) (B : Bounds) (s : List ℕ) (re
   sized : length (places L s order) ≡ length (L .edges)
   sized = g .ordered .size
 
-  place-is : (t : ℕ) → t < length (L .edges) → getD s (order + t) 0 ≡ getD (places L s order) t 0
+  pub place-is : (t : ℕ) → t < length (L .edges) → getD s (order + t) 0 ≡ getD (places L s order) t 0
   place-is t h = sym (table-at s order (length (L .edges)) t h)
 
-  place-in : (t : ℕ) → t < length (L .edges) → getD s (order + t) 0 < length (L .edges)
+  pub place-in : (t : ℕ) → t < length (L .edges) → getD s (order + t) 0 < length (L .edges)
   place-in t h = omega (arith, place-is t h, g .ordered .inside t (omega (arith, sized)))
 
-  rest-is : (i : ℕ) → i < length (L .edges) → getD s (rest + i) 0 ≡ restAt L i
+  pub rest-is : (i : ℕ) → i < length (L .edges) → getD s (rest + i) 0 ≡ restAt L i
   rest-is i h =
       let e : 0 + i ≡ i = omega arith in
       sym (table-at s rest (length (L .edges)) i h) ∙ ap (λ (l : List ℕ). getD l i 0) (g .rests) ∙ getD-map-upto (restIn (L .lengths)) (length (L .edges)) 0 i h ∙ ap (restAt L) e
@@ -122,7 +122,7 @@ module _ (D : Design) (L : PathList) (G : Graph) (B : Bounds) (s : List ℕ) (re
     unfolding fitting
     fit-true t h p = ap (λ (u : List ℕ). isPrefix u (name ∷ m)) (tail-is t h) ∙ is-true (isPrefix (tailAt L (getD (places L s order) t 0)) (name ∷ m)) p
 
-    fit-prefix : (t : ℕ) → t < length (L .edges) → fitting (L .edges) s rest order (name ∷ m) t ≡ true → T (isPrefix (tailAt L (getD (places L s order) t 0)) (name ∷ m))
+    pub fit-prefix : (t : ℕ) → t < length (L .edges) → fitting (L .edges) s rest order (name ∷ m) t ≡ true → T (isPrefix (tailAt L (getD (places L s order) t 0)) (name ∷ m))
     unfolding fitting
     fit-prefix t h p = holds (isPrefix (tailAt L (getD (places L s order) t 0)) (name ∷ m)) (ap (λ (u : List ℕ). isPrefix u (name ∷ m)) (sym (tail-is t h)) ∙ p)
 
@@ -133,7 +133,7 @@ module _ (D : Design) (L : PathList) (G : Graph) (B : Bounds) (s : List ℕ) (re
         ap (edgeStart D) (eqb→eq (getD (L .edges) i 0) name (and-left (eqb (getD (L .edges) i 0) name) _ q)) ∙ start
 
     -- the place of a position whose edges the edge and the mark begin with
-    place-of : (i : ℕ) → i < length (L .edges) → T (isPrefix (tailAt L i) (name ∷ m))
+    pub place-of : (i : ℕ) → i < length (L .edges) → T (isPrefix (tailAt L i) (name ∷ m))
         → (t : ℕ) × (t < length (places L s order)) × (getD (places L s order) t 0 ≡ i) × (startAt D L (getD (places L s order) t 0) ≡ nodeOf G c) × (fitting (L .edges) s rest order (name ∷ m) t ≡ true)
     place-of i h p =
         let r = g .ordered .every i h in
@@ -267,7 +267,7 @@ module _ (D : Design) (L : PathList) (G : Graph) (B : Bounds) (s : List ℕ) (re
       ∙ tied (headAt L j) (headAt L i) (restAt L j ∷ tailAt L j) (restAt L i ∷ tailAt L i) q))
       t)
 
-  rising-tails : Rising (L .edges) s rest order (B .low c) (B .middle c)
+  pub rising-tails : Rising (L .edges) s rest order (B .low c) (B .middle c)
   rising-tails = record {
     rises = λ a b h l m.
         let r = bounds-inside D L G B s rest order c g in

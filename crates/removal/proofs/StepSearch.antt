@@ -127,7 +127,7 @@ module _ (flat s : List ℕ) (rest order from to name at len : ℕ) (room : Plac
       let r = room .positions t h .inside in
       length-take-le (restFor s rest order t) (drop i flat) (rw length-drop (omega arith))
 
-  fit-short : (t : ℕ) → t < to → fitting flat s rest order (following flat name at len) t ≡ true → restFor s rest order t ≤ len + 1
+  pub fit-short : (t : ℕ) → t < to → fitting flat s rest order (following flat name at len) t ≡ true → restFor s rest order t ≤ len + 1
   unfolding fitting
   fit-short t h f = go (decLt (len + 1) (restFor s rest order t))
     where

@@ -14,8 +14,8 @@ pub mod Flags
 pub mod Reach
 pub mod Listed
 pub mod Ranks
-pub mod Tails
 pub mod Search
+pub mod Tails
 pub mod Step
 pub mod Build
 pub mod Counts

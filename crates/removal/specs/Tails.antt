@@ -2,11 +2,14 @@
 -- their edges. `rests` has for each position how many edges there are to the end of its path.
 use Prim.Native.Nat.{ℕ, suc, _+_, _-_, _≤_, _<_}
 use mathlib.Core.Path.{_≡_}
-use mathlib.Core.List.{List, _∷_}
+use mathlib.Core.Bool.{false}
+use mathlib.Core.List.{List, List·Memᴰ}
 use lib.Dec.{T}
 use lib.ListN.{length, getD, take, drop}
-use Rattle.timing.specs.Marks.{isPrefix}
-use Rattle.removal.specs.Table.{table}
+use Rattle.timing.specs.Lists.{isNil}
+use Rattle.timing.specs.Marks.{pathList, pathsOf, isPrefix}
+use Rattle.removal.specs.Table.{table, Frame}
+use Rattle.removal.specs.Search.{Searchable}
 use Rattle.removal.specs.Ranks.{RestsFall, Ranked}
 
 -- the edges from a position to the end of its path
@@ -51,6 +54,25 @@ pub record LinkRoom (s : List ℕ) (rest link i : ℕ) : Type 0 where
   pub mark : 0 < getD s (link + i) 0 → rest + (getD s (link + i) 0 - 1) < length s
 
 pub record LinkRead (s : List ℕ) (rest v at len : ℕ) : Type 0 where
+  pub first : v ≡ 0 → at ≡ 0
   pub none : v ≡ 0 → len ≡ 0
   pub position : 0 < v → at ≡ v - 1
   pub size : 0 < v → len ≡ getD s (rest + (v - 1)) 0
+
+-- what filling in the links asks: the other tables stand before it
+pub record Tailed (starts flat lengths s : List ℕ) (rest order rank link : ℕ) : Type 0 where
+  pub search : Searchable starts flat lengths s rest order rank
+  pub filled : (p : List ℕ) → List·Memᴰ p (pathsOf (pathList flat lengths)) → isNil p ≡ false
+  pub compare : Comparable flat s rest rank
+  pub rank-before : rank + length flat ≤ link
+  pub link-room : link + length flat ≤ length s
+  pub few : length flat ≤ 8192
+
+-- the words of the positions with fewer edges left than p are there
+abbrev pub LinksBelow : List ℕ → List ℕ → List ℕ → ℕ → Type 0
+LinksBelow flat rests links p = (q : ℕ) → q < length flat → getD rests q 0 < getD rests p 0 → Shorter flat rests q (getD links q 0)
+
+-- all words are there, and nothing else changed
+pub record TailsLinked (flat s t : List ℕ) (rest link : ℕ) : Type 0 where
+  pub frame : Frame s t link (length flat)
+  pub links : (n : ℕ) → LinkedTo flat (table t rest (length flat)) (table t link (length flat)) n

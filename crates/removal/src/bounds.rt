@@ -86,15 +86,15 @@ fn lower_bound(
 }
 
 // The bounds of a copy's node, and the slots of the copies before it.
-struct Four {
-    low: u32,
-    middle: u32,
-    high: u32,
-    before: u32,
+pub(crate) struct Four {
+    pub(crate) low: u32,
+    pub(crate) middle: u32,
+    pub(crate) high: u32,
+    pub(crate) before: u32,
 }
 
 // The bounds of a node, with the slots that stand before.
-fn around(
+pub(crate) fn around(
     starts: &[u32],
     flat: &[u32],
     lengths: &[u32],

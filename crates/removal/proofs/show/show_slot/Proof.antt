@@ -99,7 +99,7 @@ slice-write-s : tie.Need-slice-write-s
 slice-write-s c = inside (c .before .before .before .before .before .before .before)
 
 add-t15 : tie.Need-add-t15
-add-t15 c = search needs
+add-t15 c = omega (arith, few (c .before .before .before .before .before .before .before .before))
 
 add-t25 : tie.Need-add-t25
 add-t25 c =
