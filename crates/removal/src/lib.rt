@@ -29,7 +29,6 @@ mod bounds;
 mod build;
 mod chains;
 mod fill;
-mod heap;
 mod listed;
 mod names;
 mod remove;
