@@ -13,11 +13,10 @@ use borrow.Author.Tests.{lt-ltb, le-ltb, eq-eqb, ne-eqb}
 use Rattle.timing.specs.Lists.{isNil, sum, upto}
 use Rattle.timing.specs.Graphs.{Design}
 use Rattle.timing.specs.Marks.{PathList, cut}
-use Rattle.timing.specs.Sorting.{before}
 use Rattle.theorems.proofs.Tested.{ListFits}
 use Rattle.removal.specs.Table.{table, Frame}
 use Rattle.removal.specs.Positions.{restIn, headIn, restAt, headAt, positionKey}
-use Rattle.removal.specs.Listed.{PathRests, Rests, RestTable, headFrom, keyFrom, HeadRead, Compared, Readable}
+use Rattle.removal.specs.Listed.{PathRests, Rests, RestTable, headFrom, keyFrom}
 use Rattle.removal.proofs.Region.{table-at, table-length}
 
 -- one more word of a path
@@ -123,14 +122,6 @@ head-suc (k ∷ ls) f i h = go (decLt (suc i) k) (ℕ-discrete (suc i) k) (head-
         let z : suc i - k ≡ suc (i - k) = omega arith in
         rw (le-ltb (suc i) k (omega arith), le-ltb i k (omega arith)) (ap (headIn ls) z ∙ below (i - k) (omega arith))
 
-rest-within : (ls : List ℕ) (i : ℕ) → i < sum ls → i + restIn ls i ≤ sum ls
-rest-within [] i h = absurd (omega arith)
-rest-within (k ∷ ls) i h = go (decLt i k) (rest-within ls (i - k))
-  where
-    go : Dec (i < k) → (i - k < sum ls → i - k + restIn ls (i - k) ≤ sum ls) → i + cond (ltb i k) (k - i) (restIn ls (i - k)) ≤ k + sum ls
-    go (yes l) below = rw (lt-ltb i k l) (omega arith)
-    go (no l) below = rw (le-ltb i k (omega arith)) (omega (arith, below (omega arith)))
-
 -- what stands in a rest table
 module _ (L : PathList) (s : List ℕ) (base : ℕ) (T : RestTable L s base) where
   pub rest-is : (i : ℕ) → i < length (L .edges) → getD (table s base (length (L .edges))) i 0 ≡ restAt L i
@@ -147,12 +138,6 @@ module _ (L : PathList) (s : List ℕ) (base : ℕ) (T : RestTable L s base) whe
       let k : i < length (L .edges) = rw e h in
       rw (← d, ← e)
       (ap₂ (λ (x y : ℕ). getD (D .starts) (getD (L .edges) i 0) 0 ∷ x ∷ y ∷ take y (drop i (L .edges))) (head-is i k) (rest-is i k))
-
-  pub readable : base + length (L .edges) ≤ length s → Readable (L .edges) s base
-  readable room = record {
-    room = room;
-    within = λ i h. rw (rest-is i h) (omega (arith, rest-within (L .lengths) i (omega (arith, T .total)), T .total));
-  }
 
 -- a list that passes its tests has no empty path
 pub lengths-filled : (edges ls : List ℕ) → ((p : List ℕ) → List·Memᴰ p (cut edges ls) → isNil p ≡ false) → (k : ℕ) → List·Memᴰ k ls → 0 < k
@@ -195,18 +180,6 @@ head-no s base n i f h e = sym (head-after s base n i f h ∙ ap (λ (b : Bool).
 -- there is room for the next path
 pub path-room : (l : List ℕ) (base k m : ℕ) → k < length l → base + sum l ≤ m → base + sum (take k l) + getD l k 0 ≤ m
 path-room l base k m h r = omega (arith, sum-step l k h, sum-take l (suc k))
-
--- what is read off the tables is what the definitions say
-pub head-read : (s : List ℕ) (base i r : ℕ) → ((n : ℕ) → i ≤ n → r ≡ headFrom (table s base n) i) → HeadRead s base i r
-head-read s base i r f = record { read = f; head = λ L t h. f (length (L .edges)) (omega arith) ∙ head-is L s base t i h }
-
-pub compared : (starts flat s : List ℕ) (rest i j : ℕ) (r : Bool) → i < length flat → j < length flat
-    → r ≡ before (keyFrom starts flat (table s rest (length flat)) i) (keyFrom starts flat (table s rest (length flat)) j)
-    → Compared starts flat s rest i j r
-compared starts flat s rest i j r h k e = record {
-  read = e;
-  decides = λ D L d f t. e ∙ ap₂ before (key-is L s rest t D starts flat d f i h) (key-is L s rest t D starts flat d f j k);
-}
 
 -- a rest table outlives what is written elsewhere
 pub still-rest-table : (L : PathList) (s t : List ℕ) (base b m : ℕ) → RestTable L s base → Frame s t b m

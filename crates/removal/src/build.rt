@@ -58,7 +58,9 @@ pub(crate) fn build(
 {
     let l = layout(nodes.len(), gs.len(), flat.len());
     fill_rest(s, l.rest, lengths);
-    order_positions(starts, flat, s, l.rest, l.order);
+    let mut codes = [0u32; 8192];
+    let ranks = [0u32; 8192];
+    order_positions(starts, flat, s, l.rest, l.order, &mut codes, &ranks);
     let total = fill_bounds(starts, flat, lengths, nodes, s, l.rest, l.order, l.low);
     link_edges(s, l.into, l.copies, ge);
     link_named(s, l.out, l.copies, gs, flat, gn);

@@ -29,7 +29,6 @@ mod bounds;
 mod build;
 mod chains;
 mod fill;
-mod heap;
 mod links;
 mod listed;
 mod names;
