@@ -3,7 +3,6 @@ use Prim.Native.Nat.{ℕ, zero, suc, _+_, _*_, _≤_, _<_}
 use native.Mathlib.Omega.{arith}
 use native.Mathlib.Decide.{ℕ-discrete}
 use mathlib.Core.Path.{_≡_, refl, sym, _∙_, ap, subst}
-use mathlib.Core.Logic.{inl}
 use mathlib.Core.List.{List, [], _∷_, map, List·Memᴰ, Memᴰ·map}
 use lib.ListN.{length, getD, take, drop, replicate, getD-replicate}
 use lib.Seq.{take-take, length-take-le}
@@ -19,12 +18,14 @@ use Rattle.removal.specs.Positions.{restAt, Ordered}
 use Rattle.removal.specs.Slots.{Bounds, Bounded, slots, slotBase}
 use Rattle.removal.specs.Links.{Linkable, Chained, Linked}
 use Rattle.removal.specs.Names.{LinkedNamed}
-use Rattle.removal.specs.Listed.{Rests, RestTable, Sortable, Arranged}
+use Rattle.removal.specs.Listed.{Rests, RestTable}
+use Rattle.removal.specs.Ranks.{RestsFall, Ranked}
+use Rattle.removal.specs.Tails.{LinkedTo, Orderable, Tabulated}
 use Rattle.removal.specs.Search.{ofStarts, ofNodes, boundsAt, Searchable, Fillable, Filled}
 use Rattle.removal.specs.Rows.{Laid, Tabled, Ready, boundsIn, orderIn, flagIn}
 use Rattle.removal.specs.Build.{LaidOut, Given, Buildable, Built}
 use Rattle.removal.proofs.Region.{table-at}
-use Rattle.removal.proofs.RestLaws.{rest-table, readable}
+use Rattle.removal.proofs.RestLaws.{rest-table}
 use Rattle.removal.proofs.IntoLaws.{edgeAt, edges-map}
 use Rattle.removal.proofs.FillLaws.{slotBase-suc}
 use Rattle.removal.proofs.Candidates.{slots-candidates, bounded-starts}
@@ -34,6 +35,8 @@ module _ (copies edges listed : ℕ) (l : Layout) (w : LaidOut copies edges list
   laid p e = record {
     rest = omega (arith, w .rest, w .order);
     order = omega (arith, w .order, w .low);
+    rank = omega (arith, w .rank, w .low);
+    link = omega (arith, w .link, w .low);
     low = omega (arith, w .low, w .into, w .copies);
     into = omega (arith, w .into, w .out, w .copies, w .edges);
     out = omega (arith, w .out, w .slots, w .copies, w .edges);
@@ -121,7 +124,7 @@ module _ (D : Design) (L : PathList) (G : Graph) (starts flat lengths nodes gs g
   start-inside : (e : ℕ) → e < length gs → getD gs e 0 < length nodes
   start-inside e h = omega (arith, g .legal .rising .up (edgeAt gs ge gn e) (edge-in e h), end-inside e h)
 
-  ordered-list : (s t : List ℕ) → RestTable (pathList flat lengths) s (l .rest) → Arranged starts flat s t (l .rest) (l .order)
+  ordered-list : (s t : List ℕ) → RestTable (pathList flat lengths) s (l .rest) → Tabulated starts flat s t (l .rest) (l .order) (l .rank) (l .link)
       → Ordered D L (table t (l .order) (length flat))
   ordered-list s t r a = a .ordered D L (g .design) is-flat (subst (λ (K : PathList). RestTable K s (l .rest)) (sym (g .list)) r)
 
@@ -143,15 +146,19 @@ module _ (D : Design) (L : PathList) (G : Graph) (starts flat lengths nodes gs g
       rests-in : RestTable (pathList flat lengths) s₁ (l .rest)
       rests-in = rest-table D (pathList flat lengths) s₀ s₁ (l .rest) flat-fits r₁
 
-      pub sortable : Sortable flat s₁ (l .rest) (l .order)
-      sortable = record {
-        readable = readable (pathList flat lengths) s₁ (l .rest) rests-in (omega (arith, enough, r₁ .frame .size, w .rest, w .slots));
-        room = omega (arith, enough, r₁ .frame .size, w .order, w .slots);
-        apart = inl (omega (arith, w .rest, w .order));
+      pub orderable : ((k : ℕ) → getD starts k 0 < 4096) → Orderable starts flat lengths s₁ (l .rest) (l .order) (l .rank) (l .link)
+      orderable below = record {
+        rests = rests-in;
+        filled = flat-fits .filled;
+        starts-below = below;
+        rest-before = omega (arith, w .rest, w .order);
+        order-before = omega (arith, w .order, w .rank);
+        rank-before = omega (arith, w .rank, w .link);
+        room = omega (arith, enough, r₁ .frame .size, w .link, w .slots);
         few = flat-fits .fewEdges;
       }
 
-      module _ (s₂ : List ℕ) (r₂ : Arranged starts flat s₁ s₂ (l .rest) (l .order)) where
+      module _ (s₂ : List ℕ) (r₂ : Tabulated starts flat s₁ s₂ (l .rest) (l .order) (l .rank) (l .link)) where
         pub searchable : Searchable starts flat lengths s₂ (l .rest) (l .order) (l .low)
         searchable = record {
           rest-room = omega (arith, w .rest, w .low);
@@ -224,6 +231,12 @@ module _ (D : Design) (L : PathList) (G : Graph) (starts flat lengths nodes gs g
                 kept₃ : (b m : ℕ) → b + m ≤ l .into → table (take (l .slots) s₆) b m ≡ table s₃ b m
                 kept₃ b m h = kept₄ b m (omega (arith, w .into, w .out)) ∙ r₄ .frame .below b m h
 
+                kept₂ : (b m : ℕ) → b + m ≤ l .low → table (take (l .slots) s₆) b m ≡ table s₂ b m
+                kept₂ b m h = kept₃ b m (omega (arith, w .low, w .into)) ∙ r₃ .frame .below b m h
+
+                rests₂ : table (take (l .slots) s₆) (l .rest) (length flat) ≡ table s₂ (l .rest) (length flat)
+                rests₂ = kept₂ (l .rest) (length flat) (omega (arith, w .rest, w .low))
+
                 word : (b c i : ℕ) → b + length nodes ≤ l .into → c < length nodes → i ≡ b + c
                     → getD (take (l .slots) s₆) i 0 ≡ getD (table s₃ b (length nodes)) c 0
                 word b c i h k e =
@@ -280,6 +293,12 @@ module _ (D : Design) (L : PathList) (G : Graph) (starts flat lengths nodes gs g
                       ∙ rests-in .rests
                       ∙ ap (λ (K : PathList). map (restAt K) (upto (length flat) 0)) (sym (g .list));
                   ordered = subst (λ (o : List ℕ). Ordered D L o) (sym (kept₃ (l .order) (length flat) (omega (arith, w .order, w .into)))) ordered-in;
+                  falls = subst (RestsFall flat) (sym rests₂) (r₂ .falls);
+                  ranked = subst (λ (x : List ℕ). Ranked flat x (table (take (l .slots) s₆) (l .rank) (length flat))) (sym rests₂)
+                      (subst (Ranked flat (table s₂ (l .rest) (length flat))) (sym (kept₂ (l .rank) (length flat) (omega (arith, w .rank, w .low)))) (r₂ .ranked));
+                  links = λ n.
+                      subst (λ (x : List ℕ). LinkedTo flat x (table (take (l .slots) s₆) (l .link) (length flat)) n) (sym rests₂)
+                      (subst (λ (x : List ℕ). LinkedTo flat (table s₂ (l .rest) (length flat)) x n) (sym (kept₂ (l .link) (length flat) (omega (arith, w .link, w .low)))) (r₂ .links n));
                   bounded = λ c h. bounded-here c (omega (arith, w .copies));
                   bases = λ c h. bases-here c (omega (arith, w .copies));
                   into =
@@ -360,7 +379,7 @@ module _ (starts flat lengths nodes gs ge gn : List ℕ) where
   pub built : (s₀ s₁ s₂ s₃ s₄ s₅ s₆ : List ℕ) (l : Layout) (total : ℕ) → Buildable starts flat lengths nodes gs ge gn s₀
       → LaidOut (length nodes) (length gs) (length flat) l
       → Rests lengths s₀ s₁ (l .rest)
-      → Arranged starts flat s₁ s₂ (l .rest) (l .order)
+      → Tabulated starts flat s₁ s₂ (l .rest) (l .order) (l .rank) (l .link)
       → Filled starts flat lengths nodes s₂ s₃ (l .order) (l .low) total
       → Linked ge s₃ s₄ (l .into) (l .copies)
       → LinkedNamed gs flat gn s₄ s₅ (l .out) (l .copies)

@@ -21,6 +21,7 @@ pub mod LevelLaws
 pub mod RankLaws
 pub mod ShorterLaws
 pub mod ShorterTails
+pub mod TableLaws
 pub mod FlagLaws
 pub mod Ascending
 pub mod ResultLaws

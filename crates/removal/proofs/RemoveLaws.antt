@@ -8,6 +8,7 @@ use lib.ListN.{length, take, length-map}
 use Rattle.timing.specs.Graphs.{Design, Graph, nodeOf, edgesIn}
 use Rattle.timing.specs.Marks.{PathList, pathsOf}
 use Rattle.timing.specs.TrueGraphs.{trueGraph}
+use Rattle.theorems.proofs.Tested.{ListFits}
 use Rattle.removal.specs.declared.rows.Layout.{Layout}
 use Rattle.removal.specs.Slots.{slots}
 use Rattle.removal.specs.Rows.{boundsIn, orderIn, Tabled, Ready, flagIn}
@@ -19,13 +20,22 @@ use Rattle.removal.specs.Fill.{SameRooms, SlotsRoom, boundsNow, shownNow
 use Rattle.removal.specs.Build.{Given, Buildable, Built}
 use Rattle.removal.specs.Remove.{Worked, Workable, WorkableIn, AllFound, Found}
 use Rattle.removal.proofs.ReachLaws.{ready-still}
+use Rattle.removal.proofs.CountLaws.{list-countable}
 use Rattle.removal.proofs.ShowTables.{setting-of}
 use Rattle.removal.proofs.ShownReadyLaws.{shown-ready}
 use Rattle.removal.proofs.ResultLaws.{shown-nodes, shown-edges}
 
 pub buildable : (starts flat lengths nodes gs ge gn s : List ℕ) → WorkableIn starts flat lengths nodes gs ge gn s → Buildable starts flat lengths nodes gs ge gn s
 buildable starts flat lengths nodes gs ge gn s x =
-    record { design = x .work .design; list = x .work .list; graph = x .work .graph; given = x .work .worked .given; room = x .room }
+    let w = x .work .worked in
+    record {
+      design = x .work .design;
+      list = x .work .list;
+      graph = x .work .graph;
+      given = w .given;
+      starts-below = list-countable (x .work .design) starts flat lengths (w .fits) (subst (λ (K : PathList). ListFits (x .work .design) K) (w .given .list) (w .given .fits)) (w .given .design) .starts-below;
+      room = x .room;
+    }
 
 module _ (starts flat lengths nodes gs ge gn s a : List ℕ) (l : Layout) (x : WorkableIn starts flat lengths nodes gs ge gn s)
     (built : Built starts flat lengths nodes gs ge gn s a l) where

@@ -2,7 +2,7 @@
 use Prim.Native.Nat.{ℕ, _+_, _*_, _≤_, _<_}
 use mathlib.Core.Path.{_≡_}
 use mathlib.Core.List.{List}
-use lib.ListN.{length, take}
+use lib.ListN.{length, getD, take}
 use Rattle.timing.specs.Graphs.{Design, Graph, edgesOf}
 use Rattle.timing.specs.Marks.{PathList, pathList}
 use Rattle.timing.specs.Tests.{candidates}
@@ -44,6 +44,7 @@ pub record Buildable (starts flat lengths nodes gs ge gn s : List ℕ) : Type 0 
   pub list : PathList
   pub graph : Graph
   pub given : Given design list graph starts flat lengths nodes gs ge gn
+  pub starts-below : (k : ℕ) → getD starts k 0 < 4096
   pub room : 16 * (candidates design graph list + length flat + length gs) ≤ length s
 
 -- the tables are filled for whatever design the slices are given of, and no slot is marked

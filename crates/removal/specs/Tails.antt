@@ -7,8 +7,11 @@ use mathlib.Core.List.{List, List·Memᴰ}
 use lib.Dec.{T}
 use lib.ListN.{length, getD, take, drop}
 use Rattle.timing.specs.Lists.{isNil}
-use Rattle.timing.specs.Marks.{pathList, pathsOf, isPrefix}
+use Rattle.timing.specs.Graphs.{Design}
+use Rattle.timing.specs.Marks.{PathList, pathList, pathsOf, isPrefix}
 use Rattle.removal.specs.Table.{table, Frame}
+use Rattle.removal.specs.Positions.{Ordered}
+use Rattle.removal.specs.Listed.{RestTable}
 use Rattle.removal.specs.Search.{Searchable}
 use Rattle.removal.specs.Ranks.{RestsFall, Ranked}
 
@@ -75,4 +78,24 @@ LinksBelow flat rests links p = (q : ℕ) → q < length flat → getD rests q 0
 -- all words are there, and nothing else changed
 pub record TailsLinked (flat s t : List ℕ) (rest link : ℕ) : Type 0 where
   pub frame : Frame s t link (length flat)
+  pub links : (n : ℕ) → LinkedTo flat (table t rest (length flat)) (table t link (length flat)) n
+
+-- what the tables about the list ask: the rests are there, and the tables stand one after the other
+pub record Orderable (starts flat lengths s : List ℕ) (rest order rank link : ℕ) : Type 0 where
+  pub rests : RestTable (pathList flat lengths) s rest
+  pub filled : (p : List ℕ) → List·Memᴰ p (pathsOf (pathList flat lengths)) → isNil p ≡ false
+  pub starts-below : (k : ℕ) → getD starts k 0 < 4096
+  pub rest-before : rest + length flat ≤ order
+  pub order-before : order + length flat ≡ rank
+  pub rank-before : rank + length flat ≡ link
+  pub room : link + length flat ≤ length s
+  pub few : length flat ≤ 8192
+
+-- and what they are then: nothing else changed
+pub record Tabulated (starts flat s t : List ℕ) (rest order rank link : ℕ) : Type 0 where
+  pub frame : Frame s t order (length flat + length flat + length flat)
+  pub ordered : (D : Design) (L : PathList) → D .starts ≡ starts → L .edges ≡ flat → RestTable L s rest
+      → Ordered D L (table t order (length flat))
+  pub falls : RestsFall flat (table t rest (length flat))
+  pub ranked : Ranked flat (table t rest (length flat)) (table t rank (length flat))
   pub links : (n : ℕ) → LinkedTo flat (table t rest (length flat)) (table t link (length flat)) n

@@ -12,10 +12,10 @@ use crate::bounds::fill_bounds;
 use crate::chains::clear;
 use crate::chains::link_edges;
 use crate::listed::fill_rest;
-use crate::listed::order_positions;
 use crate::listed::start_at;
 use crate::names::link_named;
 use crate::rows::Layout;
+use crate::tables::fill_tables;
 
 // The tables one after the other, with the slots last.
 pub(crate) fn layout(copies: usize, edges: usize, listed: usize) -> Layout
@@ -58,9 +58,7 @@ pub(crate) fn build(
 {
     let l = layout(nodes.len(), gs.len(), flat.len());
     fill_rest(s, l.rest, lengths);
-    let mut codes = [0u32; 8192];
-    let ranks = [0u32; 8192];
-    order_positions(starts, flat, s, l.rest, l.order, &mut codes, &ranks);
+    fill_tables(starts, flat, lengths, s, l.rest, l.order, l.rank, l.link);
     let total = fill_bounds(starts, flat, lengths, nodes, s, l.rest, l.order, l.low);
     link_edges(s, l.into, l.copies, ge);
     link_named(s, l.out, l.copies, gs, flat, gn);

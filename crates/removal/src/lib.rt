@@ -37,6 +37,7 @@ mod remove;
 mod rows;
 mod show;
 mod step;
+mod tables;
 
 // The tests of a design and a list: 30, with those of the call's other slices between, and then 10
 // to 14 and 20 to 24.

@@ -1,6 +1,6 @@
 -- Each table meets what the next call asks, and all of them together are what is built.
 use borrow.Author.Needs.{needs}
-use Rattle.removal.proofs.BuildLaws.{named-room, listed-few, rest-room, sortable, searchable, fillable, linkable-into, linkable-out, clear-room, built}
+use Rattle.removal.proofs.BuildLaws.{named-room, listed-few, rest-room, orderable, searchable, fillable, linkable-into, linkable-out, clear-room, built}
 use Rattle.removal.proofs.build.build.Statement.{statement}
 use Rattle.removal.proofs.build.build.Tie as tie
 
@@ -19,14 +19,14 @@ fill-rest-requires c κs =
     let b = st .pre in
     rest-room (b .design) (b .list) (b .graph) (a .starts .now) (a .flat .now) (a .lengths .now) (a .nodes .now) (a .gs .now) (a .ge .now) (a .gn .now) (b .given) (y .layout .result) (y .layout .ensures) (a .s .now) (b .room)
 
-order-positions-requires : tie.Need-order-positions-requires
-order-positions-requires c κs =
+fill-tables-requires : tie.Need-fill-tables-requires
+fill-tables-requires c κs =
     let f = c .before .before .before in
     let y = f .before .before in
     let st = y .before .before .before .before .before .before .before .before .before in
     let a = st .args in
     let b = st .pre in
-    sortable (b .design) (b .list) (b .graph) (a .starts .now) (a .flat .now) (a .lengths .now) (a .nodes .now) (a .gs .now) (a .ge .now) (a .gn .now) (b .given) (y .layout .result) (y .layout .ensures) (a .s .now) (b .room) (f .fill-rest .last .0) (f .fill-rest .ensures)
+    orderable (b .design) (b .list) (b .graph) (a .starts .now) (a .flat .now) (a .lengths .now) (a .nodes .now) (a .gs .now) (a .ge .now) (a .gn .now) (b .given) (y .layout .result) (y .layout .ensures) (a .s .now) (b .room) (f .fill-rest .last .0) (f .fill-rest .ensures) (b .starts-below)
 
 fill-bounds-requires : tie.Need-fill-bounds-requires
 fill-bounds-requires c κs =
@@ -36,8 +36,8 @@ fill-bounds-requires c κs =
     let st = y .before .before .before .before .before .before .before .before .before in
     let a = st .args in
     let b = st .pre in (
-      searchable (b .design) (b .list) (b .graph) (a .starts .now) (a .flat .now) (a .lengths .now) (a .nodes .now) (a .gs .now) (a .ge .now) (a .gn .now) (b .given) (y .layout .result) (y .layout .ensures) (a .s .now) (b .room) (f .fill-rest .last .0) (f .fill-rest .ensures) (o .order-positions .last .1 .1 .0) (o .order-positions .ensures),
-      fillable (b .design) (b .list) (b .graph) (a .starts .now) (a .flat .now) (a .lengths .now) (a .nodes .now) (a .gs .now) (a .ge .now) (a .gn .now) (b .given) (y .layout .result) (y .layout .ensures) (a .s .now) (b .room) (f .fill-rest .last .0) (f .fill-rest .ensures) (o .order-positions .last .1 .1 .0) (o .order-positions .ensures),
+      searchable (b .design) (b .list) (b .graph) (a .starts .now) (a .flat .now) (a .lengths .now) (a .nodes .now) (a .gs .now) (a .ge .now) (a .gn .now) (b .given) (y .layout .result) (y .layout .ensures) (a .s .now) (b .room) (f .fill-rest .last .0) (f .fill-rest .ensures) (o .fill-tables .last .1 .1 .1 .0) (o .fill-tables .ensures),
+      fillable (b .design) (b .list) (b .graph) (a .starts .now) (a .flat .now) (a .lengths .now) (a .nodes .now) (a .gs .now) (a .ge .now) (a .gn .now) (b .given) (y .layout .result) (y .layout .ensures) (a .s .now) (b .room) (f .fill-rest .last .0) (f .fill-rest .ensures) (o .fill-tables .last .1 .1 .1 .0) (o .fill-tables .ensures),
     )
 
 link-edges-requires : tie.Need-link-edges-requires
@@ -49,7 +49,7 @@ link-edges-requires c κs =
     let st = y .before .before .before .before .before .before .before .before .before in
     let a = st .args in
     let b = st .pre in
-    linkable-into (b .design) (b .list) (b .graph) (a .starts .now) (a .flat .now) (a .lengths .now) (a .nodes .now) (a .gs .now) (a .ge .now) (a .gn .now) (b .given) (y .layout .result) (y .layout .ensures) (a .s .now) (b .room) (f .fill-rest .last .0) (f .fill-rest .ensures) (o .order-positions .last .1 .1 .0) (o .order-positions .ensures) (h .fill-bounds .last .1 .1 .1 .1 .0) (h .fill-bounds .result) (h .fill-bounds .ensures)
+    linkable-into (b .design) (b .list) (b .graph) (a .starts .now) (a .flat .now) (a .lengths .now) (a .nodes .now) (a .gs .now) (a .ge .now) (a .gn .now) (b .given) (y .layout .result) (y .layout .ensures) (a .s .now) (b .room) (f .fill-rest .last .0) (f .fill-rest .ensures) (o .fill-tables .last .1 .1 .1 .0) (o .fill-tables .ensures) (h .fill-bounds .last .1 .1 .1 .1 .0) (h .fill-bounds .result) (h .fill-bounds .ensures)
 
 link-named-requires : tie.Need-link-named-requires
 link-named-requires c κs =
@@ -61,8 +61,8 @@ link-named-requires c κs =
     let st = y .before .before .before .before .before .before .before .before .before in
     let a = st .args in
     let b = st .pre in (
-      linkable-out (b .design) (b .list) (b .graph) (a .starts .now) (a .flat .now) (a .lengths .now) (a .nodes .now) (a .gs .now) (a .ge .now) (a .gn .now) (b .given) (y .layout .result) (y .layout .ensures) (a .s .now) (b .room) (f .fill-rest .last .0) (f .fill-rest .ensures) (o .order-positions .last .1 .1 .0) (o .order-positions .ensures) (h .fill-bounds .last .1 .1 .1 .1 .0) (h .fill-bounds .result) (h .fill-bounds .ensures) (i .link-edges .last .0) (i .link-edges .ensures),
-      named-room (b .design) (b .list) (b .graph) (a .starts .now) (a .flat .now) (a .lengths .now) (a .nodes .now) (a .gs .now) (a .ge .now) (a .gn .now) (b .given) (y .layout .result) (y .layout .ensures) (a .s .now) (b .room) (f .fill-rest .last .0) (f .fill-rest .ensures) (o .order-positions .last .1 .1 .0) (o .order-positions .ensures) (h .fill-bounds .last .1 .1 .1 .1 .0) (h .fill-bounds .result) (h .fill-bounds .ensures) (i .link-edges .last .0) (i .link-edges .ensures),
+      linkable-out (b .design) (b .list) (b .graph) (a .starts .now) (a .flat .now) (a .lengths .now) (a .nodes .now) (a .gs .now) (a .ge .now) (a .gn .now) (b .given) (y .layout .result) (y .layout .ensures) (a .s .now) (b .room) (f .fill-rest .last .0) (f .fill-rest .ensures) (o .fill-tables .last .1 .1 .1 .0) (o .fill-tables .ensures) (h .fill-bounds .last .1 .1 .1 .1 .0) (h .fill-bounds .result) (h .fill-bounds .ensures) (i .link-edges .last .0) (i .link-edges .ensures),
+      named-room (b .design) (b .list) (b .graph) (a .starts .now) (a .flat .now) (a .lengths .now) (a .nodes .now) (a .gs .now) (a .ge .now) (a .gn .now) (b .given) (y .layout .result) (y .layout .ensures) (a .s .now) (b .room) (f .fill-rest .last .0) (f .fill-rest .ensures) (o .fill-tables .last .1 .1 .1 .0) (o .fill-tables .ensures) (h .fill-bounds .last .1 .1 .1 .1 .0) (h .fill-bounds .result) (h .fill-bounds .ensures) (i .link-edges .last .0) (i .link-edges .ensures),
     )
 
 cast-clear : tie.Need-cast-clear
@@ -79,7 +79,7 @@ clear-requires c κs =
     let st = y .before .before .before .before .before .before .before .before .before in
     let a = st .args in
     let b = st .pre in
-    clear-room (b .design) (b .list) (b .graph) (a .starts .now) (a .flat .now) (a .lengths .now) (a .nodes .now) (a .gs .now) (a .ge .now) (a .gn .now) (b .given) (y .layout .result) (y .layout .ensures) (a .s .now) (b .room) (f .fill-rest .last .0) (f .fill-rest .ensures) (o .order-positions .last .1 .1 .0) (o .order-positions .ensures) (h .fill-bounds .last .1 .1 .1 .1 .0) (h .fill-bounds .result) (h .fill-bounds .ensures) (i .link-edges .last .0) (i .link-edges .ensures) (e .link-named .last .0) (e .link-named .ensures)
+    clear-room (b .design) (b .list) (b .graph) (a .starts .now) (a .flat .now) (a .lengths .now) (a .nodes .now) (a .gs .now) (a .ge .now) (a .gn .now) (b .given) (y .layout .result) (y .layout .ensures) (a .s .now) (b .room) (f .fill-rest .last .0) (f .fill-rest .ensures) (o .fill-tables .last .1 .1 .1 .0) (o .fill-tables .ensures) (h .fill-bounds .last .1 .1 .1 .1 .0) (h .fill-bounds .result) (h .fill-bounds .ensures) (i .link-edges .last .0) (i .link-edges .ensures) (e .link-named .last .0) (e .link-named .ensures)
 
 same-length : tie.Need-same-length
 same-length c =
@@ -93,7 +93,7 @@ same-length c =
     let st = y .before .before .before .before .before .before .before .before .before in
     let a = st .args in
     let b = st .pre in
-    (built (a .starts .now) (a .flat .now) (a .lengths .now) (a .nodes .now) (a .gs .now) (a .ge .now) (a .gn .now) (a .s .now) (f .fill-rest .last .0) (o .order-positions .last .1 .1 .0) (h .fill-bounds .last .1 .1 .1 .1 .0) (i .link-edges .last .0) (e .link-named .last .0) (w .clear .last .0) (y .layout .result) (h .fill-bounds .result) b (y .layout .ensures) (f .fill-rest .ensures) (o .order-positions .ensures) (h .fill-bounds .ensures) (i .link-edges .ensures) (e .link-named .ensures) (w .clear .ensures)) .size
+    (built (a .starts .now) (a .flat .now) (a .lengths .now) (a .nodes .now) (a .gs .now) (a .ge .now) (a .gn .now) (a .s .now) (f .fill-rest .last .0) (o .fill-tables .last .1 .1 .1 .0) (h .fill-bounds .last .1 .1 .1 .1 .0) (i .link-edges .last .0) (e .link-named .last .0) (w .clear .last .0) (y .layout .result) (h .fill-bounds .result) b (y .layout .ensures) (f .fill-rest .ensures) (o .fill-tables .ensures) (h .fill-bounds .ensures) (i .link-edges .ensures) (e .link-named .ensures) (w .clear .ensures)) .size
 
 returns : tie.Need-returns
 returns c =
@@ -107,7 +107,7 @@ returns c =
     let st = y .before .before .before .before .before .before .before .before .before in
     let a = st .args in
     let b = st .pre in
-    built (a .starts .now) (a .flat .now) (a .lengths .now) (a .nodes .now) (a .gs .now) (a .ge .now) (a .gn .now) (a .s .now) (f .fill-rest .last .0) (o .order-positions .last .1 .1 .0) (h .fill-bounds .last .1 .1 .1 .1 .0) (i .link-edges .last .0) (e .link-named .last .0) (w .clear .last .0) (y .layout .result) (h .fill-bounds .result) b (y .layout .ensures) (f .fill-rest .ensures) (o .order-positions .ensures) (h .fill-bounds .ensures) (i .link-edges .ensures) (e .link-named .ensures) (w .clear .ensures)
+    built (a .starts .now) (a .flat .now) (a .lengths .now) (a .nodes .now) (a .gs .now) (a .ge .now) (a .gn .now) (a .s .now) (f .fill-rest .last .0) (o .fill-tables .last .1 .1 .1 .0) (h .fill-bounds .last .1 .1 .1 .1 .0) (i .link-edges .last .0) (e .link-named .last .0) (w .clear .last .0) (y .layout .result) (h .fill-bounds .result) b (y .layout .ensures) (f .fill-rest .ensures) (o .fill-tables .ensures) (h .fill-bounds .ensures) (i .link-edges .ensures) (e .link-named .ensures) (w .clear .ensures)
 
 pub build-spec : {M : Type 1} → statement M
 build-spec =
@@ -115,7 +115,7 @@ build-spec =
     (tie.spec
     layout-requires
     fill-rest-requires
-    order-positions-requires
+    fill-tables-requires
     fill-bounds-requires
     link-edges-requires
     link-named-requires

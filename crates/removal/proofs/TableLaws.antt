@@ -1,0 +1,108 @@
+-- The tables about the list, one after the other: each later one leaves the earlier ones.
+use Prim.Native.Nat.{ℕ, suc, _+_, _≤_, _<_}
+use native.Mathlib.Omega.{arith}
+use mathlib.Core.Path.{_≡_, refl, sym, _∙_, ap, subst}
+use mathlib.Core.List.{List, map}
+use lib.ListN.{length, getD}
+use Rattle.timing.specs.Lists.{upto}
+use Rattle.timing.specs.Graphs.{Design}
+use Rattle.timing.specs.Marks.{PathList, pathList}
+use Rattle.theorems.proofs.Lists.{getD-mem}
+use Rattle.removal.specs.Table.{table, Frame}
+use Rattle.removal.specs.Positions.{restAt, Ordered}
+use Rattle.removal.specs.Listed.{RestTable, Sortable, Arranged}
+use Rattle.removal.specs.Ranks.{RestsFall, Ranked, Levels}
+use Rattle.removal.specs.Search.{ofStarts}
+use Rattle.removal.specs.Tails.{Tailed, TailsLinked, Orderable, Tabulated, LinkedTo}
+use Rattle.removal.proofs.Region.{table-length, frame-wider, frame-trans}
+use Rattle.removal.proofs.RestLaws.{table-is}
+use Rattle.removal.proofs.PositionLaws.{rest-least, rest-inside, rest-next}
+
+-- the rests of a list fall along its paths
+pub rests-fall : (L : PathList) (s : List ℕ) (base : ℕ) → base + length (L .edges) ≤ length s → RestTable L s base → RestsFall (L .edges) (table s base (length (L .edges)))
+rests-fall L s base room r = record {
+  size = table-length s base (length (L .edges)) room;
+  some = λ p h. omega (arith, is p h, rest-least L (r .total) p h);
+  inside = λ p h. omega (arith, is p h, rest-inside L (r .total) p h);
+  falls = λ p h m.
+      let n = rest-next (L .lengths) p (omega (arith, is p h)) .0 in
+      let l : suc p < length (L .edges) = omega (arith, is p h, rest-inside L (r .total) p h) in
+      is p h ∙ n ∙ ap suc (sym (is (suc p) l));
+}
+  where
+    is : (p : ℕ) → p < length (L .edges) → getD (table s base (length (L .edges))) p 0 ≡ restAt L p
+    is p h = ap (λ (t : List ℕ). getD t p 0) (r .rests) ∙ table-is (restAt L) (length (L .edges)) p h
+
+module _ (starts flat lengths s : List ℕ) (rest order rank link : ℕ) (b : Orderable starts flat lengths s rest order rank link) where
+  pub falls : RestsFall flat (table s rest (length flat))
+  falls = rests-fall (pathList flat lengths) s rest (omega (arith, b .rest-before, b .order-before, b .rank-before, b .room)) (b .rests)
+
+  pub sortable : Sortable flat s rest order
+  sortable = record {
+    rest-room = omega (arith, b .rest-before, b .order-before, b .rank-before, b .room);
+    room = omega (arith, b .order-before, b .rank-before, b .room);
+    few = b .few;
+  }
+
+  -- after the order, and the ranks stored
+  module _ (ranks places s₂ s₃ : List ℕ) (ranked : Ranked flat (table s rest (length flat)) ranks) (levels : Levels (table s rest (length flat)) places (length flat) (length flat))
+      (arranged : Arranged starts flat s s₂ rest order) (stored : table s₃ rank (length ranks) ≡ ranks) (frame : Frame s₂ s₃ rank (length ranks)) where
+    rests₃ : table s₃ rest (length flat) ≡ table s rest (length flat)
+    rests₃ = frame .below rest (length flat) (omega (arith, b .rest-before, b .order-before)) ∙ arranged .frame .below rest (length flat) (b .rest-before)
+
+    order₃ : table s₃ order (length flat) ≡ table s₂ order (length flat)
+    order₃ = frame .below order (length flat) (omega (arith, b .order-before))
+
+    ranks₃ : table s₃ rank (length flat) ≡ ranks
+    ranks₃ = subst (λ (n : ℕ). table s₃ rank n ≡ ranks) (ranked .size) stored
+
+    size₃ : length s₃ ≡ length s
+    size₃ = frame .size ∙ arranged .frame .size
+
+    pub levels₃ : Levels (table s₃ rest (length flat)) places (length flat) (length flat)
+    levels₃ = subst (λ (x : List ℕ). Levels x places (length flat) (length flat)) (sym rests₃) levels
+
+    ranked₃ : Ranked flat (table s₃ rest (length flat)) (table s₃ rank (length flat))
+    ranked₃ = subst (λ (x : List ℕ). Ranked flat x (table s₃ rank (length flat))) (sym rests₃) (subst (Ranked flat (table s rest (length flat))) (sym ranks₃) ranked)
+
+    pub tailed : Tailed starts flat lengths s₃ rest order rank link
+    tailed = record {
+      search = record {
+        rest-room = omega (arith, b .rest-before, b .order-before);
+        order-room = omega (arith, b .order-before);
+        room = omega (arith, size₃, b .rank-before, b .room);
+        total = b .rests .total;
+        filled = λ j h. b .rests .filled (getD lengths j 0) (getD-mem lengths j 0 h);
+        rests = rests₃ ∙ b .rests .rests;
+        ordered = subst (Ordered (ofStarts starts) (pathList flat lengths)) (sym order₃) (arranged .ordered (ofStarts starts) (pathList flat lengths) refl refl (b .rests));
+      };
+      filled = b .filled;
+      compare = record {
+        rest-room = omega (arith, size₃, b .rest-before, b .order-before, b .rank-before, b .room);
+        rank-room = omega (arith, size₃, b .rank-before, b .room);
+        falls = subst (RestsFall flat) (sym rests₃) falls;
+        ranked = ranked₃;
+      };
+      rank-before = omega (arith, b .rank-before);
+      link-room = omega (arith, size₃, b .room);
+      few = b .few;
+    }
+
+    -- and the links
+    pub tabulated : (s₄ : List ℕ) → TailsLinked flat s₃ s₄ rest link → Tabulated starts flat s s₄ rest order rank link
+    tabulated s₄ linked =
+        let rests₄ : table s₄ rest (length flat) ≡ table s₃ rest (length flat) = linked .frame .below rest (length flat) (omega (arith, b .rest-before, b .order-before, b .rank-before)) in
+        let ranks₄ : table s₄ rank (length flat) ≡ table s₃ rank (length flat) = linked .frame .below rank (length flat) (omega (arith, b .rank-before)) in
+        let order₄ : table s₄ order (length flat) ≡ table s₃ order (length flat) = linked .frame .below order (length flat) (omega (arith, b .order-before, b .rank-before)) in
+        record {
+          frame =
+              frame-trans s s₃ s₄ order (length flat + length flat + length flat)
+              (frame-trans s s₂ s₃ order (length flat + length flat + length flat)
+              (frame-wider s s₂ order (length flat) order (length flat + length flat + length flat) (omega arith) (omega arith) (arranged .frame))
+              (frame-wider s₂ s₃ rank (length ranks) order (length flat + length flat + length flat) (omega (arith, b .order-before)) (omega (arith, b .order-before, ranked .size)) frame))
+              (frame-wider s₃ s₄ link (length flat) order (length flat + length flat + length flat) (omega (arith, b .order-before, b .rank-before)) (omega (arith, b .order-before, b .rank-before)) (linked .frame));
+          ordered = λ D L d e r. subst (Ordered D L) (sym (order₄ ∙ order₃)) (arranged .ordered D L d e r);
+          falls = subst (RestsFall flat) (sym (rests₄ ∙ rests₃)) falls;
+          ranked = subst (λ (x : List ℕ). Ranked flat x (table s₄ rank (length flat))) (sym rests₄) (subst (Ranked flat (table s₃ rest (length flat))) (sym ranks₄) ranked₃);
+          links = linked .links;
+        }

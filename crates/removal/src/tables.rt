@@ -1,0 +1,77 @@
+// The tables about the list, besides the rests: the ranks of the positions, their order, and the links.
+ghost use mathlib.Core.Path.{_≡_};
+ghost use Prim.Native.Nat.{_+_, _≤_};
+ghost use lib.ListN.{length};
+ghost use Rattle.removal.specs.Table.{table};
+ghost use Rattle.removal.specs.Ranks.{Rankable, Ranked, Levels};
+ghost use Rattle.removal.specs.Tails.{Orderable, Tabulated};
+use crate::links::fill_links;
+use crate::listed::order_positions;
+use crate::listed::store;
+use crate::ranks::rank_tails;
+
+// The ranks, by the rest table in the scratch.
+fn rank_listed(flat: &[u32], s: &[u32], rest: usize, places: &mut [u32], ranks: &mut [u32])
+    requires { ⌜ (rest + length (now flat) ≤ length (now s)) × Rankable (now flat) (table (now s) rest (length (now flat))) (length (now places)) (length (now ranks)) ⌝ }
+    ensures { λ r. ⌜ Ranked (now (flat .entry)) (table (now (s .entry)) rest (length (now (flat .entry)))) (now (ranks .exit)) × Levels (table (now (s .entry)) rest (length (now (flat .entry)))) (now (places .exit)) (length (now (flat .entry))) (length (now (flat .entry))) ⌝ }
+{
+    let end = rest + flat.len();
+    rank_tails(flat, &s[rest..end], places, ranks);
+}
+
+// The three tables, with a word for each position in three more slices to work in.
+fn fill_with(
+    starts: &[u32],
+    flat: &[u32],
+    lengths: &[u32],
+    s: &mut [u32],
+    rest: usize,
+    order: usize,
+    rank: usize,
+    link: usize,
+    places: &mut [u32],
+    ranks: &mut [u32],
+    codes: &mut [u32],
+)
+    requires { ⌜ Orderable (now starts) (now flat) (now lengths) (now s) rest order rank link ⌝ }
+    requires { ⌜ (length (now places) ≡ length (now flat)) × (length (now ranks) ≡ length (now flat)) × (length (now codes) ≡ length (now flat)) ⌝ }
+    ensures { λ r. ⌜ Tabulated (now (starts .entry)) (now (flat .entry)) (now (s .entry)) (now (s .exit)) rest order rank link ⌝ }
+{
+    rank_listed(flat, s, rest, places, ranks);
+    order_positions(starts, flat, s, rest, order, codes, ranks);
+    store(s, rank, ranks);
+    fill_links(starts, flat, lengths, s, rest, order, rank, link, places);
+}
+
+// The three tables.
+pub(crate) fn fill_tables(
+    starts: &[u32],
+    flat: &[u32],
+    lengths: &[u32],
+    s: &mut [u32],
+    rest: usize,
+    order: usize,
+    rank: usize,
+    link: usize,
+)
+    requires { ⌜ Orderable (now starts) (now flat) (now lengths) (now s) rest order rank link ⌝ }
+    ensures { λ r. ⌜ Tabulated (now (starts .entry)) (now (flat .entry)) (now (s .entry)) (now (s .exit)) rest order rank link ⌝ }
+{
+    let n = flat.len();
+    let mut places = [0u32; 8192];
+    let mut ranks = [0u32; 8192];
+    let mut codes = [0u32; 8192];
+    fill_with(
+        starts,
+        flat,
+        lengths,
+        s,
+        rest,
+        order,
+        rank,
+        link,
+        &mut places[..n],
+        &mut ranks[..n],
+        &mut codes[..n],
+    );
+}
