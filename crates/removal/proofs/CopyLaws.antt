@@ -1,44 +1,36 @@
--- Marking over the chain of a copy's edges, and over all copies: the rows are what pass 1 makes.
+-- Marking over the chain of the edges into a copy, and over all copies: the rows are what pass 1 makes.
 use Prim.Native.Nat.{ℕ, suc, _+_, _≤_, _<_}
 use native.Mathlib.Omega.{arith}
 use native.Mathlib.Decide.{ℕ-discrete}
 use mathlib.Core.Path.{_≡_, refl, sym, _∙_, ap, subst}
 use mathlib.Core.Logic.{_⊎_, inl, inr, ⊎-elim}
 use mathlib.Core.List.{List, [], _∷_, _++_, map, append-assoc, List·Memᴰ, List·Memᴰ·head, List·Memᴰ·not-nil, List·Memᴰ·cases-cons, List·Memᴰ·append-cases, Memᴰ·append-left, Memᴰ·append-right, Memᴰ·of-map}
-use lib.Dec.{T, ltb, eqb, eqb→eq}
+use lib.Dec.{T, ltb, eqb}
 use lib.ListN.{length, getD, take, set}
 use lib.Seq.{getD-take}
-use borrow.Author.Tests.{ltb-true, lt-ltb}
-use Rattle.timing.specs.Lists.{isNil, keep, upto}
+use borrow.Author.Tests.{ltb-true, lt-ltb, eq-eqb, ne-eqb}
+use Rattle.timing.specs.Lists.{isNil, keep}
 use Rattle.timing.specs.Graphs.{Design, Edge, Graph, edgesOut, endsAt}
 use Rattle.timing.specs.Marks.{PathList}
-use Rattle.theorems.proofs.Lists.{of-keep, of-upto}
 use Rattle.theorems.proofs.Runs.{mem-out}
 use Rattle.removal.specs.declared.rows.Layout.{Layout}
 use Rattle.removal.specs.Table.{table}
 use Rattle.removal.specs.Chains.{Chain, edgesAt}
 use Rattle.removal.specs.Slots.{slots, slotBase, slotMark, Used}
-use Rattle.removal.specs.Rows.{boundsIn, orderIn, Tabled, slotPlace}
+use Rattle.removal.specs.Rows.{boundsIn, orderIn, Tabled, slotPlace, flagIn}
 use Rattle.removal.specs.Flags.{ReachedRow, StepBack, Backward}
-use Rattle.removal.specs.Reach.{flagOf, reachedOf, Leads, Marking, FromEdge, FromList, CopyReached, RowsReached, AllZero}
+use Rattle.removal.specs.Reach.{flagOf, reachedOf, SlotsOnly, Pushes, Marking, FromSlot, FromList, FromAll, endSet, RowsReached, AllZero}
 use Rattle.removal.proofs.Region.{table-at}
-use Rattle.removal.proofs.ChainLaws.{RisesIn, edges-rise, chain-ends, chain-goes, chainLeft, chain-falls}
+use Rattle.removal.proofs.ChainLaws.{RisesIn, edges-rise, edges-member, chain-ends, chain-goes, chainLeft, chain-falls}
 use Rattle.removal.proofs.IntoLaws.{edgeAt, edges-out-at}
 use Rattle.removal.proofs.SlotLaws.{used-empty}
 use Rattle.removal.proofs.FlagLaws.{reached-same, reached-row}
 use Rattle.removal.proofs.AlongLaws.{edge-mem, edge-up, end-inside}
-use Rattle.removal.proofs.ReachLaws.{row-trans, only-trans, marking-same, marking-join, flag-here, flag-other, stored-row}
+use Rattle.removal.proofs.ReachLaws.{only-refl, only-trans, marking-same, marking-keeps, marking-join, into-end, flag-here, flag-other, stored-only}
 
 append-nil : (l : List ℕ) → l ++ [] ≡ l
 append-nil [] = refl
 append-nil (x ∷ l) = ap (λ (k : List ℕ). x ∷ k) (append-nil l)
-
--- an edge out of a copy
-of-edges : (gs : List ℕ) (c m e : ℕ) → List·Memᴰ e (edgesAt gs c m 0) → (e < m) × (getD gs e 0 ≡ c)
-of-edges gs c m e x =
-    let r = of-keep (λ (i : ℕ). eqb (getD gs i 0) c) (upto m 0) x in
-    let u = of-upto m 0 e (r .0) in
-    (omega (arith, u .1), eqb→eq (getD gs e 0) c (r .1))
 
 -- a word of the tables is read from the scratch
 pub read-table : (s p : List ℕ) (k base n i : ℕ) → take k s ≡ p → i < n → base + n ≤ k → getD s (base + i) 0 ≡ getD (table p base n) i 0
@@ -46,80 +38,84 @@ read-table s p k base n i e h r =
     sym (getD-take k s (base + i) 0 (omega arith)) ∙ ap (λ (q : List ℕ). getD q (base + i) 0) e ∙ sym (table-at p base n i h)
 
 -- the edges that are done and those that the chain still has
-pub record Chaining (l : Layout) (flat gs ge gn p s t : List ℕ) (c h : ℕ) : Type 0 where
+pub record Chaining (l : Layout) (flat gs ge gn p s t : List ℕ) (c j h : ℕ) : Type 0 where
   pub done : List ℕ
   pub left : List ℕ
   pub from : ℕ
-  pub whole : done ++ left ≡ edgesAt gs c (l .edges) 0
-  pub chain : Chain (table p (l .out + l .copies) (l .edges)) h left
+  pub whole : done ++ left ≡ edgesAt ge c (l .edges) 0
+  pub chain : Chain (table p (l .into + l .copies) (l .edges)) h left
   pub rises : RisesIn from (l .edges) left
-  pub marks : Marking l flat gs ge gn p s t c (FromList done)
+  pub marks : Marking l flat gs ge gn p s t c (FromList done j)
 
-module _ (D : Design) (L : PathList) (G : Graph) (l : Layout) (flat gs ge gn p : List ℕ) (x : Tabled D L G l flat gs ge gn p) (c : ℕ) (copy : c < l .copies) where
-  pub chaining-start : (s : List ℕ) (h : ℕ) → take (l .slots) s ≡ p → h ≡ getD s (l .out + c) 0 → Chaining l flat gs ge gn p s s c h
+module _ (D : Design) (L : PathList) (G : Graph) (l : Layout) (flat gs ge gn p : List ℕ) (x : Tabled D L G l flat gs ge gn p) (c : ℕ) (copy : c < l .copies) (j : ℕ) where
+  abbrev nexts : List ℕ
+  nexts = table p (l .into + l .copies) (l .edges)
+
+  pub chaining-start : (s : List ℕ) (h : ℕ) → take (l .slots) s ≡ p → h ≡ getD s (l .into + c) 0 → Chaining l flat gs ge gn p s s c j h
   chaining-start s h e q =
-      let r : h ≡ getD (table p (l .out) (l .copies)) c 0 = q ∙ read-table s p (l .slots) (l .out) (l .copies) c e copy (omega (arith, x .laid .out)) in
+      let r : h ≡ getD (table p (l .into) (l .copies)) c 0 = q ∙ read-table s p (l .slots) (l .into) (l .copies) c e copy (omega (arith, x .laid .into, x .laid .out)) in
       record {
         done = [];
-        left = edgesAt gs c (l .edges) 0;
+        left = edgesAt ge c (l .edges) 0;
         from = 0;
         whole = refl;
-        chain = subst (λ (i : ℕ). Chain (table p (l .out + l .copies) (l .edges)) i (edgesAt gs c (l .edges) 0)) (sym r) (x .out c copy);
-        rises = edges-rise gs c (l .edges);
-        marks = marking-same l flat gs ge gn p c s (FromList []) (λ D' L' G' y e k i m f z. List·Memᴰ·not-nil m);
+        chain = subst (λ (i : ℕ). Chain nexts i (edgesAt ge c (l .edges) 0)) (sym r) (x .into c copy);
+        rises = edges-rise ge c (l .edges);
+        marks = marking-same l flat gs ge gn p c s (FromList [] j) (λ D' L' G' y d i e k z. List·Memᴰ·not-nil (z .0 .0));
       }
 
-  module _ (s t : List ℕ) (h e : ℕ) (g : Chaining l flat gs ge gn p s t c h) (next : h ≡ suc e) where
-    goes : (rest : List ℕ) × (g .left ≡ e ∷ rest) × Chain (table p (l .out + l .copies) (l .edges)) (getD (table p (l .out + l .copies) (l .edges)) e 0) rest
-    goes =
-        chain-goes (table p (l .out + l .copies) (l .edges)) e (g .left)
-        (subst (λ (i : ℕ). Chain (table p (l .out + l .copies) (l .edges)) i (g .left)) next (g .chain))
+  module _ (s t : List ℕ) (h e : ℕ) (g : Chaining l flat gs ge gn p s t c j h) (next : h ≡ suc e) where
+    goes : (rest : List ℕ) × (g .left ≡ e ∷ rest) × Chain nexts (getD nexts e 0) rest
+    goes = chain-goes nexts e (g .left) (subst (λ (i : ℕ). Chain nexts i (g .left)) next (g .chain))
 
     rising : RisesIn (g .from) (l .edges) (e ∷ goes .0)
     rising = subst (λ (es : List ℕ). RisesIn (g .from) (l .edges) es) (goes .1) (g .rises)
 
-    pub chaining-edge : (e < l .edges) × (getD gs e 0 ≡ c)
+    pub chaining-edge : (e < l .edges) × (getD ge e 0 ≡ c)
     chaining-edge =
-        of-edges gs c (l .edges) e
+        edges-member ge c (l .edges) e .0
         (subst (λ (es : List ℕ). List·Memᴰ e es) (g .whole)
         (Memᴰ·append-right (g .done) (subst (λ (es : List ℕ). List·Memᴰ e es) (sym (goes .1)) (List·Memᴰ·head refl))))
 
-    pub chaining-less : chainLeft (l .edges) (getD (table p (l .out + l .copies) (l .edges)) e 0) < chainLeft (l .edges) h
-    chaining-less =
-        subst (λ (i : ℕ). chainLeft (l .edges) (getD (table p (l .out + l .copies) (l .edges)) e 0) < chainLeft (l .edges) i) (sym next)
-        (chain-falls (table p (l .out + l .copies) (l .edges)) e (g .from) (l .edges) (g .left) (g .rises)
-        (subst (λ (i : ℕ). Chain (table p (l .out + l .copies) (l .edges)) i (g .left)) next (g .chain)))
+    -- what following the edge asks: slot j at its end is there, and still reached
+    pub chaining-slot : j < slots (boundsIn l p) c → take (l .slots) t ≡ p → 0 < flagOf l p s c j
+        → (j < slots (boundsIn l (take (l .slots) t)) (getD ge e 0)) × (0 < flagIn l t (getD ge e 0) j)
+    chaining-slot slot same on =
+        subst (λ (q : List ℕ). (j < slots (boundsIn l q) (getD ge e 0)) × (0 < flagOf l q t (getD ge e 0) j)) (sym same)
+        (subst (λ (d : ℕ). (j < slots (boundsIn l p) d) × (0 < flagOf l p t d j)) (sym (chaining-edge .1))
+        (slot, omega (arith, on, g .marks .higher c j (omega arith) copy slot)))
 
-    pub chaining-turn : (u : List ℕ) (k : ℕ) → k ≡ getD (table p (l .out + l .copies) (l .edges)) e 0 → Marking l flat gs ge gn p t u (getD gs e 0) (FromEdge e)
-        → Chaining l flat gs ge gn p s u c k
+    pub chaining-less : chainLeft (l .edges) (getD nexts e 0) < chainLeft (l .edges) h
+    chaining-less =
+        subst (λ (i : ℕ). chainLeft (l .edges) (getD nexts e 0) < chainLeft (l .edges) i) (sym next)
+        (chain-falls nexts e (g .from) (l .edges) (g .left) (g .rises) (subst (λ (i : ℕ). Chain nexts i (g .left)) next (g .chain)))
+
+    pub chaining-turn : (u : List ℕ) (k : ℕ) → k ≡ getD nexts e 0 → Marking l flat gs ge gn p t u (getD ge e 0) (FromSlot e j) → Chaining l flat gs ge gn p s u c j k
     chaining-turn u k q b =
-        let m : Marking l flat gs ge gn p t u c (FromEdge e) = subst (λ (d : ℕ). Marking l flat gs ge gn p t u d (FromEdge e)) (chaining-edge .1) b in
+        let m : Marking l flat gs ge gn p t u c (FromSlot e j) = subst (λ (d : ℕ). Marking l flat gs ge gn p t u d (FromSlot e j)) (chaining-edge .1) b in
         record {
           done = g .done ++ (e ∷ []);
           left = goes .0;
           from = suc e;
           whole = append-assoc (g .done) (e ∷ []) (goes .0) ∙ ap (λ (es : List ℕ). g .done ++ es) (sym (goes .1)) ∙ g .whole;
-          chain = subst (λ (i : ℕ). Chain (table p (l .out + l .copies) (l .edges)) i (goes .0)) (sym q) (goes .2);
+          chain = subst (λ (i : ℕ). Chain nexts i (goes .0)) (sym q) (goes .2);
           rises = rising .2;
-          marks = marking-join l flat gs ge gn p c s t u (FromList (g .done)) (FromEdge e) (FromList (g .done ++ (e ∷ []))) (g .marks) m
-              (λ d i y. Memᴰ·append-left (e ∷ []) y)
-              (λ d i y. Memᴰ·append-right (g .done) (List·Memᴰ·head y))
+          marks = marking-join l flat gs ge gn p c s t u (FromList (g .done) j) (FromSlot e j) (FromList (g .done ++ (e ∷ [])) j) (g .marks) m
+              (λ d i y. (Memᴰ·append-left (e ∷ []) (y .0), y .1))
+              (λ d i y. (Memᴰ·append-right (g .done) (List·Memᴰ·head (y .0)), y .1))
               (λ d i y.
               ⊎-elim
-              (λ (z : List·Memᴰ d (g .done)). inl z)
-              (λ (z : List·Memᴰ d (e ∷ [])). inr (⊎-elim (λ (w : d ≡ e). w) (λ (w : List·Memᴰ d []). absurd (List·Memᴰ·not-nil w)) (List·Memᴰ·cases-cons z)))
-              (List·Memᴰ·append-cases (g .done) y))
-              (λ d i y.
-              let w : getD ge d 0 ≡ getD ge e 0 = ap (λ (j : ℕ). getD ge j 0) y in
-              (omega (arith, end-inside D L G l flat gs ge gn p x e (chaining-edge .0)), λ r. omega (arith, edge-up D L G l flat gs ge gn p x e (chaining-edge .0), chaining-edge .1)));
+              (λ (z : List·Memᴰ d (g .done)). inl (z, y .1))
+              (λ (z : List·Memᴰ d (e ∷ [])). inr (⊎-elim (λ (w : d ≡ e). w) (λ (w : List·Memᴰ d []). absurd (List·Memᴰ·not-nil w)) (List·Memᴰ·cases-cons z), y .1))
+              (List·Memᴰ·append-cases (g .done) (y .0)))
+              (λ d i y. into-end l flat gs ge gn p c D L G x d (subst (λ (es : List ℕ). List·Memᴰ d es) (g .whole) (Memᴰ·append-left (g .left) (y .0))));
         }
 
-  pub chaining-done : (s t : List ℕ) (h : ℕ) → h ≡ 0 → Chaining l flat gs ge gn p s t c h → Marking l flat gs ge gn p s t c (FromList (edgesAt gs c (l .edges) 0))
+  pub chaining-done : (s t : List ℕ) (h : ℕ) → h ≡ 0 → Chaining l flat gs ge gn p s t c j h → Marking l flat gs ge gn p s t c (FromList (edgesAt ge c (l .edges) 0) j)
   chaining-done s t h z g =
-      let e = chain-ends (table p (l .out + l .copies) (l .edges)) (g .left)
-      (subst (λ (i : ℕ). Chain (table p (l .out + l .copies) (l .edges)) i (g .left)) z (g .chain)) in
-      let w : g .done ≡ edgesAt gs c (l .edges) 0 = sym (append-nil (g .done)) ∙ ap (λ (es : List ℕ). g .done ++ es) (sym e) ∙ g .whole in
-      subst (λ (es : List ℕ). Marking l flat gs ge gn p s t c (FromList es)) w (g .marks)
+      let e = chain-ends nexts (g .left) (subst (λ (i : ℕ). Chain nexts i (g .left)) z (g .chain)) in
+      let w : g .done ≡ edgesAt ge c (l .edges) 0 = sym (append-nil (g .done)) ∙ ap (λ (es : List ℕ). g .done ++ es) (sym e) ∙ g .whole in
+      subst (λ (es : List ℕ). Marking l flat gs ge gn p s t c (FromList es j)) w (g .marks)
 
 -- the edges out of a copy are those that its chain lists
 module _ (D : Design) (L : PathList) (G : Graph) (l : Layout) (flat gs ge gn p : List ℕ) (x : Tabled D L G l flat gs ge gn p) (c : ℕ) where
@@ -143,152 +139,44 @@ module _ (D : Design) (L : PathList) (G : Graph) (l : Layout) (flat gs ge gn p :
       go [] y = refl
       go (e ∷ es) y = absurd y
 
--- the row of a copy
-module _ (l : Layout) (flat gs ge gn p s t : List ℕ) (c : ℕ) (copy : c < l .copies) (m : Marking l flat gs ge gn p s t c (FromList (edgesAt gs c (l .edges) 0))) where
-  -- what the marking says, as steps back
-  module _ (D : Design) (L : PathList) (G : Graph) (x : Tabled D L G l flat gs ge gn p) (u : List ℕ)
-      (others : (d i : ℕ) → d < l .copies → i < slots (boundsIn l p) d → (d ≡ c → ⊥) → flagOf l p u d i ≡ flagOf l p s d i) where
-    ends-same : (e k : ℕ) → e < l .edges → getD gs e 0 ≡ c → k < slots (boundsIn l p) (getD ge e 0) → flagOf l p u (getD ge e 0) k ≡ flagOf l p s (getD ge e 0) k
-    ends-same e k h q n =
-        others (getD ge e 0) k (end-inside D L G l flat gs ge gn p x e h) n (λ r. omega (arith, edge-up D L G l flat gs ge gn p x e h))
+-- Slot 0 of copy c was set if no edge goes out of c, and nothing else.
+pub record EndMarked (l : Layout) (gs p s t : List ℕ) (c : ℕ) : Type 0 where
+  pub only : SlotsOnly l p s t
+  pub others : (d i : ℕ) → d < l .copies → i < slots (boundsIn l p) d → (d ≡ c → ⊥) → flagOf l p t d i ≡ flagOf l p s d i
+  pub small : (i : ℕ) → i < slots (boundsIn l p) c → (flagOf l p t c i ≡ flagOf l p s c i) ⊎ (flagOf l p t c i ≡ 1)
+  pub sound : (i : ℕ) → i < slots (boundsIn l p) c → 0 < flagOf l p t c i → (0 < flagOf l p s c i) ⊎ ((edgesAt gs c (l .edges) 0 ≡ []) × (i ≡ 0))
+  pub complete : edgesAt gs c (l .edges) 0 ≡ [] → 0 < flagOf l p t c 0
 
-    step-from : (i e k : ℕ) → List·Memᴰ e (edgesAt gs c (l .edges) 0) → k < slots (boundsIn l p) (getD ge e 0) → 0 < flagOf l p s (getD ge e 0) k → Leads l flat ge gn p L c e k i
-        → StepBack G L (orderIn l flat p) (boundsIn l p) (reachedOf l p u) c (edgeAt gs ge gn e) k (slotMark L (orderIn l flat p) (boundsIn l p) c i)
-    step-from i e k n h f y =
-        let r = of-edges gs c (l .edges) e n in (
-          edge-mem D L G l flat gs ge gn p x e (r .0),
-          r .1,
-          h,
-          lt-ltb 0 (flagOf l p u (getD ge e 0) k) (omega (arith, ends-same e k (r .0) (r .1) h)),
-          y .alive,
-          y .marks,
-        )
-
-    step-sets : (e : Edge) (k i : ℕ) → i < slots (boundsIn l p) c → Used L (orderIn l flat p) (boundsIn l p) c i
-        → StepBack G L (orderIn l flat p) (boundsIn l p) (reachedOf l p u) c e k (slotMark L (orderIn l flat p) (boundsIn l p) c i) → 0 < flagOf l p t c i
-    step-sets e k i h w b =
-        let r = out-edge D L G l flat gs ge gn p x c e (b .0) (b .1) in
-        let n : ℕ = r .0 in
-        let y = subst (λ (d : Edge). StepBack G L (orderIn l flat p) (boundsIn l p) (reachedOf l p u) c d k (slotMark L (orderIn l flat p) (boundsIn l p) c i)) (sym (r .2)) b in
-        let o = of-edges gs c (l .edges) n (r .1) in
-        m .complete D L G x n k i (r .1) (y .2)
-        (omega (arith, ltb-true 0 (flagOf l p u (getD ge n 0) k) (y .3), ends-same n k (o .0) (o .1) (y .2)))
-        (record { alive = y .4; inside = h; marks = y .5; used = w })
-
-  -- some edge goes out
-  pub copy-inner : (edgesAt gs c (l .edges) 0 ≡ [] → ⊥) → CopyReached l flat gs ge gn p s t c
-  copy-inner some = record { row = m .row; small = m .small; backward = backward }
-    where
-      backward : ((i : ℕ) → i < slots (boundsIn l p) c → flagOf l p s c i ≡ 0)
-          → (D : Design) (L : PathList) (G : Graph) → Tabled D L G l flat gs ge gn p → Backward G L (orderIn l flat p) (boundsIn l p) (reachedOf l p t) c
-      backward zeros D L G x =
-          record {
-            sound = λ i h f.
-                ⊎-elim
-                (λ (y : 0 < flagOf l p s c i). absurd (omega (arith, y, zeros i h)))
-                (λ (y : (e : ℕ) × (k : ℕ) × List·Memᴰ e (edgesAt gs c (l .edges) 0) × (k < slots (boundsIn l p) (getD ge e 0)) × (0 < flagOf l p s (getD ge e 0) k) × Leads l flat ge gn p L c e k i).
-                (y .5 .used, inr (edgeAt gs ge gn (y .0), y .1, step-from D L G x t (m .row .others) i (y .0) (y .1) (y .2) (y .3) (y .4) (y .5))))
-                (m .sound D L G x i h (ltb-true 0 (flagOf l p t c i) f));
-            ends = λ y. absurd (some (ends-only D L G l flat gs ge gn p x c y));
-            steps = λ e k i h w b. lt-ltb 0 (flagOf l p t c i) (step-sets D L G x t (m .row .others) e k i h w b);
-          }
-
-  -- no edge goes out, and slot 0 is marked
-  pub copy-end : edgesAt gs c (l .edges) 0 ≡ [] → l .slots + slotBase (boundsIn l p) (l .copies) ≤ length t
-      → CopyReached l flat gs ge gn p s (set t (slotPlace l p c 0) 1) c
-  copy-end none room = record { row = row-trans l p s t (set t (slotPlace l p c 0) 1) c (m .row) (stored-row l p t room c 0 1 copy (omega arith)); small = small; backward = backward }
-    where
-      here : flagOf l p (set t (slotPlace l p c 0) 1) c 0 ≡ 1
-      here = flag-here l p t room c 0 1 copy (omega arith)
-
-      other : (i : ℕ) → i < slots (boundsIn l p) c → (i ≡ 0 → ⊥) → flagOf l p (set t (slotPlace l p c 0) 1) c i ≡ flagOf l p t c i
-      other i h f = flag-other l p t room c 0 1 copy (omega arith) c i h (λ q. f (q .1))
-
-      small : (i : ℕ) → i < slots (boundsIn l p) c → (flagOf l p (set t (slotPlace l p c 0) 1) c i ≡ flagOf l p s c i) ⊎ (flagOf l p (set t (slotPlace l p c 0) 1) c i ≡ 1)
-      small i h =
-          elim (ℕ-discrete i 0) [
-            | yes q ↦ inr (ap (λ (j : ℕ). flagOf l p (set t (slotPlace l p c 0) 1) c j) q ∙ here)
-            | no f ↦
-                ⊎-elim
-                (λ (y : flagOf l p t c i ≡ flagOf l p s c i). inl (other i h f ∙ y))
-                (λ (y : flagOf l p t c i ≡ 1). inr (other i h f ∙ y))
-                (m .small i h)
-          ]
-
-      backward : ((i : ℕ) → i < slots (boundsIn l p) c → flagOf l p s c i ≡ 0)
-          → (D : Design) (L : PathList) (G : Graph) → Tabled D L G l flat gs ge gn p → Backward G L (orderIn l flat p) (boundsIn l p) (reachedOf l p (set t (slotPlace l p c 0) 1)) c
-      backward zeros D L G x =
-          record {
-            sound = λ i h f.
-                elim (ℕ-discrete i 0) [
-                  | yes q ↦ (subst (λ (j : ℕ). Used L (orderIn l flat p) (boundsIn l p) c j) (sym q) (used-empty L (orderIn l flat p) (boundsIn l p) c), inl (ends-if D L G l flat gs ge gn p x c none, q))
-                  | no g ↦
-                      absurd
-                      (⊎-elim
-                      (λ (y : 0 < flagOf l p s c i). omega (arith, y, zeros i h))
-                      (λ (y : (e : ℕ) × (k : ℕ) × List·Memᴰ e (edgesAt gs c (l .edges) 0) × (k < slots (boundsIn l p) (getD ge e 0)) × (0 < flagOf l p s (getD ge e 0) k) × Leads l flat ge gn p L c e k i).
-                      List·Memᴰ·not-nil (subst (λ (es : List ℕ). List·Memᴰ (y .0) es) none (y .2)))
-                      (m .sound D L G x i h (omega (arith, ltb-true 0 (flagOf l p (set t (slotPlace l p c 0) 1) c i) f, other i h g))))
-                ];
-            ends = λ y. lt-ltb 0 (flagOf l p (set t (slotPlace l p c 0) 1) c 0) (omega (arith, here));
-            steps = λ e k i h w b.
-                let r = out-edge D L G l flat gs ge gn p x c e (b .0) (b .1) in
-                absurd (List·Memᴰ·not-nil (subst (λ (es : List ℕ). List·Memᴰ (r .0) es) none (r .1)));
-          }
-
--- all rows, from the highest copy down
-module _ (l : Layout) (flat gs ge gn p : List ℕ) where
-  pub rows-start : (s : List ℕ) → AllZero l p s → RowsReached l flat gs ge gn p s s (l .copies)
-  rows-start s z =
+module _ (l : Layout) (gs p s : List ℕ) (c : ℕ) where
+  end-same : (edgesAt gs c (l .edges) 0 ≡ [] → ⊥) → EndMarked l gs p s s c
+  end-same some =
       record {
-        only = record { size = refl; tables = refl; past = λ i h. refl };
-        zeros = λ d i h k n. z d i k n;
-        small = λ d i k n. omega (arith, z d i k n);
-        rows = λ D L G x d h k. absurd (omega arith);
+        only = only-refl l p s;
+        others = λ d i h k f. refl;
+        small = λ i h. inl refl;
+        sound = λ i h f. inl f;
+        complete = λ z. absurd (some z);
       }
 
-  pub rows-next : (s t u : List ℕ) (c : ℕ) → c < l .copies → RowsReached l flat gs ge gn p s t (suc c) → CopyReached l flat gs ge gn p t u c → RowsReached l flat gs ge gn p s u c
-  rows-next s t u c copy a b =
+  end-stored : edgesAt gs c (l .edges) 0 ≡ [] → c < l .copies → l .slots + slotBase (boundsIn l p) (l .copies) ≤ length s
+      → EndMarked l gs p s (set s (slotPlace l p c 0) 1) c
+  end-stored none copy room =
       record {
-        only = only-trans l p s t u (a .only) (b .row .only);
-        zeros = λ d i h k n. b .row .others d i k n (λ q. omega arith) ∙ a .zeros d i (omega arith) k n;
-        small = λ d i k n.
-            elim (ℕ-discrete d c) [
-              | yes q ↦
-                  subst (λ (y : ℕ). i < slots (boundsIn l p) y → flagOf l p u y i ≤ 1) (sym q)
-                  (λ (o : i < slots (boundsIn l p) c).
-                  ⊎-elim
-                  (λ (y : flagOf l p u c i ≡ flagOf l p t c i). omega (arith, a .zeros c i (omega arith) copy o))
-                  (λ (y : flagOf l p u c i ≡ 1). omega arith)
-                  (b .small i o))
-                  n
-              | no f ↦ omega (arith, b .row .others d i k n f, a .small d i k n)
-            ];
-        rows = rows;
+        only = stored-only l p s room c 0 1 copy (omega arith);
+        others = λ d i h k f. flag-other l p s room c 0 1 copy (omega arith) d i k (λ q. f (q .0));
+        small = λ i h. elim (ℕ-discrete i 0) [ yes q ↦ inr (ap (flagOf l p t c) q ∙ here) | no f ↦ inl (other i h f) ];
+        sound = λ i h y. elim (ℕ-discrete i 0) [ yes q ↦ inr (none, q) | no f ↦ inl (omega (arith, y, other i h f)) ];
+        complete = λ z. omega (arith, here);
       }
     where
-      higher : (D : Design) (L : PathList) (G : Graph) → Tabled D L G l flat gs ge gn p → (d : ℕ) → c < d → d < l .copies
-          → ReachedRow G L (orderIn l flat p) (boundsIn l p) (reachedOf l p u) d
-      higher D L G x d h k =
-          reached-same G L (orderIn l flat p) (boundsIn l p) (reachedOf l p t) (reachedOf l p u) d
-          (λ j n. ap (λ (v : ℕ). ltb 0 v) (b .row .others d j k n (λ q. omega arith)))
-          (a .rows D L G x d (omega arith) k)
+      t : List ℕ
+      t = set s (slotPlace l p c 0) 1
 
-      here : (D : Design) (L : PathList) (G : Graph) → Tabled D L G l flat gs ge gn p → ReachedRow G L (orderIn l flat p) (boundsIn l p) (reachedOf l p u) c
-      here D L G x =
-          reached-row D G L (orderIn l flat p) (boundsIn l p)
-          (record { legal = x .legal; fits = x .fits; ordered = x .ordered; bounded = λ d h. x .bounded d (omega (arith, x .copies)) })
-          (reachedOf l p u) c (omega (arith, x .copies))
-          (λ d h k. higher D L G x d h (omega (arith, x .copies)))
-          (b .backward (λ i h. a .zeros c i (omega arith) copy h) D L G x)
+      here : flagOf l p t c 0 ≡ 1
+      here = flag-here l p s room c 0 1 copy (omega arith)
 
-      rows : (D : Design) (L : PathList) (G : Graph) → Tabled D L G l flat gs ge gn p → (d : ℕ) → c ≤ d → d < l .copies
-          → ReachedRow G L (orderIn l flat p) (boundsIn l p) (reachedOf l p u) d
-      rows D L G x d h k =
-          elim (ℕ-discrete c d) [
-            | yes q ↦ subst (λ (y : ℕ). ReachedRow G L (orderIn l flat p) (boundsIn l p) (reachedOf l p u) y) q (here D L G x)
-            | no f ↦ higher D L G x d (omega arith) k
-          ]
+      other : (i : ℕ) → i < slots (boundsIn l p) c → (i ≡ 0 → ⊥) → flagOf l p t c i ≡ flagOf l p s c i
+      other i h f = flag-other l p s room c 0 1 copy (omega arith) c i h (λ q. f (q .1))
 
 -- the first link of a copy is 0 where no edge goes out
 pub first-link : (D : Design) (L : PathList) (G : Graph) (l : Layout) (flat gs ge gn p : List ℕ) → Tabled D L G l flat gs ge gn p → (c : ℕ) → c < l .copies
@@ -301,3 +189,180 @@ first-link D L G l flat gs ge gn p x c copy t h e q =
       λ z. chain-ends (table p (l .out + l .copies) (l .edges)) (edgesAt gs c (l .edges) 0) (subst (λ (i : ℕ). Chain (table p (l .out + l .copies) (l .edges)) i (edgesAt gs c (l .edges) 0)) z k),
       λ z. subst (λ (es : List ℕ). Chain (table p (l .out + l .copies) (l .edges)) h es) z k,
     )
+
+pub end-marked : (D : Design) (L : PathList) (G : Graph) (l : Layout) (flat gs ge gn p : List ℕ) → Tabled D L G l flat gs ge gn p → (c : ℕ) → c < l .copies
+    → (s t : List ℕ) → take (l .slots) s ≡ p → l .slots + slotBase (boundsIn l p) (l .copies) ≤ length s → t ≡ endSet l s c → EndMarked l gs p s t c
+end-marked D L G l flat gs ge gn p x c copy s t same room q =
+    subst (λ (u : List ℕ). EndMarked l gs p s u c) (sym q) (go (ℕ-discrete (getD s (l .out + c) 0) 0))
+  where
+    link : (getD s (l .out + c) 0 ≡ 0 → edgesAt gs c (l .edges) 0 ≡ []) × (edgesAt gs c (l .edges) 0 ≡ [] → getD s (l .out + c) 0 ≡ 0)
+    link = first-link D L G l flat gs ge gn p x c copy s (getD s (l .out + c) 0) same refl
+
+    go : Dec (getD s (l .out + c) 0 ≡ 0) → EndMarked l gs p s (endSet l s c) c
+    go (yes z) = rw (eq-eqb (getD s (l .out + c) 0) 0 z, same) (end-stored l gs p s c (link .0 z) copy room)
+    go (no f) = rw (ne-eqb (getD s (l .out + c) 0) 0 f) (end-same l gs p s c (λ z. f (link .1 z)))
+
+-- the edges whose ends are copies from c on
+abbrev pub FromEnds : Layout → List ℕ → ℕ → ℕ → ℕ → Type 0
+FromEnds l ge c = λ e k. (e < l .edges) × (c ≤ getD ge e 0)
+
+-- The rows from copy c on are right, and the flags of the copies below c are what the edges to those rows set.
+pub record RowsPushed (l : Layout) (flat gs ge gn p s t : List ℕ) (c : ℕ) : Type 0 where
+  pub reached : RowsReached l flat gs ge gn p s t c
+  pub sound : (D : Design) (L : PathList) (G : Graph) → Tabled D L G l flat gs ge gn p → (d i : ℕ) → d < c → d < l .copies → i < slots (boundsIn l p) d → 0 < flagOf l p t d i
+      → (e : ℕ) × (k : ℕ) × Pushes l flat gs ge gn p t L (FromEnds l ge c) d i e k
+  pub complete : (D : Design) (L : PathList) (G : Graph) → Tabled D L G l flat gs ge gn p → (d i e k : ℕ) → d < c → d < l .copies
+      → Pushes l flat gs ge gn p t L (FromEnds l ge c) d i e k → 0 < flagOf l p t d i
+
+pub rows-start : (l : Layout) (flat gs ge gn p s : List ℕ) → AllZero l p s → RowsPushed l flat gs ge gn p s s (l .copies)
+rows-start l flat gs ge gn p s z =
+    record {
+      reached = record { only = only-refl l p s; small = λ d i h n. omega (arith, z d i h n); rows = λ D L G x d h k. absurd (omega arith) };
+      sound = λ D L G x d i m h n f. absurd (omega (arith, f, z d i h n));
+      complete = λ D L G x d i e k m h y. absurd (omega (arith, y .0 .1, end-inside D L G l flat gs ge gn p x e (y .0 .0)));
+    }
+
+-- one more copy: its slot 0 is marked if paths end there, and then what its slots reach
+module _ (l : Layout) (flat gs ge gn p s t v u : List ℕ) (c : ℕ) (copy : c < l .copies) (a : RowsPushed l flat gs ge gn p s t (suc c))
+    (m : EndMarked l gs p t v c) (b : Marking l flat gs ge gn p v u c (FromAll (edgesAt ge c (l .edges) 0))) where
+  -- the flags of the higher copies stay, and those of lower ones until c's slots are followed
+  still : (d i : ℕ) → c < d → d < l .copies → i < slots (boundsIn l p) d → flagOf l p u d i ≡ flagOf l p t d i
+  still d i h k n = b .higher d i (omega arith) k n ∙ m .others d i k n (λ q. omega arith)
+
+  lower : (d i : ℕ) → d < c → i < slots (boundsIn l p) d → flagOf l p v d i ≡ flagOf l p t d i
+  lower d i h n = m .others d i (omega arith) n (λ q. omega arith)
+
+  -- a flag of copy c that was set stays so
+  kept : (i : ℕ) → i < slots (boundsIn l p) c → 0 < flagOf l p t c i → 0 < flagOf l p u c i
+  kept i n f =
+      ⊎-elim
+      (λ (q : flagOf l p v c i ≡ flagOf l p t c i). omega (arith, b .higher c i (omega arith) copy n))
+      (λ (q : flagOf l p v c i ≡ 1). omega (arith, b .higher c i (omega arith) copy n))
+      (m .small i n)
+
+  module _ (D : Design) (L : PathList) (G : Graph) (x : Tabled D L G l flat gs ge gn p) where
+    -- an edge out of copy c goes to a higher one
+    end-still : (e k : ℕ) → e < l .edges → getD gs e 0 ≡ c → k < slots (boundsIn l p) (getD ge e 0) → flagOf l p u (getD ge e 0) k ≡ flagOf l p t (getD ge e 0) k
+    end-still e k h q n = still (getD ge e 0) k (omega (arith, edge-up D L G l flat gs ge gn p x e h)) (end-inside D L G l flat gs ge gn p x e h) n
+
+    step-from : (i e k : ℕ) → Pushes l flat gs ge gn p t L (FromEnds l ge (suc c)) c i e k
+        → StepBack G L (orderIn l flat p) (boundsIn l p) (reachedOf l p u) c (edgeAt gs ge gn e) k (slotMark L (orderIn l flat p) (boundsIn l p) c i)
+    step-from i e k y = (
+      edge-mem D L G l flat gs ge gn p x e (y .0 .0),
+      y .1,
+      y .2,
+      lt-ltb 0 (flagOf l p u (getD ge e 0) k) (omega (arith, y .3, end-still e k (y .0 .0) (y .1) (y .2))),
+      y .4 .alive,
+      y .4 .marks,
+    )
+
+    step-sets : (e : Edge) (k i : ℕ) → i < slots (boundsIn l p) c → Used L (orderIn l flat p) (boundsIn l p) c i
+        → StepBack G L (orderIn l flat p) (boundsIn l p) (reachedOf l p u) c e k (slotMark L (orderIn l flat p) (boundsIn l p) c i) → 0 < flagOf l p t c i
+    step-sets e k i h w b =
+        let r = out-edge D L G l flat gs ge gn p x c e (b .0) (b .1) in
+        let n : ℕ = r .0 in
+        let y = subst (λ (d : Edge). StepBack G L (orderIn l flat p) (boundsIn l p) (reachedOf l p u) c d k (slotMark L (orderIn l flat p) (boundsIn l p) c i)) (sym (r .2)) b in
+        let o = edges-member gs c (l .edges) n .0 (r .1) in
+        a .complete D L G x c i n k (omega arith) copy (
+          (o .0, omega (arith, o .1, edge-up D L G l flat gs ge gn p x n (o .0))),
+          o .1,
+          y .2,
+          omega (arith, ltb-true 0 (flagOf l p u (getD ge n 0) k) (y .3), end-still n k (o .0) (o .1) (y .2)),
+          record { alive = y .4; inside = h; marks = y .5; used = w },
+        )
+
+    -- so the row of copy c is what pass 1 makes of the higher rows
+    backward : Backward G L (orderIn l flat p) (boundsIn l p) (reachedOf l p u) c
+    backward =
+        record {
+          sound = λ i h f.
+              ⊎-elim
+              (λ (y : 0 < flagOf l p t c i).
+              let z = a .sound D L G x c i (omega arith) copy h y in
+              (z .2 .4 .used, inr (edgeAt gs ge gn (z .0), z .1, step-from i (z .0) (z .1) (z .2))))
+              (λ (y : (edgesAt gs c (l .edges) 0 ≡ []) × (i ≡ 0)). (
+                subst (λ (j : ℕ). Used L (orderIn l flat p) (boundsIn l p) c j) (sym (y .1)) (used-empty L (orderIn l flat p) (boundsIn l p) c),
+                inl (ends-if D L G l flat gs ge gn p x c (y .0), y .1),
+              ))
+              (m .sound i h (omega (arith, ltb-true 0 (flagOf l p u c i) f, b .higher c i (omega arith) copy h)));
+          ends = λ y. lt-ltb 0 (flagOf l p u c 0) (omega (arith, m .complete (ends-only D L G l flat gs ge gn p x c y), b .higher c 0 (omega arith) copy (omega arith)));
+          steps = λ e k i h w y. lt-ltb 0 (flagOf l p u c i) (kept i h (step-sets e k i h w y));
+        }
+
+    higher : (d : ℕ) → c < d → d < l .copies → ReachedRow G L (orderIn l flat p) (boundsIn l p) (reachedOf l p u) d
+    higher d h k =
+        reached-same G L (orderIn l flat p) (boundsIn l p) (reachedOf l p t) (reachedOf l p u) d
+        (λ j n. ap (λ (w : ℕ). ltb 0 w) (still d j h k n))
+        (a .reached .rows D L G x d (omega arith) k)
+
+    here : ReachedRow G L (orderIn l flat p) (boundsIn l p) (reachedOf l p u) c
+    here =
+        reached-row D G L (orderIn l flat p) (boundsIn l p)
+        (record { legal = x .legal; fits = x .fits; ordered = x .ordered; bounded = λ d h. x .bounded d (omega (arith, x .copies)) })
+        (reachedOf l p u) c (omega (arith, x .copies))
+        (λ d h k. higher d h (omega (arith, x .copies)))
+        backward
+
+    rows : (d : ℕ) → c ≤ d → d < l .copies → ReachedRow G L (orderIn l flat p) (boundsIn l p) (reachedOf l p u) d
+    rows d h k =
+        elim (ℕ-discrete c d) [
+          | yes q ↦ subst (λ (y : ℕ). ReachedRow G L (orderIn l flat p) (boundsIn l p) (reachedOf l p u) y) q here
+          | no f ↦ higher d (omega arith) k
+        ]
+
+    sound : (d i : ℕ) → d < c → d < l .copies → i < slots (boundsIn l p) d → 0 < flagOf l p u d i → (e : ℕ) × (k : ℕ) × Pushes l flat gs ge gn p u L (FromEnds l ge c) d i e k
+    sound d i h k n f =
+        ⊎-elim
+        (λ (y : 0 < flagOf l p v d i).
+        let z = a .sound D L G x d i (omega arith) k n (omega (arith, y, lower d i h n)) in
+        let w = z .2 in
+        (z .0, z .1, ((w .0 .0, omega (arith, w .0 .1)), w .1, w .2, omega (arith, w .3, still (getD ge (z .0) 0) (z .1) (omega (arith, w .0 .1)) (end-inside D L G l flat gs ge gn p x (z .0) (w .0 .0)) (w .2)), w .4)))
+        (λ (z : (e : ℕ) × (k : ℕ) × Pushes l flat gs ge gn p u L (FromAll (edgesAt ge c (l .edges) 0)) d i e k).
+        let w = z .2 in
+        let o = edges-member ge c (l .edges) (z .0) .0 (w .0) in
+        (z .0, z .1, ((o .0, omega (arith, o .1)), w .1, w .2, w .3, w .4)))
+        (b .sound D L G x d i k n f)
+
+    complete : (d i e k : ℕ) → d < c → d < l .copies → Pushes l flat gs ge gn p u L (FromEnds l ge c) d i e k → 0 < flagOf l p u d i
+    complete d i e k h n y =
+        elim (ℕ-discrete (getD ge e 0) c) [
+          | yes q ↦ b .complete D L G x d i e k n (edges-member ge c (l .edges) e .1 (y .0 .0, q), y .1, y .2, y .3, y .4)
+          | no f ↦
+              let up : c < getD ge e 0 = omega (arith, y .0 .1) in
+              marking-keeps l flat gs ge gn p c v u (FromAll (edgesAt ge c (l .edges) 0)) b d i n (y .4 .inside)
+              (omega (
+                arith,
+                a .complete D L G x d i e k (omega arith) n
+                    ((y .0 .0, omega (arith, up)), y .1, y .2, omega (arith, y .3, still (getD ge e 0) k up (end-inside D L G l flat gs ge gn p x e (y .0 .0)) (y .2)), y .4),
+                lower d i h (y .4 .inside),
+              ))
+        ]
+
+  low : (d i : ℕ) → d < l .copies → i < slots (boundsIn l p) d → flagOf l p v d i ≤ 1
+  low d i h n =
+      elim (ℕ-discrete d c) [
+        | yes q ↦
+            subst (λ (y : ℕ). i < slots (boundsIn l p) y → flagOf l p v y i ≤ 1) (sym q)
+            (λ (o : i < slots (boundsIn l p) c).
+            ⊎-elim
+            (λ (y : flagOf l p v c i ≡ flagOf l p t c i). omega (arith, a .reached .small c i copy o))
+            (λ (y : flagOf l p v c i ≡ 1). omega arith)
+            (m .small i o))
+            n
+        | no f ↦ omega (arith, m .others d i h n f, a .reached .small d i h n)
+      ]
+
+  small : (d i : ℕ) → d < l .copies → i < slots (boundsIn l p) d → flagOf l p u d i ≤ 1
+  small d i h n =
+      ⊎-elim
+      (λ (y : flagOf l p u d i ≡ flagOf l p v d i). omega (arith, low d i h n))
+      (λ (y : flagOf l p u d i ≡ 1). omega arith)
+      (b .small d i h n)
+
+  pub rows-next : RowsPushed l flat gs ge gn p s u c
+  rows-next =
+      record {
+        reached = record { only = only-trans l p s t u (a .reached .only) (only-trans l p t v u (m .only) (b .only)); small = small; rows = rows };
+        sound = sound;
+        complete = complete;
+      }

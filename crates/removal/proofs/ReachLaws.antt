@@ -1,10 +1,10 @@
--- Laws of marking the reached slots: what one store does, and how markings of one row follow one another.
+-- Laws of marking the reached slots: what one store does, and how markings follow one another.
 use Prim.Native.Nat.{ℕ, _+_, _≤_, _<_}
 use native.Mathlib.Omega.{arith}
 use native.Mathlib.Decide.{decLt, ℕ-discrete}
 use mathlib.Core.Path.{_≡_, refl, sym, _∙_, ap, ap₂, subst}
 use mathlib.Core.Logic.{_⊎_, inl, inr, ⊎-elim}
-use mathlib.Core.List.{List, _∷_}
+use mathlib.Core.List.{List, _∷_, List·Memᴰ}
 use lib.ListN.{length, getD, take, set, length-set}
 use lib.Seq.{take-set-le, getD-set-same, getD-set-other}
 use Rattle.timing.specs.Graphs.{Design, Graph}
@@ -12,14 +12,16 @@ use Rattle.timing.specs.Marks.{PathList, pathsOf, mark}
 use Rattle.theorems.proofs.Marks.{begins}
 use Rattle.removal.specs.declared.rows.Layout.{Layout}
 use Rattle.removal.specs.declared.step.Step.the-variants.{Dead, Live}
+use Rattle.removal.specs.Chains.{edgesAt}
 use Rattle.removal.specs.Slots.{Bounds, slots, slotBase, slotMark}
 use Rattle.removal.specs.Rows.{boundsIn, orderIn, Tabled, Ready, slotPlace}
 use Rattle.removal.specs.Along.{StepAlong}
-use Rattle.removal.specs.Reach.{flagOf, SlotsOnly, RowOnly, Leads, Marking, FromSlot, FromBelow, FromEdge}
+use Rattle.removal.specs.Reach.{flagOf, SlotsOnly, Leads, Pushes, Marking, FromSlot, FromList, FromBelow, FromAll}
+use Rattle.removal.proofs.ChainLaws.{edges-member}
 use Rattle.removal.proofs.SlotLaws.{used-one}
 use Rattle.removal.proofs.StepLaws.{true-false}
 use Rattle.removal.proofs.RowLaws.{slot-inside, slots-apart}
-use Rattle.removal.proofs.AlongLaws.{edge-up, end-inside}
+use Rattle.removal.proofs.AlongLaws.{end-inside}
 
 -- two slots at one place are one
 place-one : (B : Bounds) (c d i j : ℕ) → i < slots B c → j < slots B d → slotBase B c + i ≡ slotBase B d + j → (c ≡ d) × (i ≡ j)
@@ -36,12 +38,6 @@ module _ (l : Layout) (p : List ℕ) where
 
   pub only-trans : (s t u : List ℕ) → SlotsOnly l p s t → SlotsOnly l p t u → SlotsOnly l p s u
   only-trans s t u a b = record { size = b .size ∙ a .size; tables = b .tables ∙ a .tables; past = λ i h. b .past i h ∙ a .past i h }
-
-  pub row-refl : (s : List ℕ) (c : ℕ) → RowOnly l p s s c
-  row-refl s c = record { only = only-refl s; others = λ d i h k f. refl }
-
-  pub row-trans : (s t u : List ℕ) (c : ℕ) → RowOnly l p s t c → RowOnly l p t u c → RowOnly l p s u c
-  row-trans s t u c a b = record { only = only-trans s t u (a .only) (b .only); others = λ d i h k f. b .others d i h k f ∙ a .others d i h k f }
 
   -- one store at a slot
   module _ (s : List ℕ) (room : l .slots + slotBase (boundsIn l p) (l .copies) ≤ length s) (c j v : ℕ) (copy : c < l .copies) (slot : j < slots (boundsIn l p) c) where
@@ -64,9 +60,6 @@ module _ (l : Layout) (p : List ℕ) where
           past = λ i h. getD-set-other s (slotPlace l p c j) i v 0 (λ (q : i ≡ slotPlace l p c j). omega (arith, inside));
         }
 
-    pub stored-row : RowOnly l p s (set s (slotPlace l p c j) v) c
-    stored-row = record { only = stored-only; others = λ d i h k f. flag-other d i k (λ q. f (q .0)) }
-
 -- the tables are the same while only slots change
 pub ready-still : (l : Layout) (flat gs ge gn s t : List ℕ) → SlotsOnly l (take (l .slots) s) s t → Ready l flat gs ge gn s → Ready l flat gs ge gn t
 ready-still l flat gs ge gn s t o r =
@@ -82,120 +75,154 @@ ready-still l flat gs ge gn s t o r =
 module _ (l : Layout) (flat gs ge gn p : List ℕ) (c : ℕ) where
   -- nothing is set where nothing leads on
   pub marking-same : (s : List ℕ) (From : ℕ → ℕ → Type 0)
-      → ((D : Design) (L : PathList) (G : Graph) → Tabled D L G l flat gs ge gn p → (e k i : ℕ) → From e k → 0 < flagOf l p s (getD ge e 0) k → Leads l flat ge gn p L c e k i → ⊥)
+      → ((D : Design) (L : PathList) (G : Graph) → Tabled D L G l flat gs ge gn p → (d i e k : ℕ) → Pushes l flat gs ge gn p s L From d i e k → ⊥)
       → Marking l flat gs ge gn p s s c From
   marking-same s From none =
       record {
-        row = row-refl l p s c;
-        small = λ i h. inl refl;
-        sound = λ D L G t i h f. inl f;
-        complete = λ D L G t e k i m h f x. absurd (none D L G t e k i m f x);
+        only = only-refl l p s;
+        higher = λ d i m h k. refl;
+        small = λ d i h k. inl refl;
+        sound = λ D L G t d i h k f. inl f;
+        complete = λ D L G t d i e k h x. absurd (none D L G t d i e k x);
       }
 
-  -- one marking after another
+  -- a flag that is set stays so
+  pub marking-keeps : (s t : List ℕ) (From : ℕ → ℕ → Type 0) → Marking l flat gs ge gn p s t c From
+      → (d i : ℕ) → d < l .copies → i < slots (boundsIn l p) d → 0 < flagOf l p s d i → 0 < flagOf l p t d i
+  marking-keeps s t From a d i h k f =
+      ⊎-elim
+      (λ (q : flagOf l p t d i ≡ flagOf l p s d i). omega arith)
+      (λ (q : flagOf l p t d i ≡ 1). omega arith)
+      (a .small d i h k)
+
+  -- one marking after another; the ends of the edges of the first one are not below c
   module _ (s t u : List ℕ) (One Two Both : ℕ → ℕ → Type 0) (a : Marking l flat gs ge gn p s t c One) (b : Marking l flat gs ge gn p t u c Two)
       (one : (e k : ℕ) → One e k → Both e k) (two : (e k : ℕ) → Two e k → Both e k) (both : (e k : ℕ) → Both e k → One e k ⊎ Two e k)
-      (end : (e k : ℕ) → Two e k → (getD ge e 0 < l .copies) × (getD ge e 0 ≡ c → ⊥)) where
-    kept : (i : ℕ) → i < slots (boundsIn l p) c → 0 < flagOf l p t c i → 0 < flagOf l p u c i
-    kept i h f =
-        ⊎-elim
-        (λ (q : flagOf l p u c i ≡ flagOf l p t c i). omega arith)
-        (λ (q : flagOf l p u c i ≡ 1). omega arith)
-        (b .small i h)
-
-    end-same : (e k : ℕ) → Two e k → k < slots (boundsIn l p) (getD ge e 0) → flagOf l p t (getD ge e 0) k ≡ flagOf l p s (getD ge e 0) k
-    end-same e k m h = a .row .others (getD ge e 0) k (end e k m .0) h (end e k m .1)
-
+      (end : (e k : ℕ) → One e k → (getD ge e 0 < l .copies) × (c ≤ getD ge e 0)) where
     pub marking-join : Marking l flat gs ge gn p s u c Both
-    marking-join = record { row = row-trans l p s t u c (a .row) (b .row); small = small; sound = sound; complete = complete }
+    marking-join =
+        record {
+          only = only-trans l p s t u (a .only) (b .only);
+          higher = λ d i m h k. b .higher d i m h k ∙ a .higher d i m h k;
+          small = small;
+          sound = sound;
+          complete = complete;
+        }
       where
-        small : (i : ℕ) → i < slots (boundsIn l p) c → (flagOf l p u c i ≡ flagOf l p s c i) ⊎ (flagOf l p u c i ≡ 1)
-        small i h =
+        small : (d i : ℕ) → d < l .copies → i < slots (boundsIn l p) d → (flagOf l p u d i ≡ flagOf l p s d i) ⊎ (flagOf l p u d i ≡ 1)
+        small d i h k =
             ⊎-elim
-            (λ (q : flagOf l p u c i ≡ flagOf l p t c i).
+            (λ (q : flagOf l p u d i ≡ flagOf l p t d i).
             ⊎-elim
-            (λ (r : flagOf l p t c i ≡ flagOf l p s c i). inl (q ∙ r))
-            (λ (r : flagOf l p t c i ≡ 1). inr (q ∙ r))
-            (a .small i h))
-            (λ (q : flagOf l p u c i ≡ 1). inr q)
-            (b .small i h)
+            (λ (r : flagOf l p t d i ≡ flagOf l p s d i). inl (q ∙ r))
+            (λ (r : flagOf l p t d i ≡ 1). inr (q ∙ r))
+            (a .small d i h k))
+            (λ (q : flagOf l p u d i ≡ 1). inr q)
+            (b .small d i h k)
 
-        sound : (D : Design) (L : PathList) (G : Graph) → Tabled D L G l flat gs ge gn p → (i : ℕ) → i < slots (boundsIn l p) c → 0 < flagOf l p u c i
-            → (0 < flagOf l p s c i)
-            ⊎ ((e : ℕ) × (k : ℕ) × Both e k × (k < slots (boundsIn l p) (getD ge e 0)) × (0 < flagOf l p s (getD ge e 0) k) × Leads l flat ge gn p L c e k i)
-        sound D L G x i h f =
+        sound : (D : Design) (L : PathList) (G : Graph) → Tabled D L G l flat gs ge gn p → (d i : ℕ) → d < l .copies → i < slots (boundsIn l p) d → 0 < flagOf l p u d i
+            → (0 < flagOf l p s d i) ⊎ ((e : ℕ) × (k : ℕ) × Pushes l flat gs ge gn p u L Both d i e k)
+        sound D L G x d i h n f =
             ⊎-elim
-            (λ (y : 0 < flagOf l p t c i).
+            (λ (y : 0 < flagOf l p t d i).
             ⊎-elim
-            (λ (z : 0 < flagOf l p s c i). inl z)
-            (λ (z : (e : ℕ) × (k : ℕ) × One e k × (k < slots (boundsIn l p) (getD ge e 0)) × (0 < flagOf l p s (getD ge e 0) k) × Leads l flat ge gn p L c e k i).
-            inr (z .0, z .1, one (z .0) (z .1) (z .2), z .3, z .4, z .5))
-            (a .sound D L G x i h y))
-            (λ (z : (e : ℕ) × (k : ℕ) × Two e k × (k < slots (boundsIn l p) (getD ge e 0)) × (0 < flagOf l p t (getD ge e 0) k) × Leads l flat ge gn p L c e k i).
-            inr (z .0, z .1, two (z .0) (z .1) (z .2), z .3, omega (arith, z .4, end-same (z .0) (z .1) (z .2) (z .3)), z .5))
-            (b .sound D L G x i h f)
+            (λ (z : 0 < flagOf l p s d i). inl z)
+            (λ (z : (e : ℕ) × (k : ℕ) × Pushes l flat gs ge gn p t L One d i e k).
+            let y = z .2 in
+            inr (z .0, z .1, (one (z .0) (z .1) (y .0), y .1, y .2, marking-keeps t u Two b (getD ge (z .0) 0) (z .1) (end (z .0) (z .1) (y .0) .0) (y .2) (y .3), y .4)))
+            (a .sound D L G x d i h n y))
+            (λ (z : (e : ℕ) × (k : ℕ) × Pushes l flat gs ge gn p u L Two d i e k).
+            let y = z .2 in
+            inr (z .0, z .1, (two (z .0) (z .1) (y .0), y .1, y .2, y .3, y .4)))
+            (b .sound D L G x d i h n f)
 
-        complete : (D : Design) (L : PathList) (G : Graph) → Tabled D L G l flat gs ge gn p → (e k i : ℕ) → Both e k
-            → k < slots (boundsIn l p) (getD ge e 0) → 0 < flagOf l p s (getD ge e 0) k → Leads l flat ge gn p L c e k i → 0 < flagOf l p u c i
-        complete D L G x e k i m h f y =
+        complete : (D : Design) (L : PathList) (G : Graph) → Tabled D L G l flat gs ge gn p → (d i e k : ℕ) → d < l .copies
+            → Pushes l flat gs ge gn p u L Both d i e k → 0 < flagOf l p u d i
+        complete D L G x d i e k h y =
             ⊎-elim
-            (λ (n : One e k). kept i (y .inside) (a .complete D L G x e k i n h f y))
-            (λ (n : Two e k). b .complete D L G x e k i n h (omega (arith, end-same e k n h)) y)
-            (both e k m)
+            (λ (n : One e k).
+            marking-keeps t u Two b d i h (y .4 .inside)
+            (a .complete D L G x d i e k h (n, y .1, y .2, omega (arith, y .3, b .higher (getD ge e 0) k (end e k n .1) (end e k n .0) (y .2)), y .4)))
+            (λ (n : Two e k). b .complete D L G x d i e k h (n, y .1, y .2, y .3, y .4))
+            (both e k (y .0))
 
 -- the marking of one step
 module _ (l : Layout) (flat gs ge gn p s : List ℕ) (e j : ℕ) where
-  -- no flag at the end, or a dead step
-  pub marking-off : flagOf l p s (getD ge e 0) j ≡ 0 → Marking l flat gs ge gn p s s (getD gs e 0) (FromSlot e j)
-  marking-off z =
-      marking-same l flat gs ge gn p (getD gs e 0) s (FromSlot e j)
-      (λ D L G t d k i m f x.
-      let q : flagOf l p s (getD ge d 0) k ≡ flagOf l p s (getD ge e 0) j = ap₂ (λ (a b : ℕ). flagOf l p s (getD ge a 0) b) (m .0) (m .1) in
-      omega arith)
-
   abbrev word : PathList → ℕ → ℕ → List ℕ
   word L d k = getD gn d 0 ∷ slotMark L (orderIn l flat p) (boundsIn l p) (getD ge d 0) k
 
-  pub marking-dead : StepAlong l flat gs ge gn p e j Dead → Marking l flat gs ge gn p s s (getD gs e 0) (FromSlot e j)
+  pub marking-dead : StepAlong l flat gs ge gn p e j Dead → Marking l flat gs ge gn p s s (getD ge e 0) (FromSlot e j)
   unfolding StepAlong
   marking-dead dead =
-      marking-same l flat gs ge gn p (getD gs e 0) s (FromSlot e j)
-      (λ D L G t d k i m f x.
-      true-false (ap₂ (λ (a b : ℕ). begins (pathsOf L) (word L a b)) (m .0) (m .1) ∙ dead D L G t) (x .alive))
+      marking-same l flat gs ge gn p (getD ge e 0) s (FromSlot e j)
+      (λ D L G t d i f k x.
+      true-false (ap₂ (λ (a b : ℕ). begins (pathsOf L) (word L a b)) (x .0 .0) (x .0 .1) ∙ dead D L G t) (x .4 .alive))
 
   pub marking-live : (r : ℕ) → StepAlong l flat gs ge gn p e j (Live r) → l .slots + slotBase (boundsIn l p) (l .copies) ≤ length s
-      → getD gs e 0 < l .copies → r < slots (boundsIn l p) (getD gs e 0) → j < slots (boundsIn l p) (getD ge e 0) → 0 < flagOf l p s (getD ge e 0) j
-      → Marking l flat gs ge gn p s (set s (slotPlace l p (getD gs e 0) r) 1) (getD gs e 0) (FromSlot e j)
+      → getD gs e 0 < l .copies → getD gs e 0 < getD ge e 0 → r < slots (boundsIn l p) (getD gs e 0) → j < slots (boundsIn l p) (getD ge e 0) → 0 < flagOf l p s (getD ge e 0) j
+      → Marking l flat gs ge gn p s (set s (slotPlace l p (getD gs e 0) r) 1) (getD ge e 0) (FromSlot e j)
   unfolding StepAlong
-  marking-live r live room copy slot here on =
-      record { row = stored-row l p s room c r 1 copy slot; small = small; sound = sound; complete = complete }
+  marking-live r live room copy up slot here on =
+      record { only = stored-only l p s room c r 1 copy slot; higher = higher; small = small; sound = sound; complete = complete }
     where
       c : ℕ
       c = getD gs e 0
 
-      small : (i : ℕ) → i < slots (boundsIn l p) c → (flagOf l p (set s (slotPlace l p c r) 1) c i ≡ flagOf l p s c i) ⊎ (flagOf l p (set s (slotPlace l p c r) 1) c i ≡ 1)
-      small i h =
-          elim (ℕ-discrete i r) [
-            | yes q ↦ inr (ap (λ (x : ℕ). flagOf l p (set s (slotPlace l p c r) 1) c x) q ∙ flag-here l p s room c r 1 copy slot)
-            | no f ↦ inl (flag-other l p s room c r 1 copy slot c i h (λ q. f (q .1)))
+      t : List ℕ
+      t = set s (slotPlace l p c r) 1
+
+      set-here : (d i : ℕ) → d ≡ c → i ≡ r → flagOf l p t d i ≡ 1
+      set-here d i q w = ap₂ (λ (x y : ℕ). flagOf l p t x y) q w ∙ flag-here l p s room c r 1 copy slot
+
+      other : (d i : ℕ) → i < slots (boundsIn l p) d → ((d ≡ c) × (i ≡ r) → ⊥) → flagOf l p t d i ≡ flagOf l p s d i
+      other d i h f = flag-other l p s room c r 1 copy slot d i h f
+
+      higher : (d i : ℕ) → getD ge e 0 ≤ d → d < l .copies → i < slots (boundsIn l p) d → flagOf l p t d i ≡ flagOf l p s d i
+      higher d i m h k = other d i k (λ q. omega (arith, q .0))
+
+      small : (d i : ℕ) → d < l .copies → i < slots (boundsIn l p) d → (flagOf l p t d i ≡ flagOf l p s d i) ⊎ (flagOf l p t d i ≡ 1)
+      small d i h k =
+          elim (ℕ-discrete d c) [
+            | yes q ↦
+                elim (ℕ-discrete i r) [
+                  | yes w ↦ inr (set-here d i q w)
+                  | no f ↦ inl (other d i k (λ y. f (y .1)))
+                ]
+            | no f ↦ inl (other d i k (λ y. f (y .0)))
           ]
 
-      sound : (D : Design) (L : PathList) (G : Graph) → Tabled D L G l flat gs ge gn p → (i : ℕ) → i < slots (boundsIn l p) c → 0 < flagOf l p (set s (slotPlace l p c r) 1) c i
-          → (0 < flagOf l p s c i)
-          ⊎ ((d : ℕ) × (k : ℕ) × FromSlot e j d k × (k < slots (boundsIn l p) (getD ge d 0)) × (0 < flagOf l p s (getD ge d 0) k) × Leads l flat ge gn p L c d k i)
-      sound D L G t i h f =
-          elim (ℕ-discrete i r) [
-            | yes q ↦ inr (e, j, (refl, refl), here, on, subst (λ (x : ℕ). Leads l flat ge gn p L c e j x) (sym q) (live D L G t))
-            | no g ↦ inl (omega (arith, f, flag-other l p s room c r 1 copy slot c i h (λ q. g (q .1))))
+      sound : (D : Design) (L : PathList) (G : Graph) → Tabled D L G l flat gs ge gn p → (d i : ℕ) → d < l .copies → i < slots (boundsIn l p) d → 0 < flagOf l p t d i
+          → (0 < flagOf l p s d i) ⊎ ((f : ℕ) × (k : ℕ) × Pushes l flat gs ge gn p t L (FromSlot e j) d i f k)
+      sound D L G x d i h n f =
+          elim (ℕ-discrete d c) [
+            | yes q ↦
+                elim (ℕ-discrete i r) [
+                  | yes w ↦
+                      inr (
+                        e,
+                        j,
+                        (
+                          (refl, refl),
+                          sym q,
+                          here,
+                          omega (arith, on, other (getD ge e 0) j here (λ y. omega (arith, y .0))),
+                          subst (λ (y : ℕ). Leads l flat ge gn p L y e j i) (sym q) (subst (λ (y : ℕ). Leads l flat ge gn p L c e j y) (sym w) (live D L G x)),
+                        ),
+                      )
+                  | no g ↦ inl (omega (arith, f, other d i n (λ y. g (y .1))))
+                ]
+            | no g ↦ inl (omega (arith, f, other d i n (λ y. g (y .0))))
           ]
 
-      complete : (D : Design) (L : PathList) (G : Graph) → Tabled D L G l flat gs ge gn p → (d k i : ℕ) → FromSlot e j d k
-          → k < slots (boundsIn l p) (getD ge d 0) → 0 < flagOf l p s (getD ge d 0) k → Leads l flat ge gn p L c d k i → 0 < flagOf l p (set s (slotPlace l p c r) 1) c i
-      complete D L G t d k i m h f x =
-          let y = live D L G t in
-          let w : mark (pathsOf L) (word L d k) ≡ mark (pathsOf L) (word L e j) = ap₂ (λ (a b : ℕ). mark (pathsOf L) (word L a b)) (m .0) (m .1) in
-          let q : i ≡ r = used-one L (orderIn l flat p) (boundsIn l p) c i r (x .used) (y .used) (x .marks ∙ w ∙ sym (y .marks)) in
-          omega (arith, ap (λ (z : ℕ). flagOf l p (set s (slotPlace l p c r) 1) c z) q, flag-here l p s room c r 1 copy slot)
+      complete : (D : Design) (L : PathList) (G : Graph) → Tabled D L G l flat gs ge gn p → (d i f k : ℕ) → d < l .copies
+          → Pushes l flat gs ge gn p t L (FromSlot e j) d i f k → 0 < flagOf l p t d i
+      complete D L G x d i f k h y =
+          let z = live D L G x in
+          let w : mark (pathsOf L) (word L f k) ≡ mark (pathsOf L) (word L e j) = ap₂ (λ (a b : ℕ). mark (pathsOf L) (word L a b)) (y .0 .0) (y .0 .1) in
+          let q : d ≡ c = sym (y .1) ∙ ap (λ (a : ℕ). getD gs a 0) (y .0 .0) in
+          let v : Leads l flat ge gn p L c f k i = subst (λ (a : ℕ). Leads l flat ge gn p L a f k i) q (y .4) in
+          let o : i ≡ r = used-one L (orderIn l flat p) (boundsIn l p) c i r (v .used) (z .used) (v .marks ∙ w ∙ sym (z .marks)) in
+          omega (arith, set-here d i q o)
 
   -- the slot that a step leads to is one of the start's
   pub live-inside : (D : Design) (L : PathList) (G : Graph) → Tabled D L G l flat gs ge gn p → (r : ℕ) → StepAlong l flat gs ge gn p e j (Live r)
@@ -203,36 +230,51 @@ module _ (l : Layout) (flat gs ge gn p s : List ℕ) (e j : ℕ) where
   unfolding StepAlong
   live-inside D L G t r live = live D L G t .inside
 
--- the slots at the end of an edge, one after the other
-module _ (l : Layout) (flat gs ge gn p : List ℕ) (e : ℕ) where
-  pub below-none : (s : List ℕ) → Marking l flat gs ge gn p s s (getD gs e 0) (FromBelow e 0)
-  below-none s = marking-same l flat gs ge gn p (getD gs e 0) s (FromBelow e 0) (λ D L G t d k i m f x. omega (arith, m .1))
+-- the slots of copy c, one after the other, each followed over the edges into c
+module _ (l : Layout) (flat gs ge gn p : List ℕ) (c : ℕ) where
+  -- nothing is set from a slot that is not reached
+  pub marking-off : (s : List ℕ) (j : ℕ) → flagOf l p s c j ≡ 0 → Marking l flat gs ge gn p s s c (FromList (edgesAt ge c (l .edges) 0) j)
+  marking-off s j z =
+      marking-same l flat gs ge gn p c s (FromList (edgesAt ge c (l .edges) 0) j)
+      (λ D L G t d i e k y.
+      let q : flagOf l p s (getD ge e 0) k ≡ flagOf l p s c j = ap₂ (λ (a b : ℕ). flagOf l p s a b) (edges-member ge c (l .edges) e .0 (y .0 .0) .1) (y .0 .1) in
+      omega (arith, y .3))
 
-  pub below-next : (D : Design) (L : PathList) (G : Graph) → Tabled D L G l flat gs ge gn p → e < l .edges → (s t u : List ℕ) (j : ℕ)
-      → Marking l flat gs ge gn p s t (getD gs e 0) (FromBelow e j) → Marking l flat gs ge gn p t u (getD gs e 0) (FromSlot e j)
-      → Marking l flat gs ge gn p s u (getD gs e 0) (FromBelow e (j + 1))
-  below-next D L G x h s t u j a b =
-      marking-join l flat gs ge gn p (getD gs e 0) s t u (FromBelow e j) (FromSlot e j) (FromBelow e (j + 1)) a b
-      (λ d k m. (m .0, omega (arith, m .1)))
-      (λ d k m. (m .0, omega (arith, m .1)))
-      (λ d k m. elim (decLt k j) [ yes y ↦ inl (m .0, y) | no f ↦ inr (m .0, omega (arith, m .1)) ])
-      (λ d k m.
-      let q : getD ge d 0 ≡ getD ge e 0 = ap (λ (i : ℕ). getD ge i 0) (m .0) in
-      (omega (arith, end-inside D L G l flat gs ge gn p x e h), λ r. omega (arith, edge-up D L G l flat gs ge gn p x e h)))
+  pub below-none : (s : List ℕ) → Marking l flat gs ge gn p s s c (FromBelow (edgesAt ge c (l .edges) 0) 0)
+  below-none s = marking-same l flat gs ge gn p c s (FromBelow (edgesAt ge c (l .edges) 0) 0) (λ D L G t d i e k y. omega (arith, y .0 .1))
 
-  pub below-all : (s t : List ℕ) (j : ℕ) → slots (boundsIn l p) (getD ge e 0) ≤ j → Marking l flat gs ge gn p s t (getD gs e 0) (FromBelow e j)
-      → Marking l flat gs ge gn p s t (getD gs e 0) (FromEdge e)
+  pub below-all : (s t : List ℕ) (j : ℕ) → slots (boundsIn l p) c ≤ j → Marking l flat gs ge gn p s t c (FromBelow (edgesAt ge c (l .edges) 0) j)
+      → Marking l flat gs ge gn p s t c (FromAll (edgesAt ge c (l .edges) 0))
   below-all s t j h a =
       record {
-        row = a .row;
+        only = a .only;
+        higher = a .higher;
         small = a .small;
-        sound = λ D L G x i k f.
+        sound = λ D L G x d i n k f.
             ⊎-elim
-            (λ (y : 0 < flagOf l p s (getD gs e 0) i). inl y)
-            (λ (y : (d : ℕ) × (k : ℕ) × FromBelow e j d k × (k < slots (boundsIn l p) (getD ge d 0)) × (0 < flagOf l p s (getD ge d 0) k) × Leads l flat ge gn p L (getD gs e 0) d k i).
-            inr (y .0, y .1, y .2 .0, y .3, y .4, y .5))
-            (a .sound D L G x i k f);
-        complete = λ D L G x d k i m n f y.
-            let q : slots (boundsIn l p) (getD ge d 0) ≡ slots (boundsIn l p) (getD ge e 0) = ap (λ (i : ℕ). slots (boundsIn l p) (getD ge i 0)) m in
-            a .complete D L G x d k i (m, omega (arith, n, q)) n f y;
+            (λ (z : 0 < flagOf l p s d i). inl z)
+            (λ (z : (e : ℕ) × (k : ℕ) × Pushes l flat gs ge gn p t L (FromBelow (edgesAt ge c (l .edges) 0) j) d i e k).
+            let w = z .2 in inr (z .0, z .1, (w .0 .0, w .1, w .2, w .3, w .4)))
+            (a .sound D L G x d i n k f);
+        complete = λ D L G x d i e k n z.
+            let q : slots (boundsIn l p) (getD ge e 0) ≡ slots (boundsIn l p) c = ap (slots (boundsIn l p)) (edges-member ge c (l .edges) e .0 (z .0) .1) in
+            a .complete D L G x d i e k n ((z .0, omega (arith, z .2, q)), z .1, z .2, z .3, z .4);
       }
+
+  module _ (D : Design) (L : PathList) (G : Graph) (x : Tabled D L G l flat gs ge gn p) where
+    pub into-end : (e : ℕ) → List·Memᴰ e (edgesAt ge c (l .edges) 0) → (getD ge e 0 < l .copies) × (c ≤ getD ge e 0)
+    into-end e m =
+        let r = edges-member ge c (l .edges) e .0 m in
+        (end-inside D L G l flat gs ge gn p x e (r .0), omega (arith, r .1))
+
+    pub below-next : (s t u : List ℕ) (j : ℕ) → Marking l flat gs ge gn p s t c (FromBelow (edgesAt ge c (l .edges) 0) j)
+        → Marking l flat gs ge gn p t u c (FromList (edgesAt ge c (l .edges) 0) j) → Marking l flat gs ge gn p s u c (FromBelow (edgesAt ge c (l .edges) 0) (j + 1))
+    below-next s t u j a b =
+        marking-join l flat gs ge gn p c s t u (FromBelow es j) (FromList es j) (FromBelow es (j + 1)) a b
+        (λ d k m. (m .0, omega (arith, m .1)))
+        (λ d k m. (m .0, omega (arith, m .1)))
+        (λ d k m. elim (decLt k j) [ yes y ↦ inl (m .0, y) | no f ↦ inr (m .0, omega (arith, m .1)) ])
+        (λ d k m. into-end d (m .0))
+      where
+        es : List ℕ
+        es = edgesAt ge c (l .edges) 0

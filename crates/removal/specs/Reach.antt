@@ -1,19 +1,19 @@
--- What marking the reached slots does: flags are set in one row, by steps against edges from slots that are reached. The words
--- before the slots are p throughout.
+-- What marking the reached slots does: the flags of lower copies are set by steps against edges, from slots that are reached. The
+-- words before the slots are p throughout.
 use Prim.Native.Nat.{ℕ, _+_, _≤_, _<_}
 use mathlib.Core.Path.{_≡_}
 use mathlib.Core.Logic.{_⊎_}
-use mathlib.Core.Bool.{Bool}
+use mathlib.Core.Bool.{Bool, cond}
 use mathlib.Core.List.{List, _∷_, List·Memᴰ}
-use lib.Dec.{ltb}
-use lib.ListN.{length, getD, take}
+use lib.Dec.{eqb, ltb}
+use lib.ListN.{length, getD, take, set}
 use Rattle.timing.specs.Graphs.{Design, Graph}
 use Rattle.timing.specs.Marks.{PathList}
 use Rattle.removal.specs.declared.rows.Layout.{Layout}
 use Rattle.removal.specs.Slots.{slots, slotBase, slotMark}
 use Rattle.removal.specs.Step.{LiveIs}
 use Rattle.removal.specs.Rows.{boundsIn, orderIn, Tabled, slotPlace}
-use Rattle.removal.specs.Flags.{ReachedRow, Backward}
+use Rattle.removal.specs.Flags.{ReachedRow}
 
 -- the flag of a slot where p are the words before the slots, and whether it is reached; `flagIn l s` is `flagOf l (take (l .slots) s) s`
 abbrev pub flagOf : Layout → List ℕ → List ℕ → ℕ → ℕ → ℕ
@@ -28,50 +28,46 @@ pub record SlotsOnly (l : Layout) (p s t : List ℕ) : Type 0 where
   pub tables : take (l .slots) t ≡ take (l .slots) s
   pub past : (i : ℕ) → l .slots + slotBase (boundsIn l p) (l .copies) ≤ i → getD t i 0 ≡ getD s i 0
 
--- and of these only the slots of copy c
-pub record RowOnly (l : Layout) (p s t : List ℕ) (c : ℕ) : Type 0 where
-  pub only : SlotsOnly l p s t
-  pub others : (d i : ℕ) → d < l .copies → i < slots (boundsIn l p) d → (d ≡ c → ⊥) → flagOf l p t d i ≡ flagOf l p s d i
-
 -- slot i of copy c is that of edge e and then the mark of slot k at its end
 abbrev pub Leads : Layout → List ℕ → List ℕ → List ℕ → List ℕ → PathList → ℕ → ℕ → ℕ → ℕ → Type 0
 Leads l flat ge gn p L c e k i =
     LiveIs L (orderIn l flat p) (boundsIn l p) c (getD gn e 0 ∷ slotMark L (orderIn l flat p) (boundsIn l p) (getD ge e 0) k) i
 
--- Flags of copy c were set by edges and slots of their ends, those of `From`. Each flag of copy c is as it was or 1.
-pub record Marking (l : Layout) (flat gs ge gn p s t : List ℕ) (c : ℕ) (From : ℕ → ℕ → Type 0) : Type 0 where
-  pub row : RowOnly l p s t c
-  pub small : (i : ℕ) → i < slots (boundsIn l p) c → (flagOf l p t c i ≡ flagOf l p s c i) ⊎ (flagOf l p t c i ≡ 1)
-  pub sound : (D : Design) (L : PathList) (G : Graph) → Tabled D L G l flat gs ge gn p → (i : ℕ) → i < slots (boundsIn l p) c → 0 < flagOf l p t c i
-      → (0 < flagOf l p s c i)
-      ⊎ ((e : ℕ) × (k : ℕ) × From e k × (k < slots (boundsIn l p) (getD ge e 0)) × (0 < flagOf l p s (getD ge e 0) k) × Leads l flat ge gn p L c e k i)
-  pub complete : (D : Design) (L : PathList) (G : Graph) → Tabled D L G l flat gs ge gn p → (e k i : ℕ) → From e k
-      → k < slots (boundsIn l p) (getD ge e 0) → 0 < flagOf l p s (getD ge e 0) k → Leads l flat ge gn p L c e k i → 0 < flagOf l p t c i
+-- slot i of copy c is reached over edge e from slot k at its end, which is reached, and the edge and slot k are among those of `From`
+abbrev pub Pushes : Layout → List ℕ → List ℕ → List ℕ → List ℕ → List ℕ → List ℕ → PathList → (ℕ → ℕ → Type 0) → ℕ → ℕ → ℕ → ℕ → Type 0
+Pushes l flat gs ge gn p s L From c i e k =
+    From e k × (getD gs e 0 ≡ c) × (k < slots (boundsIn l p) (getD ge e 0)) × (0 < flagOf l p s (getD ge e 0) k) × Leads l flat ge gn p L c e k i
 
--- from one slot at the end of edge e; from those before j; from all slots at the ends of the edges out of copy c
+-- Flags of copies below c were set by edges and slots of their ends, those of `From`. Each flag is as it was or 1.
+pub record Marking (l : Layout) (flat gs ge gn p s t : List ℕ) (c : ℕ) (From : ℕ → ℕ → Type 0) : Type 0 where
+  pub only : SlotsOnly l p s t
+  pub higher : (d i : ℕ) → c ≤ d → d < l .copies → i < slots (boundsIn l p) d → flagOf l p t d i ≡ flagOf l p s d i
+  pub small : (d i : ℕ) → d < l .copies → i < slots (boundsIn l p) d → (flagOf l p t d i ≡ flagOf l p s d i) ⊎ (flagOf l p t d i ≡ 1)
+  pub sound : (D : Design) (L : PathList) (G : Graph) → Tabled D L G l flat gs ge gn p → (d i : ℕ) → d < l .copies → i < slots (boundsIn l p) d → 0 < flagOf l p t d i
+      → (0 < flagOf l p s d i) ⊎ ((e : ℕ) × (k : ℕ) × Pushes l flat gs ge gn p t L From d i e k)
+  pub complete : (D : Design) (L : PathList) (G : Graph) → Tabled D L G l flat gs ge gn p → (d i e k : ℕ) → d < l .copies
+      → Pushes l flat gs ge gn p t L From d i e k → 0 < flagOf l p t d i
+
+-- from one slot at the end of edge e; from slot j at the end of these edges; from the slots there before j; from all of them
 abbrev pub FromSlot : ℕ → ℕ → ℕ → ℕ → Type 0
 FromSlot e j = λ d k. (d ≡ e) × (k ≡ j)
 
-abbrev pub FromBelow : ℕ → ℕ → ℕ → ℕ → Type 0
-FromBelow e j = λ d k. (d ≡ e) × (k < j)
+abbrev pub FromList : List ℕ → ℕ → ℕ → ℕ → Type 0
+FromList es j = λ d k. List·Memᴰ d es × (k ≡ j)
 
-abbrev pub FromEdge : ℕ → ℕ → ℕ → Type 0
-FromEdge e = λ d k. d ≡ e
+abbrev pub FromBelow : List ℕ → ℕ → ℕ → ℕ → Type 0
+FromBelow es j = λ d k. List·Memᴰ d es × (k < j)
 
-abbrev pub FromList : List ℕ → ℕ → ℕ → Type 0
-FromList es = λ d k. List·Memᴰ d es
+abbrev pub FromAll : List ℕ → ℕ → ℕ → Type 0
+FromAll es = λ d k. List·Memᴰ d es
 
--- the flags of copy c are what pass 1 makes, where they were all 0
-pub record CopyReached (l : Layout) (flat gs ge gn p s t : List ℕ) (c : ℕ) : Type 0 where
-  pub row : RowOnly l p s t c
-  pub small : (i : ℕ) → i < slots (boundsIn l p) c → (flagOf l p t c i ≡ flagOf l p s c i) ⊎ (flagOf l p t c i ≡ 1)
-  pub backward : ((i : ℕ) → i < slots (boundsIn l p) c → flagOf l p s c i ≡ 0)
-      → (D : Design) (L : PathList) (G : Graph) → Tabled D L G l flat gs ge gn p → Backward G L (orderIn l flat p) (boundsIn l p) (reachedOf l p t) c
+-- slot 0 of copy c is set where the copy's first link of edges out is 0
+abbrev pub endSet : Layout → List ℕ → ℕ → List ℕ
+endSet l s c = cond (eqb (getD s (l .out + c) 0) 0) (set s (slotPlace l (take (l .slots) s) c 0) 1) s
 
--- rows from copy c on are right; those before it are still 0
+-- rows from copy c on are right
 pub record RowsReached (l : Layout) (flat gs ge gn p s t : List ℕ) (c : ℕ) : Type 0 where
   pub only : SlotsOnly l p s t
-  pub zeros : (d i : ℕ) → d < c → d < l .copies → i < slots (boundsIn l p) d → flagOf l p t d i ≡ 0
   pub small : (d i : ℕ) → d < l .copies → i < slots (boundsIn l p) d → flagOf l p t d i ≤ 1
   pub rows : (D : Design) (L : PathList) (G : Graph) → Tabled D L G l flat gs ge gn p
       → (d : ℕ) → c ≤ d → d < l .copies → ReachedRow G L (orderIn l flat p) (boundsIn l p) (reachedOf l p t) d

@@ -4,9 +4,9 @@ ghost use Prim.Native.Nat.{_+_, _*_, _<_};
 ghost use lib.ListN.{length, getD, take, set};
 ghost use Rattle.removal.specs.Slots.{slots};
 ghost use Rattle.removal.specs.Chains.{edgesAt};
-ghost use Rattle.removal.specs.Rows.{boundsIn, Held, Ready, slotPlace};
+ghost use Rattle.removal.specs.Rows.{boundsIn, Held, Ready, slotPlace, flagIn};
 ghost use Rattle.removal.specs.Along.{StepAlong};
-ghost use Rattle.removal.specs.Reach.{Marking, FromSlot, FromEdge, FromList, CopyReached, RowsReached, AllZero};
+ghost use Rattle.removal.specs.Reach.{Marking, FromSlot, FromList, FromAll, endSet, RowsReached, AllZero};
 use crate::step::Step;
 use crate::step::slot_span;
 use crate::step::step_back;
@@ -135,8 +135,8 @@ fn mark_reached(l: Layout, s: &mut [u32], c: usize, j: usize)
     s[at] = 1;
 }
 
-// Marks what slot j at the end of edge e reaches at its start.
-fn reach_slot(
+// Marks what slot j at the end of edge e reaches at the edge's start. The slot is reached.
+fn push_edge(
     l: Layout,
     flat: &[u32],
     gs: &[u32],
@@ -146,14 +146,9 @@ fn reach_slot(
     e: usize,
     j: usize,
 )
-    requires { ⌜ Ready l (now flat) (now gs) (now ge) (now gn) (now s) × (e < l .edges) × (j < slots (boundsIn l (take (l .slots) (now s))) (getD (now ge) e 0)) ⌝ }
-    ensures { λ r. ⌜ Marking l (now (flat .entry)) (now (gs .entry)) (now (ge .entry)) (now (gn .entry)) (take (l .slots) (now (s .entry))) (now (s .entry)) (now (s .exit)) (getD (now (gs .entry)) e 0) (FromSlot e j) ⌝ }
+    requires { ⌜ Ready l (now flat) (now gs) (now ge) (now gn) (now s) × (e < l .edges) × (j < slots (boundsIn l (take (l .slots) (now s))) (getD (now ge) e 0)) × (0 < flagIn l (now s) (getD (now ge) e 0) j) ⌝ }
+    ensures { λ r. ⌜ Marking l (now (flat .entry)) (now (gs .entry)) (now (ge .entry)) (now (gn .entry)) (take (l .slots) (now (s .entry))) (now (s .entry)) (now (s .exit)) (getD (now (ge .entry)) e 0) (FromSlot e j) ⌝ }
 {
-    let c = number_at(ge, e) as usize;
-    let at = slot_place(l, s, c, j);
-    if number_at(s, at) == 0 {
-        return;
-    }
     let step = step_along(l, flat, gs, ge, gn, s, e, j);
     if let Step::Live(r) = step {
         let a = number_at(gs, e) as usize;
@@ -161,45 +156,75 @@ fn reach_slot(
     }
 }
 
-// Marks what the slots at the end of edge e reach at its start.
-fn reach_edge(l: Layout, flat: &[u32], gs: &[u32], ge: &[u32], gn: &[u32], s: &mut [u32], e: usize)
-    requires { ⌜ Ready l (now flat) (now gs) (now ge) (now gn) (now s) × (e < l .edges) ⌝ }
-    ensures { λ r. ⌜ Marking l (now (flat .entry)) (now (gs .entry)) (now (ge .entry)) (now (gn .entry)) (take (l .slots) (now (s .entry))) (now (s .entry)) (now (s .exit)) (getD (now (gs .entry)) e 0) (FromEdge e) ⌝ }
+// Marks what slot j of copy c reaches over the edges into c. The slot is reached.
+fn push_edges(
+    l: Layout,
+    flat: &[u32],
+    gs: &[u32],
+    ge: &[u32],
+    gn: &[u32],
+    s: &mut [u32],
+    c: usize,
+    j: usize,
+)
+    requires { ⌜ Ready l (now flat) (now gs) (now ge) (now gn) (now s) × (c < l .copies) × (j < slots (boundsIn l (take (l .slots) (now s))) c) × (0 < flagIn l (now s) c j) ⌝ }
+    ensures { λ r. ⌜ Marking l (now (flat .entry)) (now (gs .entry)) (now (ge .entry)) (now (gn .entry)) (take (l .slots) (now (s .entry))) (now (s .entry)) (now (s .exit)) c (FromList (edgesAt (now (ge .entry)) c (l .edges) 0) j) ⌝ }
 {
-    let c = number_at(ge, e) as usize;
+    let mut h = number_at(s, l.into + c) as usize;
+    while h != 0 {
+        let e = h - 1;
+        push_edge(l, flat, gs, ge, gn, s, e, j);
+        h = number_at(s, l.into + l.copies + e) as usize;
+    }
+}
+
+// Marks what slot j of copy c reaches. From a slot that is not reached no edge is followed, so that
+// the work is that of the reached slots.
+fn push_slot(
+    l: Layout,
+    flat: &[u32],
+    gs: &[u32],
+    ge: &[u32],
+    gn: &[u32],
+    s: &mut [u32],
+    c: usize,
+    j: usize,
+)
+    requires { ⌜ Ready l (now flat) (now gs) (now ge) (now gn) (now s) × (c < l .copies) × (j < slots (boundsIn l (take (l .slots) (now s))) c) ⌝ }
+    ensures { λ r. ⌜ Marking l (now (flat .entry)) (now (gs .entry)) (now (ge .entry)) (now (gn .entry)) (take (l .slots) (now (s .entry))) (now (s .entry)) (now (s .exit)) c (FromList (edgesAt (now (ge .entry)) c (l .edges) 0) j) ⌝ }
+{
+    let at = slot_place(l, s, c, j);
+    if number_at(s, at) == 0 {
+        return;
+    }
+    push_edges(l, flat, gs, ge, gn, s, c, j);
+}
+
+// Marks what the slots of copy c reach.
+fn push_copy(l: Layout, flat: &[u32], gs: &[u32], ge: &[u32], gn: &[u32], s: &mut [u32], c: usize)
+    requires { ⌜ Ready l (now flat) (now gs) (now ge) (now gn) (now s) × (c < l .copies) ⌝ }
+    ensures { λ r. ⌜ Marking l (now (flat .entry)) (now (gs .entry)) (now (ge .entry)) (now (gn .entry)) (take (l .slots) (now (s .entry))) (now (s .entry)) (now (s .exit)) c (FromAll (edgesAt (now (ge .entry)) c (l .edges) 0)) ⌝ }
+{
     let count = slot_count(l, s, c);
     let mut j = 0;
     while j < count {
-        reach_slot(l, flat, gs, ge, gn, s, e, j);
+        push_slot(l, flat, gs, ge, gn, s, c, j);
         j += 1;
     }
 }
 
-// Marks what the edges out of copy c reach.
-fn reach_edges(l: Layout, flat: &[u32], gs: &[u32], ge: &[u32], gn: &[u32], s: &mut [u32], c: usize)
-    requires { ⌜ Ready l (now flat) (now gs) (now ge) (now gn) (now s) × (c < l .copies) ⌝ }
-    ensures { λ r. ⌜ Marking l (now (flat .entry)) (now (gs .entry)) (now (ge .entry)) (now (gn .entry)) (take (l .slots) (now (s .entry))) (now (s .entry)) (now (s .exit)) c (FromList (edgesAt (now (gs .entry)) c (l .edges) 0)) ⌝ }
+// Marks slot 0 of copy c if no edge goes out of c: paths end there.
+fn mark_end(l: Layout, s: &mut [u32], c: usize)
+    requires { ⌜ Held l (now s) × (c < l .copies) × (l .out + c < length (now s)) ⌝ }
+    ensures { λ r. ⌜ now (s .exit) ≡ endSet l (now (s .entry)) c ⌝ }
 {
-    let mut h = number_at(s, l.out + c) as usize;
-    while h != 0 {
-        let e = h - 1;
-        reach_edge(l, flat, gs, ge, gn, s, e);
-        h = number_at(s, l.out + l.copies + e) as usize;
-    }
-}
-
-// Marks the slots of copy c that are reached; those of the higher copies are marked.
-fn reach_copy(l: Layout, flat: &[u32], gs: &[u32], ge: &[u32], gn: &[u32], s: &mut [u32], c: usize)
-    requires { ⌜ Ready l (now flat) (now gs) (now ge) (now gn) (now s) × (c < l .copies) ⌝ }
-    ensures { λ r. ⌜ CopyReached l (now (flat .entry)) (now (gs .entry)) (now (ge .entry)) (now (gn .entry)) (take (l .slots) (now (s .entry))) (now (s .entry)) (now (s .exit)) c ⌝ }
-{
-    reach_edges(l, flat, gs, ge, gn, s, c);
     if number_at(s, l.out + c) == 0 {
         mark_reached(l, s, c, 0);
     }
 }
 
-// Marks the slots of all copies that are reached, from the highest copy down.
+// Marks the slots of all copies that are reached, from the highest copy down. Edges go from lower
+// copies to higher ones, so all slots of a copy that are reached are marked when its turn comes.
 pub(crate) fn reach_all(l: Layout, flat: &[u32], gs: &[u32], ge: &[u32], gn: &[u32], s: &mut [u32])
     requires { ⌜ Ready l (now flat) (now gs) (now ge) (now gn) (now s) × AllZero l (take (l .slots) (now s)) (now s) ⌝ }
     ensures { λ r. ⌜ RowsReached l (now (flat .entry)) (now (gs .entry)) (now (ge .entry)) (now (gn .entry)) (take (l .slots) (now (s .entry))) (now (s .entry)) (now (s .exit)) 0 ⌝ }
@@ -207,6 +232,7 @@ pub(crate) fn reach_all(l: Layout, flat: &[u32], gs: &[u32], ge: &[u32], gn: &[u
     let mut c = l.copies;
     while 0 < c {
         c -= 1;
-        reach_copy(l, flat, gs, ge, gn, s, c);
+        mark_end(l, s, c);
+        push_copy(l, flat, gs, ge, gn, s, c);
     }
 }

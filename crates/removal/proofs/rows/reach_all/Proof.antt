@@ -1,56 +1,99 @@
--- The invariant: the rows from copy c on are right, and those before it still 0.
+-- The invariant: the rows from copy c on are right, and what they reach in lower ones is marked.
 use Prim.Native.Nat.{ℕ, suc, _-_, _≤_}
 use native.Mathlib.Omega.{arith}
 use mathlib.Core.Path.{_≡_, subst}
 use mathlib.Core.List.{List}
 use lib.ListN.{take}
-use Rattle.removal.specs.Reach.{CopyReached, RowsReached}
-use Rattle.removal.proofs.ReachLaws.{ready-still}
-use Rattle.removal.proofs.CopyLaws.{rows-start, rows-next}
+use Rattle.removal.specs.Chains.{edgesAt}
+use Rattle.removal.specs.Reach.{SlotsOnly, Marking, FromAll, RowsReached}
+use Rattle.removal.proofs.RowLaws.{ready-held}
+use Rattle.removal.proofs.ReachLaws.{only-trans, ready-still}
+use Rattle.removal.proofs.CopyLaws.{EndMarked, end-marked, RowsPushed, rows-start, rows-next}
 use Rattle.removal.proofs.rows.reach_all.Statement.{statement}
 use Rattle.removal.proofs.rows.reach_all.Tie as tie
 
 abbrev Inv-loop : tie.InvT-loop
-Inv-loop l flat gs ge gn s₀ c₀ s c = (c ≤ l .copies) × RowsReached l flat gs ge gn (take (l .slots) s₀) s₀ s c
+Inv-loop l flat gs ge gn s₀ c₀ s c = (c ≤ l .copies) × RowsPushed l flat gs ge gn (take (l .slots) s₀) s₀ s c
 
 abbrev μ-loop : tie.MeasureT-loop
 μ-loop l flat gs ge gn s₀ c₀ s c = c
 
+-- what the mark of an end does, and what has changed by then
+ended : (c : tie.After-mark-end Inv-loop μ-loop) →
+    let a = c .before .before .before .before .before .before .before .before .before .args in
+    let w = c .before .before .before .loop in
+    EndMarked (a .l) (a .gs .now) (take (a .l .slots) (a .s .now)) (w .s) (c .mark-end .last .1 .0) (w .c - 1)
+ended c =
+    let p = c .before .before .before .before .before .before .before .before .before in
+    let a = p .args in
+    let r = p .pre .0 in
+    let w = c .before .before .before .loop in
+    let only = w .inv .1 .reached .only in
+    let test = c .before .before .loop-test .taken in
+    end-marked (r .design) (r .list) (r .graph) (a .l) (a .flat .now) (a .gs .now) (a .ge .now) (a .gn .now) (take (a .l .slots) (a .s .now)) (r .tabled) (w .c - 1) (omega (arith, w .inv .0, test)) (w .s) (c .mark-end .last .1 .0)
+    (only .tables) (omega (arith, r .room, only .size)) (c .mark-end .ensures)
+
+so-far : (c : tie.After-mark-end Inv-loop μ-loop) →
+    let a = c .before .before .before .before .before .before .before .before .before .args in
+    SlotsOnly (a .l) (take (a .l .slots) (a .s .now)) (a .s .now) (c .mark-end .last .1 .0)
+so-far c =
+    let a = c .before .before .before .before .before .before .before .before .before .args in
+    let w = c .before .before .before .loop in
+    only-trans (a .l) (take (a .l .slots) (a .s .now)) (a .s .now) (w .s) (c .mark-end .last .1 .0) (w .inv .1 .reached .only) (ended c .only)
+
 loop-holds : tie.Need-loop-holds Inv-loop μ-loop
 loop-holds c =
     let p = c .before .before .before .before .before in
-    let a = p .args in (omega arith, rows-start (a .l) (a .flat .now) (a .gs .now) (a .ge .now) (a .gn .now) (take (a .l .slots) (a .s .now)) (a .s .now) (p .pre .1))
+    let a = p .args in
+    (omega arith, rows-start (a .l) (a .flat .now) (a .gs .now) (a .ge .now) (a .gn .now) (take (a .l .slots) (a .s .now)) (a .s .now) (p .pre .1))
 
 sub-c : tie.Need-sub-c Inv-loop μ-loop
 sub-c c = omega (arith, c .loop-test .taken)
 
-reach-copy-requires : tie.Need-reach-copy-requires Inv-loop μ-loop
-reach-copy-requires c κs =
+mark-end-requires : tie.Need-mark-end-requires Inv-loop μ-loop
+mark-end-requires c κs =
     let p = c .before .before .before .before .before .before .before .before in
     let a = p .args in
+    let r = p .pre .0 in
     let w = c .before .before .loop in
-    (ready-still (a .l) (a .flat .now) (a .gs .now) (a .ge .now) (a .gn .now) (a .s .now) (w .s) (w .inv .1 .only) (p .pre .0), omega (arith, w .inv .0, c .before .loop-test .taken))
+    let only = w .inv .1 .reached .only in
+    let test = c .before .loop-test .taken in (
+      ready-held (a .l) (a .flat .now) (a .gs .now) (a .ge .now) (a .gn .now) (w .s) (ready-still (a .l) (a .flat .now) (a .gs .now) (a .ge .now) (a .gn .now) (a .s .now) (w .s) only r),
+      omega (arith, w .inv .0, test),
+      omega (arith, w .inv .0, test, r .tabled .laid .out, r .room, only .size),
+    )
+
+push-copy-requires : tie.Need-push-copy-requires Inv-loop μ-loop
+push-copy-requires c κs =
+    let p = c .before .before .before .before .before .before .before .before .before .before .before .before in
+    let a = p .args in
+    let m = c .before .before .before in
+    let w = m .before .before .before .loop in
+    let test = m .before .before .loop-test .taken in
+    (ready-still (a .l) (a .flat .now) (a .gs .now) (a .ge .now) (a .gn .now) (a .s .now) (m .mark-end .last .1 .0) (so-far m) (p .pre .0), omega (arith, w .inv .0, test))
 
 loop-less : tie.Need-loop-less Inv-loop μ-loop
-loop-less c = omega (arith, c .before .before .before .before .loop-test .taken)
+loop-less c = omega (arith, c .before .before .before .before .before .before .before .before .loop-test .taken)
 
 loop-again : tie.Need-loop-again Inv-loop μ-loop
 loop-again c =
-    let p = c .before .before .before .before .before .before .before .before .before .before .before in
+    let p = c .before .before .before .before .before .before .before .before .before .before .before .before .before .before .before in
     let a = p .args in
-    let w = c .before .before .before .before .before .loop in
-    let m = c .before .before .reach-copy in
-    let u = m .last .1 .1 .1 .1 .1 .0 in
-    let test = c .before .before .before .before .loop-test .taken in
+    let m = c .before .before .before .before .before .before in
+    let w = m .before .before .before .loop in
+    let v = m .mark-end .last .1 .0 in
+    let u = c .before .before .push-copy .last .1 .1 .1 .1 .1 .0 in
+    let test = m .before .before .loop-test .taken in
     let next : w .c ≡ suc (w .c - 1) = omega (arith, test) in (
       omega (arith, w .inv .0),
-      rows-next (a .l) (a .flat .now) (a .gs .now) (a .ge .now) (a .gn .now) (take (a .l .slots) (a .s .now)) (a .s .now) (w .s) u (w .c - 1) (omega (arith, w .inv .0, test))
-          (subst (λ (i : ℕ). RowsReached (a .l) (a .flat .now) (a .gs .now) (a .ge .now) (a .gn .now) (take (a .l .slots) (a .s .now)) (a .s .now) (w .s) i) next (w .inv .1))
-          (subst (λ (q : List ℕ). CopyReached (a .l) (a .flat .now) (a .gs .now) (a .ge .now) (a .gn .now) q (w .s) u (w .c - 1)) (w .inv .1 .only .tables) (m .ensures)),
+      rows-next (a .l) (a .flat .now) (a .gs .now) (a .ge .now) (a .gn .now) (take (a .l .slots) (a .s .now)) (a .s .now) (w .s) v u (w .c - 1) (omega (arith, w .inv .0, test))
+          (subst (λ (i : ℕ). RowsPushed (a .l) (a .flat .now) (a .gs .now) (a .ge .now) (a .gn .now) (take (a .l .slots) (a .s .now)) (a .s .now) (w .s) i) next (w .inv .1))
+          (ended m)
+          (subst (λ (q : List ℕ). Marking (a .l) (a .flat .now) (a .gs .now) (a .ge .now) (a .gn .now) q v u (w .c - 1) (FromAll (edgesAt (a .ge .now) (w .c - 1) (a .l .edges) 0))) (so-far m .tables) (c .before .before .push-copy .ensures)),
     )
 
 same-length : tie.Need-same-length Inv-loop μ-loop
-same-length c = c .before .loop .inv .1 .only .size
+same-length c = c .before .loop .inv .1 .reached .only .size
 
 returns : tie.Need-returns Inv-loop μ-loop
 returns c =
@@ -59,8 +102,19 @@ returns c =
     let w = c .before .loop in
     let test = c .loop-test .left in
     let z : w .c ≡ 0 = omega (arith, test) in
-    subst (λ (i : ℕ). RowsReached (a .l) (a .flat .now) (a .gs .now) (a .ge .now) (a .gn .now) (take (a .l .slots) (a .s .now)) (a .s .now) (w .s) i) z (w .inv .1)
+    subst (λ (i : ℕ). RowsReached (a .l) (a .flat .now) (a .gs .now) (a .ge .now) (a .gn .now) (take (a .l .slots) (a .s .now)) (a .s .now) (w .s) i) z (w .inv .1 .reached)
 
 pub reach-all-spec : {M : Type 1} → statement M
 reach-all-spec =
-    tie.close (tie.spec Inv-loop μ-loop loop-holds sub-c reach-copy-requires loop-less loop-again same-length returns)
+    tie.close
+    (tie.spec
+    Inv-loop
+    μ-loop
+    loop-holds
+    sub-c
+    mark-end-requires
+    push-copy-requires
+    loop-less
+    loop-again
+    same-length
+    returns)
