@@ -170,8 +170,9 @@ module _ (D : Design) (L : PathList) (G : Graph) (starts flat lengths nodes gs g
           ordered = r₂ .ordered (ofStarts starts) (pathList flat lengths) refl refl rests-in;
         }
 
-        pub fillable : Fillable flat nodes s₂ (l .low)
-        fillable = record {
+        pub fillable : ((c : ℕ) → c < length nodes → getD nodes c 0 < 4096) → Fillable flat nodes s₂ (l .low)
+        fillable below = record {
+          nodes-below = below;
           room = omega (arith, enough, r₁ .frame .size, r₂ .frame .size, w .low, w .slots);
           copies = omega (arith, g .few-copies);
           listed = flat-fits .fewEdges;

@@ -152,7 +152,7 @@ module _ (starts flat lengths nodes s t : List ℕ) (rest order base c total x y
   filling-turn = record {
     most = h;
     search = searchable-kept starts flat lengths t (putFour t base (length nodes) c x y z total) rest order base (length nodes + length nodes + length nodes + length nodes) kept (f .search);
-    able = record { room = omega (arith, f .able .room, kept .size); copies = f .able .copies; listed = f .able .listed };
+    able = record { room = omega (arith, f .able .room, kept .size); copies = f .able .copies; nodes-below = f .able .nodes-below; listed = f .able .listed };
     frame = frame-trans s t (putFour t base (length nodes) c x y z total) base (length nodes + length nodes + length nodes + length nodes) (f .frame) kept;
     around =
         rw (

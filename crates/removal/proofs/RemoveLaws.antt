@@ -20,7 +20,7 @@ use Rattle.removal.specs.Fill.{SameRooms, SlotsRoom, boundsNow, shownNow
 use Rattle.removal.specs.Build.{Given, Buildable, Built}
 use Rattle.removal.specs.Remove.{Worked, Workable, WorkableIn, AllFound, Found}
 use Rattle.removal.proofs.ReachLaws.{ready-still}
-use Rattle.removal.proofs.CountLaws.{list-countable}
+use Rattle.removal.proofs.CountLaws.{list-countable, copies-countable}
 use Rattle.removal.proofs.ShowTables.{setting-of}
 use Rattle.removal.proofs.ShownReadyLaws.{shown-ready}
 use Rattle.removal.proofs.ResultLaws.{shown-nodes, shown-edges}
@@ -34,6 +34,7 @@ buildable starts flat lengths nodes gs ge gn s x =
       graph = x .work .graph;
       given = w .given;
       starts-below = list-countable (x .work .design) starts flat lengths (w .fits) (subst (λ (K : PathList). ListFits (x .work .design) K) (w .given .list) (w .given .fits)) (w .given .design) .starts-below;
+      nodes-below = copies-countable (x .work .design) (x .work .graph) nodes (w .fits) (w .given .legal) (w .given .copies) (w .given .few-copies) .below;
       room = x .room;
     }
 

@@ -1,19 +1,20 @@
--- Halving the order by codes: codes never fall along it, and the bounds of a node are those of three keys.
+-- The order by codes: codes never fall along it, and the bounds of a node are those of three keys.
 use Prim.Native.Nat.{ℕ, _+_, _-_, _*_, _≤_, _<_}
 use native.Mathlib.Omega.{arith}
 use native.Mathlib.Decide.{decLt, ℕ-discrete}
-use mathlib.Core.Path.{_≡_, subst}
+use mathlib.Core.Path.{_≡_, sym, _∙_, subst}
 use mathlib.Core.Bool.{_&&_}
 use mathlib.Core.List.{List, _∷_}
 use lib.Dec.{T, eqb, ltb, lt→ltb, eqb-refl}
-use lib.ListN.{length, getD}
+use lib.ListN.{length, getD, set, length-set}
+use lib.Seq.{getD-set-same, getD-set-other}
 use Rattle.timing.specs.Sorting.{before}
 use Rattle.timing.specs.Graphs.{Design, Graph, nodeOf}
 use Rattle.timing.specs.Marks.{PathList}
 use Rattle.theorems.proofs.Lists.{and-intro, or-left, or-right}
 use Rattle.removal.specs.Positions.{headAt, startAt, restAt, tailAt, Ordered}
 use Rattle.removal.specs.Slots.{Bounds, Bounded}
-use Rattle.removal.specs.Search.{ofStarts, codeAt, Lower, Around}
+use Rattle.removal.specs.Search.{ofStarts, codeAt, Lower, Around, Firsts}
 use Rattle.removal.proofs.HeadLaws.{head-small}
 
 key-before : (a b x y : ℕ) (xs ys : List ℕ) → x ≤ 1 → y ≤ 1 → 2 * a + x < 2 * b + y → T (before (a ∷ x ∷ xs) (b ∷ y ∷ ys))
@@ -54,8 +55,8 @@ pub record Bracket (starts : List ℕ) (L : PathList) (order : List ℕ) (key lo
   pub above : (t : ℕ) → hi ≤ t → t < length order → key ≤ codeAt starts L (getD order t 0)
 
 module _ (starts : List ℕ) (L : PathList) (order : List ℕ) (key : ℕ) where
-  pub bracket-start : Bracket starts L order key 0 (length order)
-  bracket-start = record { up = omega arith; within = omega arith; below = λ t h. absurd (omega arith); above = λ t h l. absurd (omega arith) }
+  pub bracket-from : (from n : ℕ) → length order ≡ n → from ≤ n → ((t : ℕ) → t < from → codeAt starts L (getD order t 0) < key) → Bracket starts L order key from n
+  bracket-from from n e h f = record { up = h; within = omega arith; below = f; above = λ t l m. absurd (omega arith) }
 
   pub bracket-up : (lo hi mid : ℕ) → Ordered (ofStarts starts) L order → Bracket starts L order key lo hi → mid < hi
       → codeAt starts L (getD order mid 0) < key → Bracket starts L order key (mid + 1) hi
@@ -103,6 +104,43 @@ module _ (starts : List ℕ) (L : PathList) (order : List ℕ) (key a b t : ℕ)
       high : Dec (t < b) → t < b
       high (yes q) = q
       high (no f) = absurd (omega (arith, y .above t (omega arith) l))
+
+-- the bounds of a node, read off the table
+pub around-read : (starts : List ℕ) (L : PathList) (order firsts : List ℕ) (v low middle high : ℕ) → v < 4096 → Firsts starts L order firsts
+    → low ≡ getD firsts (2 * v) 0 → middle ≡ getD firsts (2 * v + 1) 0 → high ≡ getD firsts (2 * v + 2) 0 → Around starts L order v low middle high
+around-read starts L order firsts v low middle high h f x y z = record {
+  lows = subst (Lower starts L order (2 * v)) (sym x) (f .bounds (2 * v) (omega arith));
+  middles = subst (Lower starts L order (2 * v + 1)) (sym y) (f .bounds (2 * v + 1) (omega arith));
+  highs = subst (Lower starts L order (2 * v + 2)) (sym z) (f .bounds (2 * v + 2) (omega arith));
+}
+
+-- the table up to a key, with t places below the keys so far
+pub record FirstsTo (starts : List ℕ) (L : PathList) (order firsts : List ℕ) (t key : ℕ) : Type 0 where
+  pub size : length firsts ≡ 8193
+  pub inside : t ≤ length order
+  pub below : (i : ℕ) → i < t → codeAt starts L (getD order i 0) < key
+  pub bounds : (k : ℕ) → k < key → Lower starts L order k (getD firsts k 0)
+
+module _ (starts : List ℕ) (L : PathList) (order firsts : List ℕ) where
+  pub firsts-start : length firsts ≡ 8193 → FirstsTo starts L order firsts 0 0
+  firsts-start e = record { size = e; inside = omega arith; below = λ i h. absurd (omega arith); bounds = λ k h. absurd (omega arith) }
+
+  pub firsts-next : (t key r : ℕ) → key < 8193 → FirstsTo starts L order firsts t key → Lower starts L order key r → FirstsTo starts L order (set firsts key r) r (key + 1)
+  firsts-next t key r h f w = record {
+    size = length-set firsts key r ∙ f .size;
+    inside = w .within;
+    below = λ i l. omega (arith, w .below i l);
+    bounds = λ k l. go k l (ℕ-discrete k key);
+  }
+    where
+      go : (k : ℕ) → k < key + 1 → Dec (k ≡ key) → Lower starts L order k (getD (set firsts key r) k 0)
+      go k l (yes e) =
+          subst (λ (x : ℕ). Lower starts L order x (getD (set firsts key r) x 0)) (sym e)
+          (subst (Lower starts L order key) (sym (getD-set-same firsts key r 0 (omega (arith, f .size)))) w)
+      go k l (no g) = subst (Lower starts L order k) (sym (getD-set-other firsts key k r 0 g)) (f .bounds k (omega arith))
+
+  pub firsts-done : (t key : ℕ) → 8193 ≤ key → FirstsTo starts L order firsts t key → Firsts starts L order firsts
+  firsts-done t key h f = record { size = f .size; bounds = λ k l. f .bounds k (omega arith) }
 
 pub around-bounded : (D : Design) (L : PathList) (G : Graph) (order : List ℕ) (B : Bounds) (c : ℕ)
     → Around (D .starts) L order (nodeOf G c) (B .low c) (B .middle c) (B .high c) → Bounded D L G order B c

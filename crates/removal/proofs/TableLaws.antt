@@ -83,6 +83,7 @@ module _ (starts flat lengths s : List ℕ) (rest order rank link : ℕ) (b : Or
         falls = subst (RestsFall flat) (sym rests₃) falls;
         ranked = ranked₃;
       };
+      starts-below = b .starts-below;
       rank-before = omega (arith, b .rank-before);
       link-room = omega (arith, size₃, b .room);
       few = b .few;

@@ -45,6 +45,7 @@ pub record Buildable (starts flat lengths nodes gs ge gn s : List ℕ) : Type 0 
   pub graph : Graph
   pub given : Given design list graph starts flat lengths nodes gs ge gn
   pub starts-below : (k : ℕ) → getD starts k 0 < 4096
+  pub nodes-below : (c : ℕ) → c < length nodes → getD nodes c 0 < 4096
   pub room : 16 * (candidates design graph list + length flat + length gs) ≤ length s
 
 -- the tables are filled for whatever design the slices are given of, and no slot is marked

@@ -42,6 +42,11 @@ pub record Around (starts : List ℕ) (L : PathList) (order : List ℕ) (v low m
   pub middles : Lower starts L order (2 * v + 1) middle
   pub highs : Lower starts L order (2 * v + 2) high
 
+-- word `key` of a table is this bound; codes are below 8,192
+pub record Firsts (starts : List ℕ) (L : PathList) (order firsts : List ℕ) : Type 0 where
+  pub size : length firsts ≡ 8193
+  pub bounds : (key : ℕ) → key < 8193 → Lower starts L order key (getD firsts key 0)
+
 -- the bounds that three tables of n words hold
 abbrev pub boundsIn : List ℕ → List ℕ → List ℕ → Bounds
 boundsIn lows middles highs = record { low = λ c. getD lows c 0; middle = λ c. getD middles c 0; high = λ c. getD highs c 0 }
@@ -57,6 +62,7 @@ putFour s base n c x y z w = set (set (set (set s (base + c) x) (base + n + c) y
 pub record Fillable (flat nodes s : List ℕ) (base : ℕ) : Type 0 where
   pub room : base + length nodes + length nodes + length nodes + length nodes ≤ length s
   pub copies : length nodes ≤ 65536
+  pub nodes-below : (c : ℕ) → c < length nodes → getD nodes c 0 < 4096
   pub listed : length flat ≤ 8192
 
 -- and what it gives

@@ -67,6 +67,7 @@ pub record Tailed (starts flat lengths s : List ℕ) (rest order rank link : ℕ
   pub search : Searchable starts flat lengths s rest order rank
   pub filled : (p : List ℕ) → List·Memᴰ p (pathsOf (pathList flat lengths)) → isNil p ≡ false
   pub compare : Comparable flat s rest rank
+  pub starts-below : (k : ℕ) → getD starts k 0 < 4096
   pub rank-before : rank + length flat ≤ link
   pub link-room : link + length flat ≤ length s
   pub few : length flat ≤ 8192

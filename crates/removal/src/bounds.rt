@@ -5,7 +5,7 @@ ghost use lib.ListN.{length, getD};
 ghost use Rattle.timing.specs.Marks.{pathList};
 ghost use Rattle.removal.specs.Table.{table};
 ghost use Rattle.removal.specs.Positions.{headIn};
-ghost use Rattle.removal.specs.Search.{codeAt, Searchable, Lower, Around, putFour, Fillable, Filled};
+ghost use Rattle.removal.specs.Search.{codeAt, Searchable, Lower, Firsts, putFour, Fillable, Filled};
 
 // What stands at i, and 0 past the end.
 fn at(s: &[u32], i: usize) -> u32
@@ -58,8 +58,8 @@ fn code_at(
     2 * v + head_at(starts, flat, lengths, s, rest, order, top, p)
 }
 
-// How many places of the order have a code below the key.
-fn lower_bound(
+// How many places of the order have a code below the key; the first `from` have.
+fn next_bound(
     starts: &[u32],
     flat: &[u32],
     lengths: &[u32],
@@ -67,22 +67,45 @@ fn lower_bound(
     rest: usize,
     order: usize,
     top: usize,
+    from: usize,
     key: usize,
 ) -> usize
-    requires { ⌜ Searchable (now starts) (now flat) (now lengths) (now s) rest order top ⌝ }
+    requires { ⌜ Searchable (now starts) (now flat) (now lengths) (now s) rest order top × (from ≤ length (now flat)) ⌝ }
+    requires { ⌜ ((t : ℕ) → t < from → codeAt (now starts) (pathList (now flat) (now lengths)) (getD (table (now s) order (length (now flat))) t 0) < key) ⌝ }
     ensures { λ r. ⌜ Lower (now (starts .entry)) (pathList (now (flat .entry)) (now (lengths .entry))) (table (now (s .entry)) order (length (now (flat .entry)))) key r ⌝ }
 {
-    let mut lo = 0;
-    let mut hi = flat.len();
-    while lo < hi {
-        let mid = lo + (hi - lo) / 2;
-        if code_at(starts, flat, lengths, s, rest, order, top, mid) < key {
-            lo = mid + 1;
-        } else {
-            hi = mid;
+    let mut t = from;
+    while t < flat.len() {
+        if key <= code_at(starts, flat, lengths, s, rest, order, top, t) {
+            return t;
         }
+        t += 1;
     }
-    lo
+    t
+}
+
+// For each key how many places have a code below it. One pass over the order: the bounds rise with
+// the keys.
+pub(crate) fn fill_firsts(
+    starts: &[u32],
+    flat: &[u32],
+    lengths: &[u32],
+    s: &[u32],
+    rest: usize,
+    order: usize,
+    top: usize,
+    firsts: &mut [u32],
+)
+    requires { ⌜ Searchable (now starts) (now flat) (now lengths) (now s) rest order top × (length (now flat) ≤ 8192) × (length (now firsts) ≡ 8193) ⌝ }
+    ensures { λ r. ⌜ Firsts (now (starts .entry)) (pathList (now (flat .entry)) (now (lengths .entry))) (table (now (s .entry)) order (length (now (flat .entry)))) (now (firsts .exit)) ⌝ }
+{
+    let mut t = 0;
+    let mut key = 0;
+    while key < firsts.len() {
+        t = next_bound(starts, flat, lengths, s, rest, order, top, t, key);
+        firsts[key] = t as u32;
+        key += 1;
+    }
 }
 
 // The bounds of a copy's node, and the slots of the copies before it.
@@ -94,24 +117,13 @@ pub(crate) struct Four {
 }
 
 // The bounds of a node, with the slots that stand before.
-pub(crate) fn around(
-    starts: &[u32],
-    flat: &[u32],
-    lengths: &[u32],
-    s: &[u32],
-    rest: usize,
-    order: usize,
-    top: usize,
-    v: u32,
-    before: u32,
-) -> Four
-    requires { ⌜ Searchable (now starts) (now flat) (now lengths) (now s) rest order top × (length (now flat) ≤ 8192) ⌝ }
-    ensures { λ r. ⌜ Around (now (starts .entry)) (pathList (now (flat .entry)) (now (lengths .entry))) (table (now (s .entry)) order (length (now (flat .entry)))) v (r .low) (r .middle) (r .high) × (r .before ≡ before) ⌝ }
+pub(crate) fn around(firsts: &[u32], v: u32, before: u32) -> Four
+    ensures { λ r. ⌜ (r .low ≡ getD (now (firsts .entry)) (2 * v) 0) × (r .middle ≡ getD (now (firsts .entry)) (2 * v + 1) 0) × (r .high ≡ getD (now (firsts .entry)) (2 * v + 2) 0) × (r .before ≡ before) ⌝ }
 {
     let key = 2 * (v as usize);
-    let low = lower_bound(starts, flat, lengths, s, rest, order, top, key) as u32;
-    let middle = lower_bound(starts, flat, lengths, s, rest, order, top, key + 1) as u32;
-    let high = lower_bound(starts, flat, lengths, s, rest, order, top, key + 2) as u32;
+    let low = at(firsts, key);
+    let middle = at(firsts, key + 1);
+    let high = at(firsts, key + 2);
     Four {
         low,
         middle,
@@ -145,15 +157,16 @@ pub(crate) fn fill_bounds(
     rest: usize,
     order: usize,
     base: usize,
+    firsts: &[u32],
 ) -> u32
-    requires { ⌜ Searchable (now starts) (now flat) (now lengths) (now s) rest order base × Fillable (now flat) (now nodes) (now s) base ⌝ }
+    requires { ⌜ Searchable (now starts) (now flat) (now lengths) (now s) rest order base × Fillable (now flat) (now nodes) (now s) base × Firsts (now starts) (pathList (now flat) (now lengths)) (table (now s) order (length (now flat))) (now firsts) ⌝ }
     ensures { λ r. ⌜ Filled (now (starts .entry)) (now (flat .entry)) (now (lengths .entry)) (now (nodes .entry)) (now (s .entry)) (now (s .exit)) order base r ⌝ }
 {
     let n = nodes.len();
     let mut total: u32 = 0;
     let mut c = 0;
     while c < n {
-        let four = around(starts, flat, lengths, s, rest, order, base, nodes[c], total);
+        let four = around(firsts, nodes[c], total);
         put_four(s, base, n, c, four);
         total = total + (four.middle - four.low + 1);
         c += 1;

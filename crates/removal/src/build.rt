@@ -58,8 +58,29 @@ pub(crate) fn build(
 {
     let l = layout(nodes.len(), gs.len(), flat.len());
     fill_rest(s, l.rest, lengths);
-    fill_tables(starts, flat, lengths, s, l.rest, l.order, l.rank, l.link);
-    let total = fill_bounds(starts, flat, lengths, nodes, s, l.rest, l.order, l.low);
+    let mut firsts = [0u32; 8193];
+    fill_tables(
+        starts,
+        flat,
+        lengths,
+        s,
+        l.rest,
+        l.order,
+        l.rank,
+        l.link,
+        &mut firsts,
+    );
+    let total = fill_bounds(
+        starts,
+        flat,
+        lengths,
+        nodes,
+        s,
+        l.rest,
+        l.order,
+        l.low,
+        &firsts,
+    );
     link_edges(s, l.into, l.copies, ge);
     link_named(s, l.out, l.copies, gs, flat, gn);
     clear(s, l.slots, total as usize);

@@ -2,9 +2,12 @@
 ghost use mathlib.Core.Path.{_≡_};
 ghost use Prim.Native.Nat.{_+_, _≤_};
 ghost use lib.ListN.{length};
+ghost use Rattle.timing.specs.Marks.{pathList};
 ghost use Rattle.removal.specs.Table.{table};
+ghost use Rattle.removal.specs.Search.{Firsts};
 ghost use Rattle.removal.specs.Ranks.{Rankable, Ranked, Levels};
 ghost use Rattle.removal.specs.Tails.{Orderable, Tabulated};
+use crate::bounds::fill_firsts;
 use crate::links::fill_links;
 use crate::listed::order_positions;
 use crate::listed::store;
@@ -32,15 +35,28 @@ fn fill_with(
     places: &mut [u32],
     ranks: &mut [u32],
     codes: &mut [u32],
+    firsts: &mut [u32],
 )
     requires { ⌜ Orderable (now starts) (now flat) (now lengths) (now s) rest order rank link ⌝ }
-    requires { ⌜ (length (now places) ≡ length (now flat)) × (length (now ranks) ≡ length (now flat)) × (length (now codes) ≡ length (now flat)) ⌝ }
-    ensures { λ r. ⌜ Tabulated (now (starts .entry)) (now (flat .entry)) (now (s .entry)) (now (s .exit)) rest order rank link ⌝ }
+    requires { ⌜ (length (now places) ≡ length (now flat)) × (length (now ranks) ≡ length (now flat)) × (length (now codes) ≡ length (now flat)) × (length (now firsts) ≡ 8193) ⌝ }
+    ensures { λ r. ⌜ Tabulated (now (starts .entry)) (now (flat .entry)) (now (s .entry)) (now (s .exit)) rest order rank link × Firsts (now (starts .entry)) (pathList (now (flat .entry)) (now (lengths .entry))) (table (now (s .exit)) order (length (now (flat .entry)))) (now (firsts .exit)) ⌝ }
 {
     rank_listed(flat, s, rest, places, ranks);
     order_positions(starts, flat, s, rest, order, codes, ranks);
     store(s, rank, ranks);
-    fill_links(starts, flat, lengths, s, rest, order, rank, link, places);
+    fill_firsts(starts, flat, lengths, s, rest, order, rank, firsts);
+    fill_links(
+        starts,
+        flat,
+        lengths,
+        s,
+        rest,
+        order,
+        rank,
+        link,
+        firsts,
+        places,
+    );
 }
 
 // The three tables.
@@ -53,9 +69,10 @@ pub(crate) fn fill_tables(
     order: usize,
     rank: usize,
     link: usize,
+    firsts: &mut [u32],
 )
-    requires { ⌜ Orderable (now starts) (now flat) (now lengths) (now s) rest order rank link ⌝ }
-    ensures { λ r. ⌜ Tabulated (now (starts .entry)) (now (flat .entry)) (now (s .entry)) (now (s .exit)) rest order rank link ⌝ }
+    requires { ⌜ Orderable (now starts) (now flat) (now lengths) (now s) rest order rank link × (length (now firsts) ≡ 8193) ⌝ }
+    ensures { λ r. ⌜ Tabulated (now (starts .entry)) (now (flat .entry)) (now (s .entry)) (now (s .exit)) rest order rank link × Firsts (now (starts .entry)) (pathList (now (flat .entry)) (now (lengths .entry))) (table (now (s .exit)) order (length (now (flat .entry)))) (now (firsts .exit)) ⌝ }
 {
     let n = flat.len();
     let mut places = [0u32; 8192];
@@ -73,5 +90,6 @@ pub(crate) fn fill_tables(
         &mut places[..n],
         &mut ranks[..n],
         &mut codes[..n],
+        firsts,
     );
 }

@@ -14,100 +14,102 @@ layout-requires c κs =
 fill-rest-requires : tie.Need-fill-rest-requires
 fill-rest-requires c κs =
     let y = c .before in
-    let st = y .before .before .before .before .before .before .before .before .before in
+    let st = c .before .before .before .before .before .before .before .before .before .before in
     let a = st .args in
     let b = st .pre in
     rest-room (b .design) (b .list) (b .graph) (a .starts .now) (a .flat .now) (a .lengths .now) (a .nodes .now) (a .gs .now) (a .ge .now) (a .gn .now) (b .given) (y .layout .result) (y .layout .ensures) (a .s .now) (b .room)
 
+slice-aggregate-fill-tables : tie.Need-slice-aggregate-fill-tables
+slice-aggregate-fill-tables c = search needs
+
 fill-tables-requires : tie.Need-fill-tables-requires
 fill-tables-requires c κs =
-    let f = c .before .before .before in
-    let y = f .before .before in
-    let st = y .before .before .before .before .before .before .before .before .before in
+    let y = c .before .before .before .before .before .before in
+    let f = c .before .before .before .before in
+    let st = c .before .before .before .before .before .before .before .before .before .before .before .before .before .before .before in
     let a = st .args in
     let b = st .pre in
-    orderable (b .design) (b .list) (b .graph) (a .starts .now) (a .flat .now) (a .lengths .now) (a .nodes .now) (a .gs .now) (a .ge .now) (a .gn .now) (b .given) (y .layout .result) (y .layout .ensures) (a .s .now) (b .room) (f .fill-rest .last .0) (f .fill-rest .ensures) (b .starts-below)
+    (orderable (b .design) (b .list) (b .graph) (a .starts .now) (a .flat .now) (a .lengths .now) (a .nodes .now) (a .gs .now) (a .ge .now) (a .gn .now) (b .given) (y .layout .result) (y .layout .ensures) (a .s .now) (b .room) (f .fill-rest .last .0) (f .fill-rest .ensures) (b .starts-below), search needs)
+
+slice-aggregate-fill-bounds : tie.Need-slice-aggregate-fill-bounds
+slice-aggregate-fill-bounds c = search needs
 
 fill-bounds-requires : tie.Need-fill-bounds-requires
 fill-bounds-requires c κs =
-    let o = c .before .before .before in
-    let f = o .before .before .before .before in
-    let y = f .before .before in
-    let st = y .before .before .before .before .before .before .before .before .before in
+    let y = c .before .before .before .before .before .before .before .before .before .before .before .before in
+    let f = c .before .before .before .before .before .before .before .before .before .before in
+    let o = c .before .before .before .before .before in
+    let st = c .before .before .before .before .before .before .before .before .before .before .before .before .before .before .before .before .before .before .before .before .before in
     let a = st .args in
-    let b = st .pre in (
-      searchable (b .design) (b .list) (b .graph) (a .starts .now) (a .flat .now) (a .lengths .now) (a .nodes .now) (a .gs .now) (a .ge .now) (a .gn .now) (b .given) (y .layout .result) (y .layout .ensures) (a .s .now) (b .room) (f .fill-rest .last .0) (f .fill-rest .ensures) (o .fill-tables .last .1 .1 .1 .0) (o .fill-tables .ensures),
-      fillable (b .design) (b .list) (b .graph) (a .starts .now) (a .flat .now) (a .lengths .now) (a .nodes .now) (a .gs .now) (a .ge .now) (a .gn .now) (b .given) (y .layout .result) (y .layout .ensures) (a .s .now) (b .room) (f .fill-rest .last .0) (f .fill-rest .ensures) (o .fill-tables .last .1 .1 .1 .0) (o .fill-tables .ensures),
-    )
+    let b = st .pre in
+    (searchable (b .design) (b .list) (b .graph) (a .starts .now) (a .flat .now) (a .lengths .now) (a .nodes .now) (a .gs .now) (a .ge .now) (a .gn .now) (b .given) (y .layout .result) (y .layout .ensures) (a .s .now) (b .room) (f .fill-rest .last .0) (f .fill-rest .ensures) (o .fill-tables .last .1 .1 .1 .0) (o .fill-tables .ensures .0), fillable (b .design) (b .list) (b .graph) (a .starts .now) (a .flat .now) (a .lengths .now) (a .nodes .now) (a .gs .now) (a .ge .now) (a .gn .now) (b .given) (y .layout .result) (y .layout .ensures) (a .s .now) (b .room) (f .fill-rest .last .0) (f .fill-rest .ensures) (o .fill-tables .last .1 .1 .1 .0) (o .fill-tables .ensures .0) (b .nodes-below), o .fill-tables .ensures .1)
 
 link-edges-requires : tie.Need-link-edges-requires
 link-edges-requires c κs =
+    let y = c .before .before .before .before .before .before .before .before .before .before .before .before .before .before .before .before in
+    let f = c .before .before .before .before .before .before .before .before .before .before .before .before .before .before in
+    let o = c .before .before .before .before .before .before .before .before .before in
     let h = c .before .before .before in
-    let o = h .before .before .before .before in
-    let f = o .before .before .before .before in
-    let y = f .before .before in
-    let st = y .before .before .before .before .before .before .before .before .before in
+    let st = c .before .before .before .before .before .before .before .before .before .before .before .before .before .before .before .before .before .before .before .before .before .before .before .before .before in
     let a = st .args in
     let b = st .pre in
-    linkable-into (b .design) (b .list) (b .graph) (a .starts .now) (a .flat .now) (a .lengths .now) (a .nodes .now) (a .gs .now) (a .ge .now) (a .gn .now) (b .given) (y .layout .result) (y .layout .ensures) (a .s .now) (b .room) (f .fill-rest .last .0) (f .fill-rest .ensures) (o .fill-tables .last .1 .1 .1 .0) (o .fill-tables .ensures) (h .fill-bounds .last .1 .1 .1 .1 .0) (h .fill-bounds .result) (h .fill-bounds .ensures)
+    linkable-into (b .design) (b .list) (b .graph) (a .starts .now) (a .flat .now) (a .lengths .now) (a .nodes .now) (a .gs .now) (a .ge .now) (a .gn .now) (b .given) (y .layout .result) (y .layout .ensures) (a .s .now) (b .room) (f .fill-rest .last .0) (f .fill-rest .ensures) (o .fill-tables .last .1 .1 .1 .0) (o .fill-tables .ensures .0) (h .fill-bounds .last .1 .1 .1 .1 .0) (h .fill-bounds .result) (h .fill-bounds .ensures)
 
 link-named-requires : tie.Need-link-named-requires
 link-named-requires c κs =
+    let y = c .before .before .before .before .before .before .before .before .before .before .before .before .before .before .before .before .before .before .before .before in
+    let f = c .before .before .before .before .before .before .before .before .before .before .before .before .before .before .before .before .before .before in
+    let o = c .before .before .before .before .before .before .before .before .before .before .before .before .before in
+    let h = c .before .before .before .before .before .before .before in
     let i = c .before .before .before in
-    let h = i .before .before .before .before in
-    let o = h .before .before .before .before in
-    let f = o .before .before .before .before in
-    let y = f .before .before in
-    let st = y .before .before .before .before .before .before .before .before .before in
+    let st = c .before .before .before .before .before .before .before .before .before .before .before .before .before .before .before .before .before .before .before .before .before .before .before .before .before .before .before .before .before in
     let a = st .args in
-    let b = st .pre in (
-      linkable-out (b .design) (b .list) (b .graph) (a .starts .now) (a .flat .now) (a .lengths .now) (a .nodes .now) (a .gs .now) (a .ge .now) (a .gn .now) (b .given) (y .layout .result) (y .layout .ensures) (a .s .now) (b .room) (f .fill-rest .last .0) (f .fill-rest .ensures) (o .fill-tables .last .1 .1 .1 .0) (o .fill-tables .ensures) (h .fill-bounds .last .1 .1 .1 .1 .0) (h .fill-bounds .result) (h .fill-bounds .ensures) (i .link-edges .last .0) (i .link-edges .ensures),
-      named-room (b .design) (b .list) (b .graph) (a .starts .now) (a .flat .now) (a .lengths .now) (a .nodes .now) (a .gs .now) (a .ge .now) (a .gn .now) (b .given) (y .layout .result) (y .layout .ensures) (a .s .now) (b .room) (f .fill-rest .last .0) (f .fill-rest .ensures) (o .fill-tables .last .1 .1 .1 .0) (o .fill-tables .ensures) (h .fill-bounds .last .1 .1 .1 .1 .0) (h .fill-bounds .result) (h .fill-bounds .ensures) (i .link-edges .last .0) (i .link-edges .ensures),
-    )
+    let b = st .pre in
+    (linkable-out (b .design) (b .list) (b .graph) (a .starts .now) (a .flat .now) (a .lengths .now) (a .nodes .now) (a .gs .now) (a .ge .now) (a .gn .now) (b .given) (y .layout .result) (y .layout .ensures) (a .s .now) (b .room) (f .fill-rest .last .0) (f .fill-rest .ensures) (o .fill-tables .last .1 .1 .1 .0) (o .fill-tables .ensures .0) (h .fill-bounds .last .1 .1 .1 .1 .0) (h .fill-bounds .result) (h .fill-bounds .ensures) (i .link-edges .last .0) (i .link-edges .ensures), named-room (b .design) (b .list) (b .graph) (a .starts .now) (a .flat .now) (a .lengths .now) (a .nodes .now) (a .gs .now) (a .ge .now) (a .gn .now) (b .given) (y .layout .result) (y .layout .ensures) (a .s .now) (b .room) (f .fill-rest .last .0) (f .fill-rest .ensures) (o .fill-tables .last .1 .1 .1 .0) (o .fill-tables .ensures .0) (h .fill-bounds .last .1 .1 .1 .1 .0) (h .fill-bounds .result) (h .fill-bounds .ensures) (i .link-edges .last .0) (i .link-edges .ensures))
 
 cast-clear : tie.Need-cast-clear
 cast-clear c = search needs
 
 clear-requires : tie.Need-clear-requires
 clear-requires c κs =
+    let y = c .before .before .before .before .before .before .before .before .before .before .before .before .before .before .before .before .before .before .before .before .before .before .before .before in
+    let f = c .before .before .before .before .before .before .before .before .before .before .before .before .before .before .before .before .before .before .before .before .before .before in
+    let o = c .before .before .before .before .before .before .before .before .before .before .before .before .before .before .before .before .before in
+    let h = c .before .before .before .before .before .before .before .before .before .before .before in
+    let i = c .before .before .before .before .before .before .before in
     let e = c .before .before .before in
-    let i = e .before .before .before .before in
-    let h = i .before .before .before .before in
-    let o = h .before .before .before .before in
-    let f = o .before .before .before .before in
-    let y = f .before .before in
-    let st = y .before .before .before .before .before .before .before .before .before in
+    let st = c .before .before .before .before .before .before .before .before .before .before .before .before .before .before .before .before .before .before .before .before .before .before .before .before .before .before .before .before .before .before .before .before .before in
     let a = st .args in
     let b = st .pre in
-    clear-room (b .design) (b .list) (b .graph) (a .starts .now) (a .flat .now) (a .lengths .now) (a .nodes .now) (a .gs .now) (a .ge .now) (a .gn .now) (b .given) (y .layout .result) (y .layout .ensures) (a .s .now) (b .room) (f .fill-rest .last .0) (f .fill-rest .ensures) (o .fill-tables .last .1 .1 .1 .0) (o .fill-tables .ensures) (h .fill-bounds .last .1 .1 .1 .1 .0) (h .fill-bounds .result) (h .fill-bounds .ensures) (i .link-edges .last .0) (i .link-edges .ensures) (e .link-named .last .0) (e .link-named .ensures)
+    clear-room (b .design) (b .list) (b .graph) (a .starts .now) (a .flat .now) (a .lengths .now) (a .nodes .now) (a .gs .now) (a .ge .now) (a .gn .now) (b .given) (y .layout .result) (y .layout .ensures) (a .s .now) (b .room) (f .fill-rest .last .0) (f .fill-rest .ensures) (o .fill-tables .last .1 .1 .1 .0) (o .fill-tables .ensures .0) (h .fill-bounds .last .1 .1 .1 .1 .0) (h .fill-bounds .result) (h .fill-bounds .ensures) (i .link-edges .last .0) (i .link-edges .ensures) (e .link-named .last .0) (e .link-named .ensures)
 
 same-length : tie.Need-same-length
 same-length c =
+    let y = c .before .before .before .before .before .before .before .before .before .before .before .before .before .before .before .before .before .before .before .before .before .before .before .before .before .before .before in
+    let f = c .before .before .before .before .before .before .before .before .before .before .before .before .before .before .before .before .before .before .before .before .before .before .before .before .before in
+    let o = c .before .before .before .before .before .before .before .before .before .before .before .before .before .before .before .before .before .before .before .before in
+    let h = c .before .before .before .before .before .before .before .before .before .before .before .before .before .before in
+    let i = c .before .before .before .before .before .before .before .before .before .before in
+    let e = c .before .before .before .before .before .before in
     let w = c .before .before in
-    let e = w .before .before .before .before in
-    let i = e .before .before .before .before in
-    let h = i .before .before .before .before in
-    let o = h .before .before .before .before in
-    let f = o .before .before .before .before in
-    let y = f .before .before in
-    let st = y .before .before .before .before .before .before .before .before .before in
+    let st = c .before .before .before .before .before .before .before .before .before .before .before .before .before .before .before .before .before .before .before .before .before .before .before .before .before .before .before .before .before .before .before .before .before .before .before .before in
     let a = st .args in
     let b = st .pre in
-    (built (a .starts .now) (a .flat .now) (a .lengths .now) (a .nodes .now) (a .gs .now) (a .ge .now) (a .gn .now) (a .s .now) (f .fill-rest .last .0) (o .fill-tables .last .1 .1 .1 .0) (h .fill-bounds .last .1 .1 .1 .1 .0) (i .link-edges .last .0) (e .link-named .last .0) (w .clear .last .0) (y .layout .result) (h .fill-bounds .result) b (y .layout .ensures) (f .fill-rest .ensures) (o .fill-tables .ensures) (h .fill-bounds .ensures) (i .link-edges .ensures) (e .link-named .ensures) (w .clear .ensures)) .size
+    (built (a .starts .now) (a .flat .now) (a .lengths .now) (a .nodes .now) (a .gs .now) (a .ge .now) (a .gn .now) (a .s .now) (f .fill-rest .last .0) (o .fill-tables .last .1 .1 .1 .0) (h .fill-bounds .last .1 .1 .1 .1 .0) (i .link-edges .last .0) (e .link-named .last .0) (w .clear .last .0) (y .layout .result) (h .fill-bounds .result) b (y .layout .ensures) (f .fill-rest .ensures) (o .fill-tables .ensures .0) (h .fill-bounds .ensures) (i .link-edges .ensures) (e .link-named .ensures) (w .clear .ensures)) .size
 
 returns : tie.Need-returns
 returns c =
+    let y = c .before .before .before .before .before .before .before .before .before .before .before .before .before .before .before .before .before .before .before .before .before .before .before .before .before .before .before in
+    let f = c .before .before .before .before .before .before .before .before .before .before .before .before .before .before .before .before .before .before .before .before .before .before .before .before .before in
+    let o = c .before .before .before .before .before .before .before .before .before .before .before .before .before .before .before .before .before .before .before .before in
+    let h = c .before .before .before .before .before .before .before .before .before .before .before .before .before .before in
+    let i = c .before .before .before .before .before .before .before .before .before .before in
+    let e = c .before .before .before .before .before .before in
     let w = c .before .before in
-    let e = w .before .before .before .before in
-    let i = e .before .before .before .before in
-    let h = i .before .before .before .before in
-    let o = h .before .before .before .before in
-    let f = o .before .before .before .before in
-    let y = f .before .before in
-    let st = y .before .before .before .before .before .before .before .before .before in
+    let st = c .before .before .before .before .before .before .before .before .before .before .before .before .before .before .before .before .before .before .before .before .before .before .before .before .before .before .before .before .before .before .before .before .before .before .before .before in
     let a = st .args in
     let b = st .pre in
-    built (a .starts .now) (a .flat .now) (a .lengths .now) (a .nodes .now) (a .gs .now) (a .ge .now) (a .gn .now) (a .s .now) (f .fill-rest .last .0) (o .fill-tables .last .1 .1 .1 .0) (h .fill-bounds .last .1 .1 .1 .1 .0) (i .link-edges .last .0) (e .link-named .last .0) (w .clear .last .0) (y .layout .result) (h .fill-bounds .result) b (y .layout .ensures) (f .fill-rest .ensures) (o .fill-tables .ensures) (h .fill-bounds .ensures) (i .link-edges .ensures) (e .link-named .ensures) (w .clear .ensures)
+    built (a .starts .now) (a .flat .now) (a .lengths .now) (a .nodes .now) (a .gs .now) (a .ge .now) (a .gn .now) (a .s .now) (f .fill-rest .last .0) (o .fill-tables .last .1 .1 .1 .0) (h .fill-bounds .last .1 .1 .1 .1 .0) (i .link-edges .last .0) (e .link-named .last .0) (w .clear .last .0) (y .layout .result) (h .fill-bounds .result) b (y .layout .ensures) (f .fill-rest .ensures) (o .fill-tables .ensures .0) (h .fill-bounds .ensures) (i .link-edges .ensures) (e .link-named .ensures) (w .clear .ensures)
 
 pub build-spec : {M : Type 1} → statement M
 build-spec =
@@ -115,7 +117,9 @@ build-spec =
     (tie.spec
     layout-requires
     fill-rest-requires
+    slice-aggregate-fill-tables
     fill-tables-requires
+    slice-aggregate-fill-bounds
     fill-bounds-requires
     link-edges-requires
     link-named-requires
