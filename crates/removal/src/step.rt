@@ -183,7 +183,7 @@ pub(crate) fn step_back(
     requires { ⌜ (low ≤ middle) × (middle ≤ high) ⌝ }
     ensures { λ r. ⌜ StepMeets (now (flat .entry)) (now (s .entry)) rest order low middle high name at len r ⌝ }
 {
-    if longest_fit(
+    let whole = longest_fit(
         flat,
         s,
         rest,
@@ -195,9 +195,8 @@ pub(crate) fn step_back(
         name,
         at,
         len,
-    )
-        != 0
-    {
+    );
+    if whole != 0 {
         return Step::Dead;
     }
     Step::Live(longest_fit(flat, s, rest, order, rank, link, low, middle, name, at, len))
