@@ -2,7 +2,7 @@
 use Prim.Native.Nat.{ℕ, _+_, _-_, _*_, _≤_, _<_}
 use native.Mathlib.Omega.{arith}
 use native.Mathlib.Decide.{decLt, ℕ-discrete}
-use mathlib.Core.Path.{_≡_, sym, _∙_, subst}
+use mathlib.Core.Path.{_≡_, refl, sym, _∙_, ap, subst}
 use mathlib.Core.Bool.{_&&_}
 use mathlib.Core.List.{List, _∷_}
 use lib.Dec.{T, eqb, ltb, lt→ltb, eqb-refl}
@@ -14,7 +14,7 @@ use Rattle.timing.specs.Marks.{PathList}
 use Rattle.theorems.proofs.Lists.{and-intro, or-left, or-right}
 use Rattle.removal.specs.Positions.{headAt, startAt, restAt, tailAt, Ordered}
 use Rattle.removal.specs.Slots.{Bounds, Bounded}
-use Rattle.removal.specs.Search.{ofStarts, codeAt, Lower, Around, Firsts}
+use Rattle.removal.specs.Search.{ofStarts, codeAt, Lower, Around, Firsts, FilledTo}
 use Rattle.removal.proofs.HeadLaws.{head-small}
 
 key-before : (a b x y : ℕ) (xs ys : List ℕ) → x ≤ 1 → y ≤ 1 → 2 * a + x < 2 * b + y → T (before (a ∷ x ∷ xs) (b ∷ y ∷ ys))
@@ -47,42 +47,6 @@ codes-rise starts L order o a b h l = go (ℕ-discrete a b) (decLt (codeAt start
         (head-small (L .lengths) j) (head-small (L .lengths) i) q))
     go (no f) (no g) = omega arith
 
--- lo and hi bracket the bound of a key
-pub record Bracket (starts : List ℕ) (L : PathList) (order : List ℕ) (key lo hi : ℕ) : Type 0 where
-  pub up : lo ≤ hi
-  pub within : hi ≤ length order
-  pub below : (t : ℕ) → t < lo → codeAt starts L (getD order t 0) < key
-  pub above : (t : ℕ) → hi ≤ t → t < length order → key ≤ codeAt starts L (getD order t 0)
-
-module _ (starts : List ℕ) (L : PathList) (order : List ℕ) (key : ℕ) where
-  pub bracket-from : (from n : ℕ) → length order ≡ n → from ≤ n → ((t : ℕ) → t < from → codeAt starts L (getD order t 0) < key) → Bracket starts L order key from n
-  bracket-from from n e h f = record { up = h; within = omega arith; below = f; above = λ t l m. absurd (omega arith) }
-
-  pub bracket-up : (lo hi mid : ℕ) → Ordered (ofStarts starts) L order → Bracket starts L order key lo hi → mid < hi
-      → codeAt starts L (getD order mid 0) < key → Bracket starts L order key (mid + 1) hi
-  bracket-up lo hi mid o b h l = record {
-    up = omega arith;
-    within = b .within;
-    below = λ t q. omega (arith, codes-rise starts L order o t mid (omega arith) (omega (arith, b .within)));
-    above = b .above;
-  }
-
-  pub bracket-down : (lo hi mid : ℕ) → Ordered (ofStarts starts) L order → Bracket starts L order key lo hi → lo ≤ mid → mid < hi
-      → key ≤ codeAt starts L (getD order mid 0) → Bracket starts L order key lo mid
-  bracket-down lo hi mid o b h m l = record {
-    up = h;
-    within = omega (arith, b .within);
-    below = b .below;
-    above = λ t q r. omega (arith, codes-rise starts L order o mid t q r);
-  }
-
-  pub bracket-met : (lo hi : ℕ) → Bracket starts L order key lo hi → hi ≤ lo → Lower starts L order key lo
-  bracket-met lo hi b h = record {
-    within = omega (arith, b .up, b .within);
-    below = b .below;
-    above = λ t q l. b .above t (omega arith) l;
-  }
-
 pub lower-le : (starts : List ℕ) (L : PathList) (order : List ℕ) (k l a b : ℕ) → k ≤ l → Lower starts L order k a → Lower starts L order l b → a ≤ b
 lower-le starts L order k l a b h x y = go (decLt b a)
   where
@@ -114,6 +78,36 @@ around-read starts L order firsts v low middle high h f x y z = record {
   highs = subst (Lower starts L order (2 * v + 2)) (sym z) (f .bounds (2 * v + 2) (omega arith));
 }
 
+-- filling words one after the other
+pub filled-start : (t : List ℕ) (from v : ℕ) → FilledTo t t from from v from
+filled-start t from v = record { size = refl; inside = λ k h l. absurd (omega arith); outside = λ k f. refl; least = omega arith; past = omega arith; next = λ h. refl }
+
+pub filled-more : (t u : List ℕ) (from v k : ℕ) → k < length t → FilledTo t u from k v k → FilledTo t (set u k v) from (k + 1) v (k + 1)
+filled-more t u from v k h f = record {
+  size = length-set u k v ∙ f .size;
+  inside = λ j l m. elim (ℕ-discrete j k) [
+    | yes e ↦ ap (λ (i : ℕ). getD (set u k v) i 0) e ∙ getD-set-same u k v 0 (omega (arith, f .size))
+    | no g ↦ getD-set-other u k j v 0 g ∙ f .inside j l (omega arith)
+  ];
+  outside = λ j g. elim (ℕ-discrete j k) [
+    | yes e ↦ absurd (g (omega (arith, f .least)) (omega arith))
+    | no n ↦ getD-set-other u k j v 0 n ∙ f .outside j (λ l m. g l (omega arith))
+  ];
+  least = omega (arith, f .least);
+  past = omega arith;
+  next = λ l. refl;
+}
+
+pub filled-end : (t u : List ℕ) (from to v k : ℕ) → to ≤ k → (from < k → k ≤ to) → FilledTo t u from k v k → FilledTo t u from to v k
+filled-end t u from to v k h m f = record {
+  size = f .size;
+  inside = λ j l n. f .inside j l (omega arith);
+  outside = λ j g. f .outside j (λ l n. g l (omega (arith, m (omega arith))));
+  least = f .least;
+  past = h;
+  next = λ l. omega (arith, m l);
+}
+
 -- the table up to a key, with t places below the keys so far
 pub record FirstsTo (starts : List ℕ) (L : PathList) (order firsts : List ℕ) (t key : ℕ) : Type 0 where
   pub size : length firsts ≡ 8193
@@ -125,22 +119,42 @@ module _ (starts : List ℕ) (L : PathList) (order firsts : List ℕ) where
   pub firsts-start : length firsts ≡ 8193 → FirstsTo starts L order firsts 0 0
   firsts-start e = record { size = e; inside = omega arith; below = λ i h. absurd (omega arith); bounds = λ k h. absurd (omega arith) }
 
-  pub firsts-next : (t key r : ℕ) → key < 8193 → FirstsTo starts L order firsts t key → Lower starts L order key r → FirstsTo starts L order (set firsts key r) r (key + 1)
-  firsts-next t key r h f w = record {
-    size = length-set firsts key r ∙ f .size;
-    inside = w .within;
-    below = λ i l. omega (arith, w .below i l);
-    bounds = λ k l. go k l (ℕ-discrete k key);
+  -- the words up to the code of place t are t, where they are not there yet
+  pub firsts-next : (u : List ℕ) (t key c r : ℕ) → Ordered (ofStarts starts) L order → t < length order → c ≡ codeAt starts L (getD order t 0) → FirstsTo starts L order firsts t key
+      → FilledTo firsts u key (c + 1) t r → FirstsTo starts L order u (t + 1) r
+  firsts-next u t key c r o h e f w = record {
+    size = w .size ∙ f .size;
+    inside = omega arith;
+    below = λ i l. under i l (ℕ-discrete i t);
+    bounds = λ k l. go k l (decLt k key);
   }
     where
-      go : (k : ℕ) → k < key + 1 → Dec (k ≡ key) → Lower starts L order k (getD (set firsts key r) k 0)
-      go k l (yes e) =
-          subst (λ (x : ℕ). Lower starts L order x (getD (set firsts key r) x 0)) (sym e)
-          (subst (Lower starts L order key) (sym (getD-set-same firsts key r 0 (omega (arith, f .size)))) w)
-      go k l (no g) = subst (Lower starts L order k) (sym (getD-set-other firsts key k r 0 g)) (f .bounds k (omega arith))
+      under : (i : ℕ) → i < t + 1 → Dec (i ≡ t) → codeAt starts L (getD order i 0) < r
+      under i l (yes q) = omega (arith, ap (λ (j : ℕ). codeAt starts L (getD order j 0)) q, w .past)
+      under i l (no g) = omega (arith, f .below i (omega arith), w .least)
 
-  pub firsts-done : (t key : ℕ) → 8193 ≤ key → FirstsTo starts L order firsts t key → Firsts starts L order firsts
-  firsts-done t key h f = record { size = f .size; bounds = λ k l. f .bounds k (omega arith) }
+      go : (k : ℕ) → k < r → Dec (k < key) → Lower starts L order k (getD u k 0)
+      go k l (yes q) = subst (Lower starts L order k) (sym (w .outside k (λ m n. omega arith))) (f .bounds k q)
+      go k l (no g) =
+          let m : k < c + 1 = omega (arith, w .next (omega arith)) in
+          subst (Lower starts L order k) (sym (w .inside k (omega arith) m)) (record {
+            within = omega arith;
+            below = λ i q. omega (arith, f .below i q);
+            above = λ i q n. omega (arith, codes-rise starts L order o t i q n);
+          })
+
+  -- and the words after the last code are the number of all places
+  pub firsts-done : (u : List ℕ) (t key r : ℕ) → length order ≤ t → FirstsTo starts L order firsts t key → FilledTo firsts u key 8193 t r → Firsts starts L order u
+  firsts-done u t key r h f w = record { size = w .size ∙ f .size; bounds = λ k l. go k l (decLt k key) }
+    where
+      go : (k : ℕ) → k < 8193 → Dec (k < key) → Lower starts L order k (getD u k 0)
+      go k l (yes q) = subst (Lower starts L order k) (sym (w .outside k (λ m n. omega arith))) (f .bounds k q)
+      go k l (no g) =
+          subst (Lower starts L order k) (sym (w .inside k (omega arith) l)) (record {
+            within = f .inside;
+            below = λ i q. omega (arith, f .below i q);
+            above = λ i q n. absurd (omega arith);
+          })
 
 pub around-bounded : (D : Design) (L : PathList) (G : Graph) (order : List ℕ) (B : Bounds) (c : ℕ)
     → Around (D .starts) L order (nodeOf G c) (B .low c) (B .middle c) (B .high c) → Bounded D L G order B c

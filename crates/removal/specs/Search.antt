@@ -47,6 +47,15 @@ pub record Firsts (starts : List ℕ) (L : PathList) (order firsts : List ℕ) :
   pub size : length firsts ≡ 8193
   pub bounds : (key : ℕ) → key < 8193 → Lower starts L order key (getD firsts key 0)
 
+-- the words from `from` on and before `to` are v, the others are as they were, and r is where the next ones start
+pub record FilledTo (t u : List ℕ) (from to v r : ℕ) : Type 0 where
+  pub size : length u ≡ length t
+  pub inside : (k : ℕ) → from ≤ k → k < to → getD u k 0 ≡ v
+  pub outside : (k : ℕ) → (from ≤ k → k < to → ⊥) → getD u k 0 ≡ getD t k 0
+  pub least : from ≤ r
+  pub past : to ≤ r
+  pub next : from < r → r ≡ to
+
 -- the bounds that three tables of n words hold
 abbrev pub boundsIn : List ℕ → List ℕ → List ℕ → Bounds
 boundsIn lows middles highs = record { low = λ c. getD lows c 0; middle = λ c. getD middles c 0; high = λ c. getD highs c 0 }

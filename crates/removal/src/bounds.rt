@@ -5,7 +5,7 @@ ghost use lib.ListN.{length, getD};
 ghost use Rattle.timing.specs.Marks.{pathList};
 ghost use Rattle.removal.specs.Table.{table};
 ghost use Rattle.removal.specs.Positions.{headIn};
-ghost use Rattle.removal.specs.Search.{codeAt, Searchable, Lower, Firsts, putFour, Fillable, Filled};
+ghost use Rattle.removal.specs.Search.{codeAt, Searchable, Firsts, FilledTo, putFour, Fillable, Filled};
 
 // What stands at i, and 0 past the end.
 fn at(s: &[u32], i: usize) -> u32
@@ -58,34 +58,21 @@ fn code_at(
     2 * v + head_at(starts, flat, lengths, s, rest, order, top, p)
 }
 
-// How many places of the order have a code below the key; the first `from` have.
-fn next_bound(
-    starts: &[u32],
-    flat: &[u32],
-    lengths: &[u32],
-    s: &[u32],
-    rest: usize,
-    order: usize,
-    top: usize,
-    from: usize,
-    key: usize,
-) -> usize
-    requires { ⌜ Searchable (now starts) (now flat) (now lengths) (now s) rest order top × (from ≤ length (now flat)) ⌝ }
-    requires { ⌜ ((t : ℕ) → t < from → codeAt (now starts) (pathList (now flat) (now lengths)) (getD (table (now s) order (length (now flat))) t 0) < key) ⌝ }
-    ensures { λ r. ⌜ Lower (now (starts .entry)) (pathList (now (flat .entry)) (now (lengths .entry))) (table (now (s .entry)) order (length (now (flat .entry)))) key r ⌝ }
+// Fills the words from `from` on and before `to`; gives where the next words start.
+fn fill_to(firsts: &mut [u32], from: usize, to: usize, v: u32) -> usize
+    requires { ⌜ to ≤ length (now firsts) ⌝ }
+    ensures { λ r. ⌜ FilledTo (now (firsts .entry)) (now (firsts .exit)) from to v r ⌝ }
 {
-    let mut t = from;
-    while t < flat.len() {
-        if key <= code_at(starts, flat, lengths, s, rest, order, top, t) {
-            return t;
-        }
-        t += 1;
+    let mut k = from;
+    while k < to {
+        firsts[k] = v;
+        k += 1;
     }
-    t
+    k
 }
 
-// For each key how many places have a code below it. One pass over the order: the bounds rise with
-// the keys.
+// For each key how many places have a code below it. One pass over the order: the words up to the code of
+// a place that are not there yet are its number.
 pub(crate) fn fill_firsts(
     starts: &[u32],
     flat: &[u32],
@@ -96,16 +83,17 @@ pub(crate) fn fill_firsts(
     top: usize,
     firsts: &mut [u32],
 )
-    requires { ⌜ Searchable (now starts) (now flat) (now lengths) (now s) rest order top × (length (now flat) ≤ 8192) × (length (now firsts) ≡ 8193) ⌝ }
+    requires { ⌜ Searchable (now starts) (now flat) (now lengths) (now s) rest order top × (length (now flat) ≤ 8192) × (length (now firsts) ≡ 8193) × ((k : ℕ) → getD (now starts) k 0 < 4096) ⌝ }
     ensures { λ r. ⌜ Firsts (now (starts .entry)) (pathList (now (flat .entry)) (now (lengths .entry))) (table (now (s .entry)) order (length (now (flat .entry)))) (now (firsts .exit)) ⌝ }
 {
-    let mut t = 0;
     let mut key = 0;
-    while key < firsts.len() {
-        t = next_bound(starts, flat, lengths, s, rest, order, top, t, key);
-        firsts[key] = t as u32;
-        key += 1;
+    let mut t = 0;
+    while t < flat.len() {
+        let code = code_at(starts, flat, lengths, s, rest, order, top, t);
+        key = fill_to(firsts, key, code + 1, t as u32);
+        t += 1;
     }
+    fill_to(firsts, key, 8193, t as u32);
 }
 
 // The bounds of a copy's node, and the slots of the copies before it.

@@ -32,7 +32,7 @@ fill-firsts-requires c κs =
     let r = c .before .before .before .before .before .before .before .before .before .before .before .before .before .before .before .before .before .before .before in
     let b = c .before .before .before .before .before .before .before .before .before .before .before .before .before .before .before .before .before .before .before .before .before .before .before .before .before .before .before .before .before .before .before in
     let a = b .args in
-    (tailed (a .starts .now) (a .flat .now) (a .lengths .now) (a .s .now) (a .rest) (a .order) (a .rank) (a .link) (b .pre .0) (r .rank-listed .last .1 .1 .1 .1 .0) (r .rank-listed .last .1 .1 .1 .0) (o .order-positions .last .1 .1 .0) (w .store .last .0) (r .rank-listed .ensures .0) (r .rank-listed .ensures .1) (o .order-positions .ensures) (w .store .ensures .0) (w .store .ensures .1) .search, b .pre .0 .few, b .pre .1 .3)
+    (tailed (a .starts .now) (a .flat .now) (a .lengths .now) (a .s .now) (a .rest) (a .order) (a .rank) (a .link) (b .pre .0) (r .rank-listed .last .1 .1 .1 .1 .0) (r .rank-listed .last .1 .1 .1 .0) (o .order-positions .last .1 .1 .0) (w .store .last .0) (r .rank-listed .ensures .0) (r .rank-listed .ensures .1) (o .order-positions .ensures) (w .store .ensures .0) (w .store .ensures .1) .search, b .pre .0 .few, b .pre .1 .3, b .pre .0 .starts-below)
 
 fill-links-requires : tie.Need-fill-links-requires
 fill-links-requires c κs =
