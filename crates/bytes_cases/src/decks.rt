@@ -105,7 +105,7 @@ fn read(
     listed: &mut [u32],
     lengths: &mut [u32],
 ) -> DeckRead {
-    let r = deck::read_deck(s, starts, ends, delays, listed, lengths);
+    let r = deck_reader::read_deck(s, starts, ends, delays, listed, lengths);
     let c = say_answer(r);
     say_deck(c, starts, ends, delays, listed, lengths);
     r
@@ -122,7 +122,7 @@ fn write(
     lengths: &[u32],
     room: &mut [u8],
 ) -> Written {
-    let w = deck::write_deck(n, starts, ends, delays, listed, lengths, t, room);
+    let w = deck_writer::write_deck(n, starts, ends, delays, listed, lengths, t, room);
     text(b"write ");
     say::written(w, room);
     w

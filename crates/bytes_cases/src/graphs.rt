@@ -44,7 +44,7 @@ fn say_graph(c: Counts, nodes: &[u32], gs: &[u32], ge: &[u32], gn: &[u32]) {
 }
 
 fn read(s: &[u8], nodes: &mut [u32], gs: &mut [u32], ge: &mut [u32], gn: &mut [u32]) -> GraphMade {
-    let r = graph::read_graph(s, nodes, gs, ge, gn);
+    let r = graph_reader::read_graph(s, nodes, gs, ge, gn);
     let c = say_answer(r);
     say_graph(c, nodes, gs, ge, gn);
     r
@@ -52,7 +52,7 @@ fn read(s: &[u8], nodes: &mut [u32], gs: &mut [u32], ge: &mut [u32], gn: &mut [u
 
 // Writes a graph, and prints the answer.
 fn write(nodes: &[u32], gs: &[u32], ge: &[u32], gn: &[u32], room: &mut [u8]) -> Written {
-    let w = graph::write_graph(nodes, gs, ge, gn, room);
+    let w = graph_writer::write_graph(nodes, gs, ge, gn, room);
     text(b"write ");
     say::written(w, room);
     w
