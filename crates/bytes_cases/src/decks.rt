@@ -139,7 +139,7 @@ fn write_again(
     lengths: &[u32],
     size: usize,
 ) {
-    let mut room = [say::BYTE; 65536];
+    let mut room = say::byte_room();
     let len = least(size, 65536);
     write(
         n,
@@ -330,7 +330,7 @@ fn write_sized(
     listed: &[u32],
     lengths: &[u32],
 ) {
-    let mut room = [say::BYTE; 131072];
+    let mut room = say::deck_room();
     let len = least(q.room as usize, 131072);
     write_and_read(
         q.nodes,

@@ -1,4 +1,9 @@
 -- The place of each part follows from the part before.
+use mathlib.Core.Path.{_∙_, ap}
+use mathlib.Core.List.{map}
+use lib.Seq.{sets}
+use Rattle.timing.specs.Looks.{nextAt}
+use Rattle.graph_reader.specs.Reading.{numbersFrom, numbersEnd, rowsFrom}
 use borrow.Author.Needs.{needs}
 use Rattle.graph_reader.proofs.reader.fill.Statement.{statement}
 use Rattle.graph_reader.proofs.reader.fill.Tie as tie
@@ -28,7 +33,22 @@ same-length-4 : tie.Need-same-length-4
 same-length-4 c = search needs
 
 returns : tie.Need-returns
-returns c = (cc, (cc, (cc, cc)))
+returns c =
+    let rows = c .before .before .before .before .before .before in
+    let place = c .before .before .before .before .before .before .before .before .before .before in
+    let numbers = place .before .before .before in
+    let first = numbers .before .before in
+    let a = first .before .before .before .before .before .before .args in
+    let s = a .s .now in
+    let n = first .next-at .ensures in
+    let at = place .next-at2 .ensures ∙ ap (nextAt s) (numbers .fill-numbers .ensures .0 ∙ ap (numbersEnd s (a .n)) n) in
+    let r = rows .fill-rows .ensures in (
+      numbers .fill-numbers .ensures .1 ∙ (λ i. sets (a .nodes .now) 0 (numbersFrom s (a .n) (n i))),
+      (
+        r .0 ∙ (λ i. sets (a .gs .now) 0 (map (λ q. q .first) (rowsFrom s (a .m) (at i)))),
+        (r .1 .0 ∙ (λ i. sets (a .ge .now) 0 (map (λ q. q .second) (rowsFrom s (a .m) (at i)))), r .1 .1 ∙ (λ i. sets (a .gn .now) 0 (map (λ q. q .third) (rowsFrom s (a .m) (at i))))),
+      ),
+    )
 
 pub fill-spec : {M : Type 1} → statement M
 fill-spec =
