@@ -5,7 +5,7 @@
     python3 tests/against_walker.py --long       ten times as many random cases, from other seeds, and no bound on time
     python3 tests/against_walker.py --stand-in   the reference program of bench/ in place of the library and the deck program
     python3 tests/against_walker.py --try-faults stand-ins with an error put in on purpose, one by one: each must be found
-    also: --seed N, --seconds S, --no-decks, --no-calls
+    also: --seed N, --seconds S, and --only PART: `decks` (the deck program), `fixed` or `random` (the C calls on fixed and on random cases)
 
 The C calls are made by tests/c_runner.c: once built with the address and undefined behaviour sanitizers, guard bytes beside each slice,
 and once more under valgrind, which sees the library's own accesses, each slice an allocation of its own. Where the machine has no
@@ -22,6 +22,7 @@ import shutil
 import struct
 import subprocess
 import sys
+import tempfile
 import time
 
 import decks
@@ -36,6 +37,7 @@ BUILT = HERE / "target" / "against_walker"
 LIBRARY = HERE / "target" / "staticlib" / "libjaqhweni.a"
 PROGRAM = HERE / "target" / "bin" / "deck_program"
 TRUE_GRAPH, REMOVE_FROM_DESIGN, REMOVE_FROM_GRAPH, TIMES = range(4)
+PARTS = ["decks", "fixed", "random"]
 FAULTS = range(1, 13)       # bench/stand_in.c and bench/reference_deck.c
 VALGRIND = ["valgrind", "--quiet", "--error-exitcode=9", "--main-stacksize=33554432", "--max-stackframe=16777216"]
 BATCH, BATCH_BYTES = 400, 1 << 24       # requests to the runner at a time
@@ -243,8 +245,7 @@ def of_deck(rng, data):
 # ---- Running -----------------------------------------------------------------------------------
 
 def build(name, sources, flags):
-    BUILT.mkdir(parents=True, exist_ok=True)
-    made = BUILT / name
+    made = pathlib.Path(tempfile.mkdtemp(dir=BUILT)) / name     # its own folder: two parts may be run at a time
     command = ["cc", "-std=c11", "-g", "-O1", "-Wall", "-Wextra", "-Werror", "-I", str(HERE / "include"), *flags,
                *(str(source) for source in sources), "-o", str(made)]
     return made, subprocess.run(command, stdout=subprocess.PIPE, stderr=subprocess.STDOUT, text=True)
@@ -318,15 +319,18 @@ def plan(options, count):
     """All that is run: (kind, request) or (None, (deck, what must be printed)). Random cases end when the time is over."""
     over = time.monotonic() + options.seconds
     rng = random.Random(options.seed)
-    if not options.no_calls:
+    parts = [options.only] if options.only else PARTS
+    if "fixed" in parts:
         for cases in (of_removal_cases, of_unfit_graphs, rooms_above_the_limits, at_the_limits):
             yield from cases()
+    if parts == ["fixed"]:
+        return
     for number, data in enumerate(decks.deck_files(options.seed, count)):
         if time.monotonic() > over:
             return
-        if not options.no_decks:
+        if "decks" in parts:
             yield None, (data, walker.deck_program(data).encode())
-        if not options.no_calls:
+        if "random" in parts:
             yield from of_deck(rng, data)
             if number % 4 == 0:
                 yield from random_series(rng)
@@ -366,8 +370,9 @@ def try_faults(options):
 
 def main():
     parser = argparse.ArgumentParser()
-    for flag in ("--long", "--stand-in", "--try-faults", "--no-decks", "--no-calls"):
+    for flag in ("--long", "--stand-in", "--try-faults"):
         parser.add_argument(flag, action="store_true")
+    parser.add_argument("--only", choices=PARTS)
     parser.add_argument("--seed", type=int, default=9)
     parser.add_argument("--seconds", type=float, default=None)
     options = parser.parse_args()
@@ -375,14 +380,15 @@ def main():
         options.seed = 90
     if options.seconds is None:
         options.seconds = 10 ** 6 if options.long else 90
+    BUILT.mkdir(parents=True, exist_ok=True)
     if options.try_faults:
         try_faults(options)
         return
     library, program = (None, build_stand_in_program(0)) if options.stand_in else (LIBRARY, PROGRAM)
-    for needed in [] if options.stand_in else [PROGRAM] * (not options.no_decks) + [LIBRARY] * (not options.no_calls):
+    for needed in [] if options.stand_in else [PROGRAM] * (options.only in (None, "decks")) + [LIBRARY] * (options.only != "decks"):
         if not needed.exists():
             sys.exit("against_walker: %s is not built" % needed)
-    used = [] if options.no_calls else runners(library)
+    used = [] if options.only == "decks" else runners(library)
     try:
         ran = compare(plan(options, 40000 if options.long else 4000), [command for command, _ in used], program)
         under = "; C calls under " + ", and under ".join(checks for _, checks in used) if used else ""
