@@ -23,18 +23,7 @@ int64_t jaqhweni_true_graph(const uint8_t *deck, size_t deck_length, uint8_t *ro
     return made;
 }
 
-int64_t jaqhweni_remove_from_design(
-    uint32_t n,
-    const uint32_t *starts, size_t starts_length,
-    const uint32_t *ends, size_t ends_length,
-    const int32_t *delays, size_t delays_length,
-    const uint32_t *listed, size_t listed_length,
-    const uint32_t *lengths, size_t lengths_length,
-    uint32_t *nodes, size_t nodes_length,
-    uint32_t *from, size_t from_length,
-    uint32_t *to, size_t to_length,
-    uint32_t *via, size_t via_length,
-    uint32_t *scratch, size_t scratch_length)
+int64_t jaqhweni_remove_from_design(DESIGN_PARAMETERS, LIST_PARAMETERS, ROOM_PARAMETERS)
 {
     int64_t made = reference_remove_from_design(DESIGN_SLICES, LIST_SLICES, GRAPH_SLICES, scratch, scratch_length);
     if (FAULT == 4 && made == -31) memset(scratch, 0, scratch_length * sizeof *scratch);    /* clears where it must not */
@@ -49,22 +38,7 @@ int64_t jaqhweni_remove_from_design(
     return made;
 }
 
-int64_t jaqhweni_remove_from_graph(
-    uint32_t n,
-    const uint32_t *starts, size_t starts_length,
-    const uint32_t *ends, size_t ends_length,
-    const int32_t *delays, size_t delays_length,
-    const uint32_t *listed, size_t listed_length,
-    const uint32_t *lengths, size_t lengths_length,
-    const uint32_t *old_nodes, size_t old_nodes_length,
-    const uint32_t *old_from, size_t old_from_length,
-    const uint32_t *old_to, size_t old_to_length,
-    const uint32_t *old_via, size_t old_via_length,
-    uint32_t *nodes, size_t nodes_length,
-    uint32_t *from, size_t from_length,
-    uint32_t *to, size_t to_length,
-    uint32_t *via, size_t via_length,
-    uint32_t *scratch, size_t scratch_length)
+int64_t jaqhweni_remove_from_graph(DESIGN_PARAMETERS, LIST_PARAMETERS, OLD_PARAMETERS, ROOM_PARAMETERS)
 {
     if (FAULT == 8 && listed_length > 0)                                                    /* cuts on nothing but the first edge's path */
         return reference_remove_from_graph(DESIGN_SLICES, listed, lengths[0], lengths, 1, OLD_SLICES, GRAPH_SLICES, scratch, scratch_length);
@@ -74,19 +48,7 @@ int64_t jaqhweni_remove_from_graph(
     return made;
 }
 
-int64_t jaqhweni_times(
-    uint32_t n,
-    const uint32_t *starts, size_t starts_length,
-    const uint32_t *ends, size_t ends_length,
-    const int32_t *delays, size_t delays_length,
-    uint32_t allowed_time,
-    const uint32_t *nodes, size_t nodes_length,
-    const uint32_t *from, size_t from_length,
-    const uint32_t *to, size_t to_length,
-    const uint32_t *via, size_t via_length,
-    int64_t *arrival, size_t arrival_length,
-    int64_t *required, size_t required_length,
-    int64_t *slack, size_t slack_length)
+int64_t jaqhweni_times(DESIGN_PARAMETERS, uint32_t allowed_time, GRAPH_PARAMETERS, TIME_PARAMETERS)
 {
     int64_t made = reference_times(DESIGN_SLICES, allowed_time, GRAPH_SLICES, arrival, arrival_length, required, required_length,
                                    slack, slack_length);

@@ -1,14 +1,15 @@
 #!/usr/bin/env python3
 """The deck program and the C calls against tests/walker.py, byte for byte, on generated decks, designs and series.
 
-    python3 tests/against_walker.py              target/bin/deck_program and target/staticlib/libjaqhweni.a; at most two minutes
+    python3 tests/against_walker.py              target/bin/deck_program and target/staticlib/libjaqhweni.a; about a minute, at most two
     python3 tests/against_walker.py --long       ten times as many random cases, from other seeds, and no bound on time
-    python3 tests/against_walker.py --valgrind   some of the C calls once more under valgrind, each slice an allocation of its own
     python3 tests/against_walker.py --stand-in   the reference program of bench/ in place of the library and the deck program
     python3 tests/against_walker.py --try-faults stand-ins with an error put in on purpose, one by one: each must be found
-    also: --seed N, --seconds S, --no-decks, --no-calls
+    also: --seed N, --seconds S, and --only PART: `decks` (the deck program), `fixed` or `random` (the C calls on fixed and on random cases)
 
-The C calls are made by tests/c_runner.c, built with the address and undefined behaviour sanitizers, guard bytes beside each slice.
+The C calls are made by tests/c_runner.c: once built with the address and undefined behaviour sanitizers, guard bytes beside each slice,
+and once more under valgrind, which sees the library's own accesses, each slice an allocation of its own. Where the machine has no
+sanitizers the guard bytes alone stand for them, and where it has no valgrind the second run is left out; the last line says what was run.
 Every expected answer, and every word of what was lent, is the walker's. Ends with a line that begins 'against_walker:' and exit
 status 0, or with the first difference and status 1.
 """
@@ -17,9 +18,11 @@ import array
 import itertools
 import pathlib
 import random
+import shutil
 import struct
 import subprocess
 import sys
+import tempfile
 import time
 
 import decks
@@ -34,7 +37,9 @@ BUILT = HERE / "target" / "against_walker"
 LIBRARY = HERE / "target" / "staticlib" / "libjaqhweni.a"
 PROGRAM = HERE / "target" / "bin" / "deck_program"
 TRUE_GRAPH, REMOVE_FROM_DESIGN, REMOVE_FROM_GRAPH, TIMES = range(4)
+PARTS = ["decks", "fixed", "random"]
 FAULTS = range(1, 13)       # bench/stand_in.c and bench/reference_deck.c
+VALGRIND = ["valgrind", "--quiet", "--error-exitcode=9", "--main-stacksize=33554432", "--max-stackframe=16777216"]
 BATCH, BATCH_BYTES = 400, 1 << 24       # requests to the runner at a time
 
 
@@ -240,26 +245,33 @@ def of_deck(rng, data):
 # ---- Running -----------------------------------------------------------------------------------
 
 def build(name, sources, flags):
-    BUILT.mkdir(parents=True, exist_ok=True)
-    made = BUILT / name
+    made = pathlib.Path(tempfile.mkdtemp(dir=BUILT)) / name     # its own folder: two parts may be run at a time
     command = ["cc", "-std=c11", "-g", "-O1", "-Wall", "-Wextra", "-Werror", "-I", str(HERE / "include"), *flags,
                *(str(source) for source in sources), "-o", str(made)]
     return made, subprocess.run(command, stdout=subprocess.PIPE, stderr=subprocess.STDOUT, text=True)
 
 
 def build_runner(library, sanitized, fault=0):
-    """The runner over the library, or over the reference program where library is None."""
+    """The runner over the library, or over the reference program where library is None, and in words how it was built."""
     bench = HERE / "bench"
     sources = [HERE / "tests" / "c_runner.c"] + ([library] if library else [bench / "stand_in.c", bench / "reference.c"])
     flags = ["-DFAULT=%d" % fault] if fault else []
     if sanitized:
         made, run = build("c_runner", sources, flags + ["-fsanitize=address,undefined", "-fno-sanitize-recover=all"])
         if run.returncode == 0:
-            return made
-        print("against_walker: no sanitizers here, built without", file=sys.stderr)
+            return made, "guard bytes and sanitizers"
     made, run = build("c_runner_plain", sources, flags)
     if run.returncode != 0:
         sys.exit("against_walker: c_runner does not build\n" + run.stdout)
+    return made, "guard bytes"
+
+
+def runners(library):
+    """The commands that make the C calls, each with what it runs under in words."""
+    runner, checks = build_runner(library, True)
+    made = [([runner], checks)]
+    if shutil.which("valgrind"):
+        made.append((VALGRIND + [build_runner(library, False)[0], "exact"], "valgrind"))
     return made
 
 
@@ -283,14 +295,17 @@ def first_difference(requests, found):
     return "%d bytes too many" % (len(found) - at)
 
 
-def run_calls(command, requests):
+def run_calls(commands, requests):
     if not requests:
         return
-    run = subprocess.run(command, input=b"".join(request.sent for request in requests), capture_output=True)
-    if run.stdout != b"".join(request.expected for request in requests):
-        raise Differs("C calls: " + first_difference(requests, run.stdout) + "\n" + run.stderr.decode(errors="replace")[:3000])
-    if run.returncode != 0:
-        raise Differs("C calls: the runner's exit status is %d\n%s" % (run.returncode, run.stderr.decode(errors="replace")[:3000]))
+    sent, expected = (b"".join(parts) for parts in zip(*((request.sent, request.expected) for request in requests)))
+    for command in commands:
+        run = subprocess.run(command, input=sent, capture_output=True)
+        said = run.stderr.decode(errors="replace")[:3000]
+        if run.stdout != expected:
+            raise Differs("C calls: " + first_difference(requests, run.stdout) + "\n" + said)
+        if run.returncode != 0:
+            raise Differs("C calls: the exit status of %s is %d\n%s" % (command[0], run.returncode, said))
 
 
 def run_program(program, data, must_be):
@@ -304,21 +319,24 @@ def plan(options, count):
     """All that is run: (kind, request) or (None, (deck, what must be printed)). Random cases end when the time is over."""
     over = time.monotonic() + options.seconds
     rng = random.Random(options.seed)
-    if not options.no_calls:
+    parts = [options.only] if options.only else PARTS
+    if "fixed" in parts:
         for cases in (of_removal_cases, of_unfit_graphs, rooms_above_the_limits, at_the_limits):
             yield from cases()
+    if parts == ["fixed"]:
+        return
     for number, data in enumerate(decks.deck_files(options.seed, count)):
         if time.monotonic() > over:
             return
-        if not options.no_decks:
+        if "decks" in parts:
             yield None, (data, walker.deck_program(data).encode())
-        if not options.no_calls:
+        if "random" in parts:
             yield from of_deck(rng, data)
             if number % 4 == 0:
                 yield from random_series(rng)
 
 
-def compare(planned, runner_command, program):
+def compare(planned, commands, program):
     """Runs what is planned, C calls some hundred at a time; returns in words what was run."""
     counts, waiting, size = {}, [], 0
     for kind, case in planned:
@@ -330,18 +348,18 @@ def compare(planned, runner_command, program):
         waiting.append(case)
         size += len(case.sent) + len(case.expected)
         if len(waiting) == BATCH or size > BATCH_BYTES:
-            run_calls(runner_command, waiting)
+            run_calls(commands, waiting)
             waiting, size = [], 0
-    run_calls(runner_command, waiting)
+    run_calls(commands, waiting)
     return ", ".join("%s: %d" % item for item in counts.items())
 
 
 def try_faults(options):
     planned, missed = list(plan(options, 600)), []
     for fault in FAULTS:
-        runner, program = build_runner(None, True, fault), build_stand_in_program(fault)
+        (runner, _), program = build_runner(None, True, fault), build_stand_in_program(fault)
         try:
-            print("fault %d: NOT FOUND (%s)" % (fault, compare(planned, [runner], program)), flush=True)
+            print("fault %d: NOT FOUND (%s)" % (fault, compare(planned, [[runner]], program)), flush=True)
             missed.append(fault)
         except Differs as differs:
             print("fault %d: found: %s" % (fault, str(differs).splitlines()[0][:150]), flush=True)
@@ -352,8 +370,9 @@ def try_faults(options):
 
 def main():
     parser = argparse.ArgumentParser()
-    for flag in ("--long", "--valgrind", "--stand-in", "--try-faults", "--no-decks", "--no-calls"):
+    for flag in ("--long", "--stand-in", "--try-faults"):
         parser.add_argument(flag, action="store_true")
+    parser.add_argument("--only", choices=PARTS)
     parser.add_argument("--seed", type=int, default=9)
     parser.add_argument("--seconds", type=float, default=None)
     options = parser.parse_args()
@@ -361,20 +380,19 @@ def main():
         options.seed = 90
     if options.seconds is None:
         options.seconds = 10 ** 6 if options.long else 90
+    BUILT.mkdir(parents=True, exist_ok=True)
     if options.try_faults:
         try_faults(options)
         return
     library, program = (None, build_stand_in_program(0)) if options.stand_in else (LIBRARY, PROGRAM)
-    for needed in [] if options.stand_in else [PROGRAM] * (not options.no_decks) + [LIBRARY] * (not options.no_calls):
+    for needed in [] if options.stand_in else [PROGRAM] * (options.only in (None, "decks")) + [LIBRARY] * (options.only != "decks"):
         if not needed.exists():
             sys.exit("against_walker: %s is not built" % needed)
-    runner = None if options.no_calls else build_runner(library, not options.valgrind)
-    command = [runner]
-    if options.valgrind:
-        command = ["valgrind", "--quiet", "--error-exitcode=9", "--main-stacksize=33554432", "--max-stackframe=16777216", runner, "exact"]
+    used = [] if options.only == "decks" else runners(library)
     try:
-        count = 40000 if options.long else 4000
-        print("against_walker: %s; all as the walker says" % compare(plan(options, count), command, program))
+        ran = compare(plan(options, 40000 if options.long else 4000), [command for command, _ in used], program)
+        under = "; C calls under " + ", and under ".join(checks for _, checks in used) if used else ""
+        print("against_walker: %s%s; all as the walker says" % (ran, under))
     except Differs as differs:
         print(differs)
         sys.exit(1)

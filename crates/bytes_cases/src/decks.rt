@@ -105,7 +105,7 @@ fn read(
     listed: &mut [u32],
     lengths: &mut [u32],
 ) -> DeckRead {
-    let r = deck::read_deck(s, starts, ends, delays, listed, lengths);
+    let r = deck_reader::read_deck(s, starts, ends, delays, listed, lengths);
     let c = say_answer(r);
     say_deck(c, starts, ends, delays, listed, lengths);
     r
@@ -122,7 +122,7 @@ fn write(
     lengths: &[u32],
     room: &mut [u8],
 ) -> Written {
-    let w = deck::write_deck(n, starts, ends, delays, listed, lengths, t, room);
+    let w = deck_writer::write_deck(n, starts, ends, delays, listed, lengths, t, room);
     text(b"write ");
     say::written(w, room);
     w
@@ -139,7 +139,7 @@ fn write_again(
     lengths: &[u32],
     size: usize,
 ) {
-    let mut room = [say::BYTE; 65536];
+    let mut room = say::byte_room();
     let len = least(size, 65536);
     write(
         n,
@@ -330,7 +330,7 @@ fn write_sized(
     listed: &[u32],
     lengths: &[u32],
 ) {
-    let mut room = [say::BYTE; 131072];
+    let mut room = say::deck_room();
     let len = least(q.room as usize, 131072);
     write_and_read(
         q.nodes,

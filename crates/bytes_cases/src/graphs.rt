@@ -44,7 +44,7 @@ fn say_graph(c: Counts, nodes: &[u32], gs: &[u32], ge: &[u32], gn: &[u32]) {
 }
 
 fn read(s: &[u8], nodes: &mut [u32], gs: &mut [u32], ge: &mut [u32], gn: &mut [u32]) -> GraphMade {
-    let r = graph::read_graph(s, nodes, gs, ge, gn);
+    let r = graph_reader::read_graph(s, nodes, gs, ge, gn);
     let c = say_answer(r);
     say_graph(c, nodes, gs, ge, gn);
     r
@@ -52,7 +52,7 @@ fn read(s: &[u8], nodes: &mut [u32], gs: &mut [u32], ge: &mut [u32], gn: &mut [u
 
 // Writes a graph, and prints the answer.
 fn write(nodes: &[u32], gs: &[u32], ge: &[u32], gn: &[u32], room: &mut [u8]) -> Written {
-    let w = graph::write_graph(nodes, gs, ge, gn, room);
+    let w = graph_writer::write_graph(nodes, gs, ge, gn, room);
     text(b"write ");
     say::written(w, room);
     w
@@ -60,7 +60,7 @@ fn write(nodes: &[u32], gs: &[u32], ge: &[u32], gn: &[u32], room: &mut [u8]) -> 
 
 // Writes what was read to a room as long as the bytes that were read.
 fn write_again(nodes: &[u32], gs: &[u32], ge: &[u32], gn: &[u32], size: usize) {
-    let mut room = [say::BYTE; 65536];
+    let mut room = say::byte_room();
     let len = least(size, 65536);
     write(nodes, gs, ge, gn, &mut room[..len]);
 }
@@ -112,9 +112,9 @@ fn read_sizes(s: &[u8], at: usize) -> Sizes {
 
 fn read_sized(s: &[u8], q: Sizes) {
     let mut nodes = [say::WORD; 16400];
-    let mut gs = [say::WORD; 65600];
-    let mut ge = [say::WORD; 65600];
-    let mut gn = [say::WORD; 65600];
+    let mut gs = say::edge_table();
+    let mut ge = say::edge_table();
+    let mut gn = say::edge_table();
     let a = least(q.nodes as usize, 16400);
     let b = least(q.gs as usize, 65600);
     let c = least(q.ge as usize, 65600);
@@ -134,9 +134,9 @@ pub(crate) fn read_case(s: &[u8], at: usize) -> usize {
 // Reads what was written, into a room as long as the graph.
 fn read_back(s: &[u8], copies: usize, edges: usize) {
     let mut nodes = [say::WORD; 16400];
-    let mut gs = [say::WORD; 65600];
-    let mut ge = [say::WORD; 65600];
-    let mut gn = [say::WORD; 65600];
+    let mut gs = say::edge_table();
+    let mut ge = say::edge_table();
+    let mut gn = say::edge_table();
     let a = least(copies, 16400);
     let m = least(edges, 65600);
     read(s, &mut nodes[..a], &mut gs[..m], &mut ge[..m], &mut gn[..m]);
@@ -154,7 +154,7 @@ fn write_and_read(nodes: &[u32], gs: &[u32], ge: &[u32], gn: &[u32], room: &mut 
 }
 
 fn write_sized(size: u32, nodes: &[u32], gs: &[u32], ge: &[u32], gn: &[u32]) {
-    let mut room = [say::BYTE; 393216];
+    let mut room = say::graph_room();
     let len = least(size as usize, 393216);
     write_and_read(nodes, gs, ge, gn, &mut room[..len]);
 }
@@ -181,9 +181,9 @@ fn write_fronts(
 // Writes the graph at a place to a room of a size, and answers the place behind the graph.
 fn write_at(s: &[u8], at: usize, size: u32) -> usize {
     let mut nodes = [0u32; 16400];
-    let mut gs = [0u32; 65600];
-    let mut ge = [0u32; 65600];
-    let mut gn = [0u32; 65600];
+    let mut gs = say::edge_table();
+    let mut ge = say::edge_table();
+    let mut gn = say::edge_table();
     let a = fill(s, at, &mut nodes);
     let b = fill(s, a.next, &mut gs);
     let c = fill(s, b.next, &mut ge);

@@ -1,6 +1,8 @@
 // What is printed of the lent slices. Before a call they hold a pattern; how many places hold it
 // afterwards is printed as "kept".
 ghost use Prim.Native.Nat.{_<_};
+ghost use mathlib.Core.Path.{_≡_};
+ghost use lib.ListN.{length};
 use print::refused;
 use print::text;
 use std::num::wrapping_add_u32;
@@ -13,6 +15,32 @@ pub(crate) const DELAY: i32 = -1389548243;
 pub(crate) const BYTE: u8 = 0xA5;
 // Longer slices are printed by a checksum.
 const LONGEST: usize = 24;
+
+// Large tables and rooms, full of the pattern. Each is made in a function of its own, since a proof
+// writes out all elements of an array that its function makes.
+pub(crate) fn edge_table() -> [u32; 65600]
+    ensures { λ r. ⌜ 65600 ≡ length r ⌝ }
+{
+    [WORD; 65600]
+}
+
+pub(crate) fn byte_room() -> [u8; 65536]
+    ensures { λ r. ⌜ 65536 ≡ length r ⌝ }
+{
+    [BYTE; 65536]
+}
+
+pub(crate) fn deck_room() -> [u8; 131072]
+    ensures { λ r. ⌜ 131072 ≡ length r ⌝ }
+{
+    [BYTE; 131072]
+}
+
+pub(crate) fn graph_room() -> [u8; 393216]
+    ensures { λ r. ⌜ 393216 ≡ length r ⌝ }
+{
+    [BYTE; 393216]
+}
 
 fn wide(x: u32) -> u64
     ensures { λ r. ⌜ r < 4294967296 ⌝ }

@@ -208,7 +208,7 @@ fn say_deck(
     lengths: &[u32],
     t: u32,
 ) -> usize {
-    let verdict = design::test_deck(n, starts, ends, delays, listed, lengths, t);
+    let verdict = unfit::test_deck(n, starts, ends, delays, listed, lengths, t);
     if let Verdict::Refused(r) = verdict {
         return put_refused(buf, at, r);
     }
@@ -246,7 +246,7 @@ fn say_read(
     listed: &mut [u32],
     lengths: &mut [u32],
 ) -> usize {
-    let read = deck::read_deck(deck, starts, ends, delays, listed, lengths);
+    let read = deck_reader::read_deck(deck, starts, ends, delays, listed, lengths);
     match read {
         DeckRead::Refused(r) => put_refused(buf, at, r),
         DeckRead::Deck {

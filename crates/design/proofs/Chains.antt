@@ -1,13 +1,8 @@
 -- A chain of tests, as the code has it and as the definitions have it.
-use mathlib.Core.Path.{_≡_, refl, _∙_, ap}
+use mathlib.Core.Path.{_≡_, _∙_, ap}
 use Rattle.timing.specs.declared.Verdict.{Verdict}
-use Rattle.timing.specs.declared.Verdict.the-variants.{Passed, Refused}
 use Rattle.timing.specs.Refusals.{_then_}
-
--- The code passes a verdict on from test to test, the definitions group a chain to the right: it is the same chain.
-pub then-assoc : (a b c : Verdict) → ((a then b) then c) ≡ (a then (b then c))
-then-assoc Passed b c = refl
-then-assoc (Refused r) b c = refl
+use Rattle.timing.proofs.Verdicts.{then-assoc}
 
 pub chain-two : {q r : Verdict} (v a b : Verdict) → q ≡ (v then a) → r ≡ (q then b) → r ≡ (v then (a then b))
 chain-two v a b e f = f ∙ ap (λ (x : Verdict). x then b) e ∙ then-assoc v a b

@@ -1,6 +1,6 @@
-// The tests of unfit input: of a design, of a list of paths against a design, and of T. Each test
-// passes over everything before the next. A step of a chain takes the verdict of the tests before
-// it, and looks at nothing where they refused.
+// The tests of unfit input, of a design and of a list of paths against a design, as steps of a chain.
+// Each test passes over everything before the next. A step takes the verdict of the tests before it,
+// and looks at nothing where they refused.
 ghost use mathlib.Core.Path.{_≡_};
 ghost use mathlib.Core.List.{List};
 ghost use Prim.Native.Nat.{ℕ};
@@ -11,28 +11,17 @@ ghost use Rattle.timing.specs.Refusals.{unless as passedIf};
 ghost use Rattle.timing.specs.Graphs.{design};
 ghost use Rattle.timing.specs.Marks.{pathList};
 ghost use Rattle.timing.specs.Tests.{designSizes, listSizes, designTests, listTests};
-ghost use Rattle.timing.specs.Calls.{testDesign, testList, testDeck};
-use timing::MAX_ALLOWED_TIME;
 use timing::MAX_EDGES;
 use timing::MAX_LISTED_EDGES;
 use timing::MAX_NODES;
 use timing::MAX_PATHS;
 use timing::Verdict;
+use timing::and_unless;
 use timing::same_sizes;
 use timing::unless;
 
 mod edges;
 mod paths;
-
-// A further test whose place is 0.
-pub fn and_unless(before: Verdict, number: u32, fit: bool) -> Verdict
-    ensures { λ r. ⌜ r ≡ (before then passedIf number fit) ⌝ }
-{
-    let Verdict::Passed = before else {
-        return before;
-    };
-    unless(number, fit)
-}
 
 // 30 for the three slices of a design.
 pub fn design_sizes(starts: &[u32], ends: &[u32], delays: &[i32]) -> Verdict
@@ -108,45 +97,4 @@ pub fn and_list_tests(
     let filled = paths::and_filled(counts, listed, lengths);
     let named = paths::and_named(filled, starts.len(), listed, lengths);
     paths::and_joined(named, starts, ends, listed, lengths)
-}
-
-// Tests a design: 30, and 10 to 14.
-pub fn test_design(n: u32, starts: &[u32], ends: &[u32], delays: &[i32]) -> Verdict
-    ensures { λ r. ⌜ r ≡ testDesign (design n (now (starts .entry)) (now (ends .entry)) (now (delays .entry))) ⌝ }
-{
-    let sizes = design_sizes(starts, ends, delays);
-    and_design_tests(sizes, n, starts, ends, delays)
-}
-
-// Tests a design and a list of paths: 30, 10 to 14, and 20 to 24.
-pub fn test_list(
-    n: u32,
-    starts: &[u32],
-    ends: &[u32],
-    delays: &[i32],
-    listed: &[u32],
-    lengths: &[u32],
-) -> Verdict
-    ensures { λ r. ⌜ r ≡ testList (design n (now (starts .entry)) (now (ends .entry)) (now (delays .entry))) (pathList (now (listed .entry)) (now (lengths .entry))) ⌝ }
-{
-    let slices = design_sizes(starts, ends, delays);
-    let sizes = and_list_sizes(slices, listed, lengths);
-    let fit = and_design_tests(sizes, n, starts, ends, delays);
-    and_list_tests(fit, starts, ends, listed, lengths)
-}
-
-// Tests a deck: a design, a list of paths and T.
-pub fn test_deck(
-    n: u32,
-    starts: &[u32],
-    ends: &[u32],
-    delays: &[i32],
-    listed: &[u32],
-    lengths: &[u32],
-    t: u32,
-) -> Verdict
-    ensures { λ r. ⌜ r ≡ testDeck (design n (now (starts .entry)) (now (ends .entry)) (now (delays .entry))) (pathList (now (listed .entry)) (now (lengths .entry))) t ⌝ }
-{
-    let fit = test_list(n, starts, ends, delays, listed, lengths);
-    and_unless(fit, 25, t <= MAX_ALLOWED_TIME)
 }

@@ -13,7 +13,7 @@ use Rattle.timing.specs.Lists.{isNil, anyOf, keep, eachNext, upto}
 use Rattle.timing.specs.Graphs.{design, Edge, edge, Graph, edgesOf, designGraph, edgesIn, edgesOut, startsAt, endsAt}
 use Rattle.timing.specs.WellFormed.{isSource, isSink}
 use Rattle.timing.specs.Calls.{graphSlices, graphOf}
-use Rattle.theorems.proofs.Lists.{and-intro, and-left, and-right, same-test, anyOf-intro, anyOf-elim, getD-mem, length-upto}
+use Rattle.theorems.proofs.Lists.{and-intro, and-left, and-right, same-test, anyOf-intro, anyOf-elim, getD-mem, length-upto, length-edges}
 use Rattle.graph.specs.Passes.{stands, edgeAt}
 use Rattle.graph.proofs.Walk.{any-at, at-any}
 
@@ -46,12 +46,6 @@ module _ {A : Type 0} (d : A) where
       go (x ∷ y ∷ l) f = and-intro (p x y) (eachNext p (y ∷ l)) (f 0 (omega arith)) (go (y ∷ l) (λ i h. f (suc i) (omega arith)))
 
 -- edges from three lists
-pub length-edges : (s t k : List ℕ) → length (edgesOf s t k) ≡ min (length s) (min (length t) (length k))
-length-edges [] t k = omega arith
-length-edges (x ∷ s) [] k = omega arith
-length-edges (x ∷ s) (y ∷ t) [] = omega arith
-length-edges (x ∷ s) (y ∷ t) (z ∷ k) = omega (arith, length-edges s t k)
-
 pub edge-at : (s t k : List ℕ) (j : ℕ) → j < length (edgesOf s t k) → getD (edgesOf s t k) j (edge 0 0 0) ≡ edgeAt s t k j
 edge-at [] t k j h = absurd (omega arith)
 edge-at (x ∷ s) [] k j h = absurd (omega arith)

@@ -1,4 +1,2 @@
 -- What private functions answer. No public contract cites these.
 pub mod Passes
-pub mod Writing
-pub mod Reading

@@ -10,16 +10,10 @@ ghost use Rattle.timing.specs.Graphs.{design, graph, edge};
 ghost use Rattle.timing.specs.WellFormed.{edgeFits, edgeRises, wellFormed};
 ghost use Rattle.timing.specs.Refusals.{_then_};
 ghost use Rattle.timing.specs.Tests.{nodeCount, graphTest};
-ghost use Rattle.timing.specs.GraphBytes.{packedGraph};
-ghost use Rattle.timing.specs.Calls.{graphSlices, graphOf, writing, roomAfterWriting, graphWriteTests, roomOf, graphRead, graphAnswer, nodesAfter, startsAfter, endsAfter, namesAfter};
+ghost use Rattle.timing.specs.Calls.{graphSlices, graphOf};
 ghost use Rattle.graph.specs.Passes.{Marked, stands, flag, edgePasses, follows, joined, copyPasses};
-use timing::GraphMade;
 use timing::Verdict;
-use timing::Written;
 use timing::number_at;
-
-mod reader;
-mod writer;
 
 fn both(a: bool, b: bool) -> bool
     ensures { λ r. ⌜ r ≡ (a && b) ⌝ }
@@ -286,54 +280,4 @@ pub fn and_graph_test(
         return v;
     };
     graph_test(n, starts, ends, nodes, gs, ge, gn)
-}
-
-// Writes a packed true graph at the front of the room, or refuses and leaves the room as it is.
-pub fn write_graph(nodes: &[u32], gs: &[u32], ge: &[u32], gn: &[u32], room: &mut [u8]) -> Written
-    ensures { λ r. ⌜ r ≡ writing (graphWriteTests (graphSlices (now (nodes .entry)) (now (gs .entry)) (now (ge .entry)) (now (gn .entry)))) (now (room .entry)) (packedGraph (graphOf (graphSlices (now (nodes .entry)) (now (gs .entry)) (now (ge .entry)) (now (gn .entry))))) ⌝ }
-    ensures { λ r. ⌜ now (room .exit) ≡ roomAfterWriting (graphWriteTests (graphSlices (now (nodes .entry)) (now (gs .entry)) (now (ge .entry)) (now (gn .entry)))) (now (room .entry)) (packedGraph (graphOf (graphSlices (now (nodes .entry)) (now (gs .entry)) (now (ge .entry)) (now (gn .entry))))) ⌝ }
-{
-    let v = writer::write_tests(nodes.len(), gs.len(), ge.len(), gn.len());
-    match v {
-        Verdict::Refused(r) => {
-            return Written::Refused(r);
-        }
-        Verdict::Passed => {}
-    }
-    let size = writer::graph_size(nodes, gs, ge, gn);
-    if room.len() < size {
-        return Written::Refused(timing::refuse(35, 0));
-    }
-    writer::write_all(nodes, gs, ge, gn, room)
-}
-
-// Reads a packed true graph into the room, or refuses and leaves the room as it is.
-pub fn read_graph(
-    s: &[u8],
-    nodes: &mut [u32],
-    gs: &mut [u32],
-    ge: &mut [u32],
-    gn: &mut [u32],
-) -> GraphMade
-    ensures { λ r. ⌜ r ≡ graphAnswer (graphRead (now (s .entry)) (roomOf (graphSlices (now (nodes .entry)) (now (gs .entry)) (now (ge .entry)) (now (gn .entry))))) ⌝ }
-    ensures { λ r. ⌜ now (nodes .exit) ≡ nodesAfter (graphRead (now (s .entry)) (roomOf (graphSlices (now (nodes .entry)) (now (gs .entry)) (now (ge .entry)) (now (gn .entry))))) (now (nodes .entry)) ⌝ }
-    ensures { λ r. ⌜ now (gs .exit) ≡ startsAfter (graphRead (now (s .entry)) (roomOf (graphSlices (now (nodes .entry)) (now (gs .entry)) (now (ge .entry)) (now (gn .entry))))) (now (gs .entry)) ⌝ }
-    ensures { λ r. ⌜ now (ge .exit) ≡ endsAfter (graphRead (now (s .entry)) (roomOf (graphSlices (now (nodes .entry)) (now (gs .entry)) (now (ge .entry)) (now (gn .entry))))) (now (ge .entry)) ⌝ }
-    ensures { λ r. ⌜ now (gn .exit) ≡ namesAfter (graphRead (now (s .entry)) (roomOf (graphSlices (now (nodes .entry)) (now (gs .entry)) (now (ge .entry)) (now (gn .entry))))) (now (gn .entry)) ⌝ }
-{
-    let v = timing::same_sizes(gs.len(), ge.len(), gn.len());
-    match v {
-        Verdict::Refused(r) => {
-            return GraphMade::Refused(r);
-        }
-        Verdict::Passed => {}
-    }
-    let g = reader::look(s, nodes.len(), gs.len());
-    match g {
-        GraphMade::Counts { copies, edges } => {
-            reader::fill(s, copies, edges, nodes, gs, ge, gn);
-            GraphMade::Counts { copies, edges }
-        }
-        GraphMade::Refused(r) => GraphMade::Refused(r),
-    }
 }

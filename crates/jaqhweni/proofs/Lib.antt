@@ -1,6 +1,2 @@
--- Every refusal and every count fits one number of 64 bits.
-pub mod Small
-pub mod DeckLaws
-pub mod ReadLaws
-pub mod ProgramLaws
+-- The number that the call on a deck answers.
 pub mod SmallProgram

@@ -22,10 +22,10 @@ use Rattle.timing.specs.Parsing.{Parsed, found, stopped}
 use Rattle.timing.specs.Decks.{Deck, readDeck}
 use Rattle.timing.specs.GraphBytes.{packedGraph}
 use Rattle.timing.specs.Calls.{Outcome, outcome, removal, removalTests, testDeck, parsed, programTables, programRoom, programRemoval, programFrom, program, cWritten, cNumber, cCall, roomAfterC, cRoom}
-use Rattle.jaqhweni.specs.Small.{SmallRefusal, SmallWritten, Small}
-use Rattle.jaqhweni.proofs.Small.{small-then, small-unless, small-sizes, small-list-sizes, small-design, small-list, small-scratch}
-use Rattle.jaqhweni.proofs.ReadLaws.{Within, within-deck}
-use Rattle.jaqhweni.proofs.ProgramLaws.{program-long, program-short}
+use Rattle.true_graph.specs.Small.{SmallRefusal, SmallWritten, Small}
+use Rattle.true_graph.proofs.Small.{small-then, small-unless, small-sizes, small-list-sizes, small-design, small-list, small-scratch}
+use Rattle.true_graph.proofs.ReadLaws.{Within, within-deck}
+use Rattle.true_graph.proofs.ProgramLaws.{program-long, program-short}
 
 small-room : (R : Room) (H : Graph) → Small (roomTests R H)
 unfolding roomTests

@@ -6,11 +6,8 @@ ghost use lib.IntN.{pos, negℤ};
 ghost use lib.ListN.{length};
 ghost use Rattle.timing.specs.Graphs.{design};
 ghost use Rattle.timing.specs.Calls.{graphSlices, lentRemoval, removeFromDesign, removeFromGraph, graphAnswer, nodesAfter, startsAfter, endsAfter, namesAfter, scratchAfter, testTimes, arrivalsAfter, requiredsAfter, slacksAfter, cNumber, cCall, cRoom};
-ghost use Rattle.jaqhweni.specs.Numbers.{refusalNumber, graphNumber, verdictNumber};
-ghost use Rattle.jaqhweni.specs.Small.{SmallRefusal, SmallGraph, SmallWritten, Small};
-
-mod true_graph;
-
+ghost use Rattle.timing.specs.Calls.{refusalNumber, graphNumber, verdictNumber};
+ghost use Rattle.true_graph.specs.Small.{SmallRefusal, SmallGraph, SmallWritten, Small};
 use timing::GraphMade;
 use timing::Refusal;
 use timing::Verdict;

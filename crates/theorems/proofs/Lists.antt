@@ -1,5 +1,5 @@
 -- Tests as statements, and membership in what the plain list functions make.
-use Prim.Native.Nat.{ℕ, zero, suc, _+_, _≤_, _<_}
+use Prim.Native.Nat.{ℕ, zero, suc, _+_, _≤_, _<_, min}
 use mathlib.Core.Path.{_≡_, refl, ap, subst}
 use mathlib.Core.Logic.{_⊎_, inl, inr, ⊎-elim}
 use mathlib.Core.Bool.{Bool, true, false, not, cond, _&&_, _||_}
@@ -9,6 +9,7 @@ use native.Mathlib.Decide.{ℕ-discrete}
 use lib.Dec.{T}
 use lib.ListN.{length, getD}
 use Rattle.timing.specs.Lists.{isNil, anyOf, allOf, keep, upto}
+use Rattle.timing.specs.Graphs.{edgesOf}
 
 pub and-intro : (a b : Bool) → T a → T b → T (a && b)
 and-intro true b p q = q
@@ -171,3 +172,10 @@ getD-upto (suc n) i (suc c) d h = omega (arith, getD-upto n (suc i) c d (omega a
 pub none-of-nil : {A : Type 0} (l : List A) (x : A) → T (isNil l) → List·Memᴰ x l → ⊥
 none-of-nil [] x t m = List·Memᴰ·not-nil m
 none-of-nil (y ∷ l) x t m = t
+
+-- three lists make as many edges as the shortest of them has numbers
+pub length-edges : (s t k : List ℕ) → length (edgesOf s t k) ≡ min (length s) (min (length t) (length k))
+length-edges [] t k = omega arith
+length-edges (x ∷ s) [] k = omega arith
+length-edges (x ∷ s) (y ∷ t) [] = omega arith
+length-edges (x ∷ s) (y ∷ t) (z ∷ k) = omega (arith, length-edges s t k)

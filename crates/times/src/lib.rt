@@ -339,7 +339,7 @@ fn times_tests(
         slacks,
     );
     let fit = design::and_design_tests(sizes, n, starts, ends, delays);
-    let within = design::and_unless(fit, 25, allowed <= timing::MAX_ALLOWED_TIME);
+    let within = timing::and_unless(fit, 25, allowed <= timing::MAX_ALLOWED_TIME);
     graph::and_graph_test(within, n, starts, ends, nodes, gs, ge, gn)
 }
 

@@ -267,9 +267,21 @@ cWritten (made G) room = writeAnswer room 0 (packedGraph G)
 cWritten (refused r) room = NotWritten r
 
 -- "one signed 64-bit number: the length, or on a refusal minus the sum of the number and 256 times the place"
+abbrev pub refusalNumber : Refusal → ℤ
+refusalNumber r = negℤ (pos (r .number + 256 * r .place))
+
 abbrev pub cNumber : Written → ℤ
 cNumber (End n) = pos n
-cNumber (NotWritten r) = negℤ (pos (r .number + 256 * r .place))
+cNumber (NotWritten r) = refusalNumber r
+
+-- beyond document 01: a C call over plain arrays answers its counts, as copies + edges · 2^32, or 0
+abbrev pub graphNumber : GraphMade → ℤ
+graphNumber (Counts copies edges) = pos (copies + edges * 4294967296)
+graphNumber (NoGraph r) = refusalNumber r
+
+abbrev pub verdictNumber : Verdict → ℤ
+verdictNumber Passed = pos 0
+verdictNumber (Refused r) = refusalNumber r
 
 unfoldable pub cCall : List ℕ → List ℕ → ℤ
 cCall s room = cNumber (cWritten (program s) room)

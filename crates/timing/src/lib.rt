@@ -55,6 +55,16 @@ pub fn unless(number: u32, fit: bool) -> Verdict
     }
 }
 
+// A further test whose place is 0, after those that gave the verdict.
+pub fn and_unless(before: Verdict, number: u32, fit: bool) -> Verdict
+    ensures { λ r. ⌜ r ≡ (before then passedIf number fit) ⌝ }
+{
+    let Verdict::Passed = before else {
+        return before;
+    };
+    unless(number, fit)
+}
+
 // One test, and the next where it passes.
 pub fn then(first: Verdict, next: Verdict) -> Verdict
     ensures { λ r. ⌜ r ≡ (first then next) ⌝ }

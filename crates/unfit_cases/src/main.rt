@@ -38,7 +38,7 @@ fn case(s: &[u8], at: usize) -> usize {
     let listed_len = d.len;
     let lengths_len = e.len;
     unpack(&codes[..delays_len], &mut delays);
-    say(design::test_deck(
+    say(unfit::test_deck(
         n.value,
         &starts[..starts_len],
         &ends[..ends_len],

@@ -1,4 +1,8 @@
 -- What the calls answer, put together.
+use mathlib.Core.Path.{_∙_}
+use mathlib.Core.Bool.{_&&_}
+use lib.Dec.{ltb}
+use Rattle.graph.specs.Passes.{flag, joined}
 use borrow.Author.Needs.{needs}
 use Rattle.graph.proofs.copy_passes.Statement.{statement}
 use Rattle.graph.proofs.copy_passes.Tie as tie
@@ -43,7 +47,16 @@ both-requires-3 : tie.Need-both-requires-3
 both-requires-3 c κs = search needs
 
 returns : tie.Need-returns
-returns c = cc
+returns c =
+    let out = c .before .before in
+    let inn = out .before .before .before in
+    let first = inn .before .before .before in
+    let v = first .before .before .number-at .ensures in
+    let a = first .before .before .before .before .before .before .before .before .args in
+    let there = first .both .ensures ∙ (λ i. ltb (v i) (a .n) && first .before .node-rises .ensures i) in
+    let entered = inn .has-edge .ensures ∙ (λ i. joined ((inn .before .before .flag-at .ensures ∙ (λ j. flag (a .nin .now) (v j))) i) (inn .before .flag-at2 .ensures i)) in
+    let left = out .has-edge2 .ensures ∙ (λ i. joined ((out .before .before .flag-at3 .ensures ∙ (λ j. flag (a .nout .now) (v j))) i) (out .before .flag-at4 .ensures i)) in
+    c .both3 .ensures ∙ (λ i. (c .before .both2 .ensures ∙ (λ j. there j && entered j)) i && left i)
 
 pub copy-passes-spec : {M : Type 1} → statement M
 copy-passes-spec =

@@ -1,4 +1,8 @@
 -- What the calls answer, put together.
+use mathlib.Core.Path.{_∙_}
+use mathlib.Core.Bool.{_&&_}
+use lib.Dec.{ltb, eqb}
+use lib.ListN.{length}
 use borrow.Author.Needs.{needs}
 use Rattle.graph.proofs.edge_fits.Statement.{statement}
 use Rattle.graph.proofs.edge_fits.Tie as tie
@@ -28,7 +32,13 @@ both-requires-4 : tie.Need-both-requires-4
 both-requires-4 c κs = search needs
 
 returns : tie.Need-returns
-returns c = cc
+returns c =
+    let k = c .before .before .before in
+    let h = k .before .before .before in
+    let a = h .before .before .before .before .before .args in
+    let named = h .both2 .ensures ∙ (λ i. h .before .both .ensures i && ltb (a .k) (length (a .starts .now))) in
+    let from = k .both3 .ensures ∙ (λ i. named i && eqb (k .before .before .number-at .ensures i) (k .before .number-at2 .ensures i)) in
+    c .both4 .ensures ∙ (λ i. from i && eqb (c .before .before .number-at3 .ensures i) (c .before .number-at4 .ensures i))
 
 pub edge-fits-spec : {M : Type 1} → statement M
 edge-fits-spec =

@@ -1,6 +1,9 @@
 -- There is no next edge, or it is the one at i + 1.
 use Prim.Native.Nat.{_+_}
 use native.Mathlib.Omega.{arith}
+use mathlib.Core.Path.{_∙_}
+use Rattle.timing.specs.Graphs.{edge}
+use Rattle.timing.specs.WellFormed.{edgeRises}
 use borrow.Author.Tests.{le-leb, lt-leb}
 use borrow.Author.Needs.{needs}
 use Rattle.graph.proofs.next_rises.Statement.{statement}
@@ -37,7 +40,11 @@ returns-2 : tie.Need-returns-2
 returns-2 c =
     let k = c .before .before .before .before .before in
     let a = k .before .before .before .args in
-    rw (lt-leb (a .m) (a .i + 1) (omega arith)) (cc)
+    let t = c .before .before .before .before .number-at .ensures in
+    let k = c .before .before .before .number-at2 .ensures in
+    let u = c .before .before .number-at3 .ensures in
+    let l = c .before .number-at4 .ensures in
+    rw (lt-leb (a .m) (a .i + 1) (omega arith)) (c .edge-rises .ensures ∙ (λ i. edgeRises (edge 0 (t i) (k i)) (edge 0 (u i) (l i))))
 
 pub next-rises-spec : {M : Type 1} → statement M
 next-rises-spec =

@@ -1,7 +1,8 @@
 -- There is no next copy; or it is of the same node; or of another.
 use Prim.Native.Nat.{_+_}
 use native.Mathlib.Omega.{arith}
-use mathlib.Core.Path.{sym, _∙_}
+use mathlib.Core.Path.{sym, _∙_, ap}
+use lib.Dec.{ltb}
 use lib.ListN.{length, getD}
 use borrow.Author.Tests.{le-leb, lt-leb}
 use Rattle.graph.specs.Passes.{flag}
@@ -36,8 +37,10 @@ returns-2 c =
     let k = c .before .before .before .before in
     let a = k .before .before .before .args in
     let ns = a .nodes .now in
-    let same = follow-same (flag (a .nout .now)) (getD ns (a .c) 0) (getD ns (a .c + 1) 0) (cc) in
-    rw (lt-leb (length ns) (a .c + 1) (omega arith), same) (cc)
+    let n1 = c .before .before .before .number-at .ensures in
+    let n2 = c .before .before .number-at2 .ensures in
+    let same = follow-same (flag (a .nout .now)) (getD ns (a .c) 0) (getD ns (a .c + 1) 0) (sym n1 ∙ c .before .if2 .taken ∙ n2) in
+    rw (lt-leb (length ns) (a .c + 1) (omega arith), same) (c .flag-at .ensures ∙ ap (flag (a .nout .now)) n1)
 
 returns-3 : tie.Need-returns-3
 returns-3 c =
@@ -47,7 +50,7 @@ returns-3 c =
     let n1 = c .before .before .number-at .ensures in
     let n2 = c .before .number-at2 .ensures in
     let other = follow-other (flag (a .nout .now)) (getD ns (a .c) 0) (getD ns (a .c + 1) 0) (λ e. c .if2 .left (n1 ∙ e ∙ sym n2)) in
-    rw (lt-leb (length ns) (a .c + 1) (omega arith), other) (cc)
+    rw (lt-leb (length ns) (a .c + 1) (omega arith), other) (λ i. ltb (n1 i) (n2 i))
 
 pub node-rises-spec : {M : Type 1} → statement M
 node-rises-spec =

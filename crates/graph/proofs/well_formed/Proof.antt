@@ -5,7 +5,7 @@ use mathlib.Core.Path.{_≡_, sym, _∙_, ap, ap₂}
 use mathlib.Core.Bool.{_&&_}
 use lib.ListN.{length}
 use Rattle.timing.specs.Graphs.{edgesOf}
-use Rattle.graph.proofs.Edges.{length-edges}
+use Rattle.theorems.proofs.Lists.{length-edges}
 use Rattle.graph.proofs.WellFormed.{too-many-copies, too-many-edges, formed-by}
 use borrow.Author.Needs.{needs}
 use Rattle.graph.proofs.well_formed.Statement.{statement}

@@ -3,8 +3,8 @@ use Prim.Native.Nat.{_≤_}
 use native.Mathlib.Omega.{arith}
 use mathlib.Core.Path.{_∙_, ap, sym, subst}
 use Rattle.times.proofs.Elements.{read-back}
-use Rattle.jaqhweni.specs.Numbers.{graphNumber}
-use Rattle.jaqhweni.specs.Small.{SmallGraph}
+use Rattle.timing.specs.Calls.{graphNumber}
+use Rattle.true_graph.specs.Small.{SmallGraph}
 use borrow.Author.Needs.{needs}
 use Rattle.jaqhweni.proofs.graph_number.Statement.{statement}
 use Rattle.jaqhweni.proofs.graph_number.Tie as tie

@@ -3,9 +3,9 @@ use mathlib.Core.Path.{_∙_, ap, sym, subst}
 use Rattle.timing.specs.Graphs.{design}
 use Rattle.timing.specs.Calls.{graphSlices, lentRemoval}
 use Rattle.times.proofs.Elements.{read-back}
-use Rattle.jaqhweni.specs.Numbers.{graphNumber}
-use Rattle.jaqhweni.specs.Small.{SmallGraph}
-use Rattle.jaqhweni.proofs.Small.{small-from-graph}
+use Rattle.timing.specs.Calls.{graphNumber}
+use Rattle.true_graph.specs.Small.{SmallGraph}
+use Rattle.true_graph.proofs.Small.{small-from-graph}
 use borrow.Author.Needs.{needs}
 use Rattle.jaqhweni.proofs.jaqhweni_remove_from_graph.Statement.{statement}
 use Rattle.jaqhweni.proofs.jaqhweni_remove_from_graph.Tie as tie

@@ -4,9 +4,9 @@ use lib.ListN.{length}
 use Rattle.timing.specs.Graphs.{design}
 use Rattle.timing.specs.Calls.{graphSlices}
 use Rattle.times.proofs.Elements.{read-back}
-use Rattle.jaqhweni.specs.Numbers.{verdictNumber}
-use Rattle.jaqhweni.specs.Small.{Small}
-use Rattle.jaqhweni.proofs.Small.{small-times}
+use Rattle.timing.specs.Calls.{verdictNumber}
+use Rattle.true_graph.specs.Small.{Small}
+use Rattle.true_graph.proofs.Small.{small-times}
 use borrow.Author.Needs.{needs}
 use Rattle.jaqhweni.proofs.jaqhweni_times.Statement.{statement}
 use Rattle.jaqhweni.proofs.jaqhweni_times.Tie as tie

@@ -3,7 +3,7 @@ use native.Mathlib.Omega.{arith}
 use mathlib.Core.Path.{_∙_, ap, sym, subst}
 use Rattle.timing.specs.Calls.{cNumber}
 use Rattle.times.proofs.Elements.{read-back}
-use Rattle.jaqhweni.specs.Small.{SmallWritten}
+use Rattle.true_graph.specs.Small.{SmallWritten}
 use Rattle.jaqhweni.proofs.SmallProgram.{small-program, call-is, room-is}
 use borrow.Author.Needs.{needs}
 use Rattle.jaqhweni.proofs.jaqhweni_true_graph.Statement.{statement}

@@ -1,8 +1,8 @@
 -- Case by case of the verdict.
 use mathlib.Core.Path.{_∙_, ap, sym, subst}
 use Rattle.times.proofs.Elements.{read-back}
-use Rattle.jaqhweni.specs.Numbers.{verdictNumber}
-use Rattle.jaqhweni.specs.Small.{Small}
+use Rattle.timing.specs.Calls.{verdictNumber}
+use Rattle.true_graph.specs.Small.{Small}
 use borrow.Author.Needs.{needs}
 use Rattle.jaqhweni.proofs.verdict_number.Statement.{statement}
 use Rattle.jaqhweni.proofs.verdict_number.Tie as tie

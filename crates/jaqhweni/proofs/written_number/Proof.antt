@@ -2,7 +2,7 @@
 use mathlib.Core.Path.{_∙_, ap, sym, subst}
 use Rattle.timing.specs.Calls.{cNumber}
 use Rattle.times.proofs.Elements.{read-back}
-use Rattle.jaqhweni.specs.Small.{SmallWritten}
+use Rattle.true_graph.specs.Small.{SmallWritten}
 use borrow.Author.Needs.{needs}
 use Rattle.jaqhweni.proofs.written_number.Statement.{statement}
 use Rattle.jaqhweni.proofs.written_number.Tie as tie

@@ -2,7 +2,7 @@
 use mathlib.Core.Path.{_∙_}
 use Rattle.timing.specs.Refusals.{_then_}
 use Rattle.timing.specs.Tests.{sameSizes, nodeCount}
-use Rattle.design.proofs.Chains.{then-assoc}
+use Rattle.timing.proofs.Verdicts.{then-assoc}
 use borrow.Author.Needs.{needs}
 use Rattle.times.proofs.records_tests.Statement.{statement}
 use Rattle.times.proofs.records_tests.Tie as tie

@@ -7,6 +7,9 @@ use Rattle.bytes_cases.proofs.decks.write_sized.Tie as tie
 cast-least : tie.Need-cast-least
 cast-least c = search needs
 
+deck-room-requires : tie.Need-deck-room-requires
+deck-room-requires c κs = search needs
+
 least-requires : tie.Need-least-requires
 least-requires c κs = search needs
 
@@ -26,6 +29,7 @@ pub write-sized-spec : {M : Type 1} → statement M
 write-sized-spec =
     tie.close
     (tie.spec
+    deck-room-requires
     cast-least
     least-requires
     array-borrow-prefix-room

@@ -4,6 +4,15 @@ use borrow.Author.Needs.{needs}
 use Rattle.bytes_cases.proofs.graphs.read_back.Statement.{statement}
 use Rattle.bytes_cases.proofs.graphs.read_back.Tie as tie
 
+edge-table-requires : tie.Need-edge-table-requires
+edge-table-requires c κs = search needs
+
+edge-table-requires-2 : tie.Need-edge-table-requires-2
+edge-table-requires-2 c κs = search needs
+
+edge-table-requires-3 : tie.Need-edge-table-requires-3
+edge-table-requires-3 c κs = search needs
+
 least-requires : tie.Need-least-requires
 least-requires c κs = search needs
 
@@ -44,6 +53,7 @@ pub read-back-spec : {M : Type 1} → statement M
 read-back-spec =
     tie.close
     (tie.spec
+    edge-table-requires edge-table-requires-2 edge-table-requires-3
     least-requires
     least-requires-2
     array-borrow-prefix-nodes

@@ -7,6 +7,15 @@ use Rattle.bytes_cases.proofs.graphs.read_sized.Tie as tie
 cast-least : tie.Need-cast-least
 cast-least c = search needs
 
+edge-table-requires : tie.Need-edge-table-requires
+edge-table-requires c κs = search needs
+
+edge-table-requires-2 : tie.Need-edge-table-requires-2
+edge-table-requires-2 c κs = search needs
+
+edge-table-requires-3 : tie.Need-edge-table-requires-3
+edge-table-requires-3 c κs = search needs
+
 least-requires : tie.Need-least-requires
 least-requires c κs = search needs
 
@@ -62,6 +71,7 @@ pub read-sized-spec : {M : Type 1} → statement M
 read-sized-spec =
     tie.close
     (tie.spec
+    edge-table-requires edge-table-requires-2 edge-table-requires-3
     cast-least
     least-requires
     cast-least-2

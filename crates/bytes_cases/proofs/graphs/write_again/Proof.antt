@@ -4,6 +4,9 @@ use borrow.Author.Needs.{needs}
 use Rattle.bytes_cases.proofs.graphs.write_again.Statement.{statement}
 use Rattle.bytes_cases.proofs.graphs.write_again.Tie as tie
 
+byte-room-requires : tie.Need-byte-room-requires
+byte-room-requires c κs = search needs
+
 least-requires : tie.Need-least-requires
 least-requires c κs = search needs
 
@@ -22,4 +25,5 @@ returns c = search needs
 pub write-again-spec : {M : Type 1} → statement M
 write-again-spec =
     tie.close
-    (tie.spec least-requires array-borrow-prefix-room slice-aggregate-write write-requires returns)
+    (tie.spec byte-room-requires
+    least-requires array-borrow-prefix-room slice-aggregate-write write-requires returns)

@@ -4,6 +4,9 @@ use borrow.Author.Needs.{needs}
 use Rattle.bytes_cases.proofs.graphs.write_sized.Statement.{statement}
 use Rattle.bytes_cases.proofs.graphs.write_sized.Tie as tie
 
+graph-room-requires : tie.Need-graph-room-requires
+graph-room-requires c κs = search needs
+
 least-requires : tie.Need-least-requires
 least-requires c κs = search needs
 
@@ -23,6 +26,7 @@ pub write-sized-spec : {M : Type 1} → statement M
 write-sized-spec =
     tie.close
     (tie.spec
+    graph-room-requires
     least-requires
     array-borrow-prefix-room
     slice-aggregate-write-and-read

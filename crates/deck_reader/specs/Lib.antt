@@ -1,0 +1,2 @@
+-- What private functions answer. No public contract cites these.
+pub mod Reading

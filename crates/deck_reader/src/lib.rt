@@ -1,0 +1,62 @@
+// Reading a deck of bytes into lent tables.
+ghost use mathlib.Core.Path.{_≡_};
+ghost use lib.ListN.{length};
+ghost use Rattle.timing.specs.Calls.{filled, deckRead, deckAnswer};
+use timing::DeckRead;
+use timing::Verdict;
+
+mod filler;
+mod looker;
+mod reader;
+
+// The place behind the paths, and how many edges they list.
+struct Listed {
+    next: usize,
+    edges: usize,
+}
+
+// n, the count of edges, and the place behind the edges.
+struct Edges {
+    nodes: u32,
+    count: u32,
+    next: usize,
+}
+
+fn wide(x: u32) -> usize
+    ensures { λ r. ⌜ r ≡ x ⌝ }
+{
+    x as usize
+}
+
+// Reads a deck into the tables. Everything is looked at first, so that a refusal changes no table.
+pub fn read_deck(
+    s: &[u8],
+    starts: &mut [u32],
+    ends: &mut [u32],
+    delays: &mut [i32],
+    listed: &mut [u32],
+    lengths: &mut [u32],
+) -> DeckRead
+    ensures { λ r. ⌜ r ≡ deckAnswer (deckRead (now (s .entry)) (length (now (starts .entry))) (length (now (ends .entry))) (length (now (delays .entry))) (length (now (listed .entry))) (length (now (lengths .entry)))) ⌝ }
+    ensures { λ r. ⌜ now (starts .exit) ≡ filled (λ d. d .design .starts) (deckRead (now (s .entry)) (length (now (starts .entry))) (length (now (ends .entry))) (length (now (delays .entry))) (length (now (listed .entry))) (length (now (lengths .entry)))) (now (starts .entry)) ⌝ }
+    ensures { λ r. ⌜ now (ends .exit) ≡ filled (λ d. d .design .ends) (deckRead (now (s .entry)) (length (now (starts .entry))) (length (now (ends .entry))) (length (now (delays .entry))) (length (now (listed .entry))) (length (now (lengths .entry)))) (now (ends .entry)) ⌝ }
+    ensures { λ r. ⌜ now (delays .exit) ≡ filled (λ d. d .design .delays) (deckRead (now (s .entry)) (length (now (starts .entry))) (length (now (ends .entry))) (length (now (delays .entry))) (length (now (listed .entry))) (length (now (lengths .entry)))) (now (delays .entry)) ⌝ }
+    ensures { λ r. ⌜ now (listed .exit) ≡ filled (λ d. d .list .edges) (deckRead (now (s .entry)) (length (now (starts .entry))) (length (now (ends .entry))) (length (now (delays .entry))) (length (now (listed .entry))) (length (now (lengths .entry)))) (now (listed .entry)) ⌝ }
+    ensures { λ r. ⌜ now (lengths .exit) ≡ filled (λ d. d .list .lengths) (deckRead (now (s .entry)) (length (now (starts .entry))) (length (now (ends .entry))) (length (now (delays .entry))) (length (now (listed .entry))) (length (now (lengths .entry)))) (now (lengths .entry)) ⌝ }
+{
+    let sizes = timing::same_sizes(starts.len(), ends.len(), delays.len());
+    match sizes {
+        Verdict::Refused(r) => {
+            return DeckRead::Refused(r);
+        }
+        Verdict::Passed => {}
+    }
+    let look = reader::look_deck(s, starts.len(), listed.len(), lengths.len());
+    match look {
+        Verdict::Refused(r) => {
+            return DeckRead::Refused(r);
+        }
+        Verdict::Passed => {}
+    }
+    reader::fill_deck(s, starts, ends, delays, listed, lengths)
+}

@@ -1,0 +1,3 @@
+-- Laws of the tests before writing, and of writing numbers one after the other.
+pub mod Tests
+pub mod Writing

@@ -1,0 +1,4 @@
+-- Laws of the look and of the fill.
+pub mod Looking
+pub mod Filling
+pub mod Made

@@ -1,0 +1,81 @@
+-- Each slice is filled below i, and what is left comes from here on.
+use Prim.Native.Nat.{_-_, _≤_}
+use native.Mathlib.Omega.{arith}
+use borrow.Author.Needs.{needs}
+use Rattle.graph_reader.proofs.Filling.{Column, column-all, column-turn, column-none}
+use Rattle.graph_reader.proofs.reader.fill_rows.Statement.{statement}
+use Rattle.graph_reader.proofs.reader.fill_rows.Tie as tie
+
+abbrev Inv-loop : tie.InvT-loop
+Inv-loop s at m gs₀ ge₀ gn₀ here₀ i₀ gs ge gn here i =
+    (i ≤ m) × Column s (λ q. q .first) m at gs₀ here i gs × Column s (λ q. q .second) m at ge₀ here i ge × Column s (λ q. q .third) m at gn₀ here i gn
+
+abbrev μ-loop : tie.MeasureT-loop
+μ-loop s at m gs₀ ge₀ gn₀ here₀ i₀ gs ge gn here i = m - i
+
+loop-holds : tie.Need-loop-holds Inv-loop μ-loop
+loop-holds c =
+    let a = c .before .before .before .before .args in
+    (omega arith, column-all (a .s .now) (λ q. q .first) (a .m) (a .at) (a .gs .now), column-all (a .s .now) (λ q. q .second) (a .m) (a .at) (a .ge .now), column-all (a .s .now) (λ q. q .third) (a .m) (a .at) (a .gn .now))
+
+fill-row-requires : tie.Need-fill-row-requires Inv-loop μ-loop
+fill-row-requires c κs =
+    let l = c .before .before .before .before in
+    let p = l .before .before .before .before .before .pre in
+    (omega (arith, l .loop .inv .1 .size, p .0), omega (arith, l .loop .inv .2 .size, p .1), omega (arith, l .loop .inv .3 .size, p .2))
+
+add-i : tie.Need-add-i Inv-loop μ-loop
+add-i c = omega arith
+
+loop-less : tie.Need-loop-less Inv-loop μ-loop
+loop-less c = omega arith
+
+loop-again : tie.Need-loop-again Inv-loop μ-loop
+loop-again c =
+    let r = c .before .before .before .before .before .before in
+    let l = r .before .before .before .before .before in
+    let a = l .before .before .before .before .before .args in
+    let h = r .before .before .before .before .loop-test .taken in
+    let e = r .fill-row .ensures in (
+      omega arith,
+      column-turn (a .s .now) (λ q. q .first) (a .m) (a .at) (a .gs .now) (l .loop .here) (l .loop .i) (l .loop .gs) _ _ h (e .0) (e .1 .0) (l .loop .inv .1),
+      column-turn (a .s .now) (λ q. q .second) (a .m) (a .at) (a .ge .now) (l .loop .here) (l .loop .i) (l .loop .ge) _ _ h (e .0) (e .1 .1 .0) (l .loop .inv .2),
+      column-turn (a .s .now) (λ q. q .third) (a .m) (a .at) (a .gn .now) (l .loop .here) (l .loop .i) (l .loop .gn) _ _ h (e .0) (e .1 .1 .1) (l .loop .inv .3),
+    )
+
+same-length : tie.Need-same-length Inv-loop μ-loop
+same-length c = c .before .loop .inv .1 .size
+
+same-length-2 : tie.Need-same-length-2 Inv-loop μ-loop
+same-length-2 c = c .before .loop .inv .2 .size
+
+same-length-3 : tie.Need-same-length-3 Inv-loop μ-loop
+same-length-3 c = c .before .loop .inv .3 .size
+
+returns : tie.Need-returns Inv-loop μ-loop
+returns c =
+    let l = c .before in
+    let a = l .before .before .before .before .before .args in
+    let h = c .loop-test .left in (
+      column-none (a .s .now) (λ q. q .first) (a .m) (a .at) (a .gs .now) (l .loop .here) (l .loop .i) (l .loop .gs) h (l .loop .inv .1),
+      (
+        column-none (a .s .now) (λ q. q .second) (a .m) (a .at) (a .ge .now) (l .loop .here) (l .loop .i) (l .loop .ge) h (l .loop .inv .2),
+        column-none (a .s .now) (λ q. q .third) (a .m) (a .at) (a .gn .now) (l .loop .here) (l .loop .i) (l .loop .gn) h (l .loop .inv .3),
+      ),
+    )
+
+pub fill-rows-spec : {M : Type 1} → statement M
+fill-rows-spec =
+    tie.close
+    (tie.spec
+    Inv-loop
+    μ-loop
+    loop-holds
+    fill-row-requires
+    add-i
+    loop-less
+    loop-again
+    same-length
+    same-length-2
+    same-length-3
+    returns)

@@ -1,0 +1,172 @@
+// Reading a packed true graph: first everything is looked at, and then the room is filled.
+ghost use mathlib.Core.Path.{_≡_};
+ghost use Prim.Native.Nat.{_≤_, _<_};
+ghost use mathlib.Core.List.{map};
+ghost use lib.ListN.{length, set};
+ghost use lib.Seq.{sets};
+ghost use lib.Dec.{leb};
+ghost use Rattle.timing.specs.Refusals.{_then_};
+ghost use Rattle.timing.specs.Refusals.{unless as passedIf};
+ghost use Rattle.timing.specs.GraphBytes.{readGraph};
+ghost use Rattle.timing.specs.Calls.{parsed, graphAnswer};
+ghost use Rattle.timing.specs.Looks.{numberOf, nextAt, rowAt, rowEnd};
+ghost use Rattle.graph_reader.specs.Reading.{countIn, madeOf, edgesIn, numbersFrom, numbersEnd, rowsFrom, rowsPlace};
+use packed::look_numbers;
+use packed::look_rows;
+use packed::take_number;
+use timing::GraphMade;
+use timing::Looked;
+use timing::NumberRead;
+use timing::Verdict;
+
+fn wide(x: u32) -> usize
+    ensures { λ r. ⌜ r ≡ x ⌝ }
+{
+    x as usize
+}
+
+// 32, and then the number of the room.
+fn count_test(n: u32, limit: usize, full: u32, room: usize) -> Verdict
+    ensures { λ r. ⌜ r ≡ (passedIf 32 (leb n limit) then passedIf full (leb n room)) ⌝ }
+{
+    let n = wide(n);
+    if n <= limit {
+        return timing::unless(full, n <= room);
+    }
+    timing::unless(32, false)
+}
+
+fn look_count(s: &[u8], at: usize, limit: usize, full: u32, room: usize) -> NumberRead
+    ensures { λ r. ⌜ r ≡ numberOf (countIn (now (s .entry)) limit full room at) ⌝ }
+{
+    let r = packed::read_number(s, at);
+    match r {
+        NumberRead::Value { value, next } => {
+            let v = count_test(value, limit, full, room);
+            match v {
+                Verdict::Passed => NumberRead::Value { value, next },
+                Verdict::Refused(e) => NumberRead::Refused(e),
+            }
+        }
+        NumberRead::Refused(e) => NumberRead::Refused(e),
+    }
+}
+
+// The edges, and 3.
+fn look_edges(s: &[u8], at: usize, copies: u32, edges: usize) -> GraphMade
+    ensures { λ r. ⌜ r ≡ madeOf copies (edgesIn (now (s .entry)) edges at) ⌝ }
+{
+    let r = look_count(s, at, timing::MAX_COPY_EDGES, 34, edges);
+    match r {
+        NumberRead::Value { value, next } => {
+            let q = look_rows(s, next, value);
+            match q {
+                Looked::At(after) => {
+                    if s.len() <= after {
+                        return GraphMade::Counts {
+                            copies: wide(copies),
+                            edges: wide(value),
+                        };
+                    }
+                    GraphMade::Refused(timing::refuse(3, after))
+                }
+                Looked::Refused(e) => GraphMade::Refused(e),
+            }
+        }
+        NumberRead::Refused(e) => GraphMade::Refused(e),
+    }
+}
+
+pub(crate) fn look(s: &[u8], copies: usize, edges: usize) -> GraphMade
+    ensures { λ r. ⌜ r ≡ graphAnswer (parsed (readGraph (now (s .entry)) copies edges)) ⌝ }
+{
+    let r = look_count(s, 0, timing::MAX_COPIES, 33, copies);
+    match r {
+        NumberRead::Value { value, next } => {
+            let q = look_numbers(s, next, wide(value));
+            match q {
+                Looked::At(after) => look_edges(s, after, value, edges),
+                Looked::Refused(e) => GraphMade::Refused(e),
+            }
+        }
+        NumberRead::Refused(e) => GraphMade::Refused(e),
+    }
+}
+
+pub(crate) fn next_at(s: &[u8], at: usize) -> usize
+    ensures { λ r. ⌜ r ≡ nextAt (now (s .entry)) at ⌝ }
+{
+    let f = take_number(s, at);
+    f.next
+}
+
+pub(crate) fn fill_numbers(s: &[u8], at: usize, k: usize, out: &mut [u32]) -> usize
+    requires { ⌜ k ≤ length (now out) ⌝ }
+    ensures { λ r. ⌜ r ≡ numbersEnd (now (s .entry)) k at ⌝ }
+    ensures { λ r. ⌜ now (out .exit) ≡ sets (now (out .entry)) 0 (numbersFrom (now (s .entry)) k at) ⌝ }
+{
+    let mut here = at;
+    let mut i = 0;
+    while i < k {
+        let f = take_number(s, here);
+        out[i] = f.value;
+        here = f.next;
+        i += 1;
+    }
+    here
+}
+
+// Row i of three slices.
+fn fill_row(s: &[u8], at: usize, i: usize, gs: &mut [u32], ge: &mut [u32], gn: &mut [u32]) -> usize
+    requires { ⌜ (i < length (now gs)) × (i < length (now ge)) × (i < length (now gn)) ⌝ }
+    ensures { λ r. ⌜ r ≡ rowEnd (now (s .entry)) at ⌝ }
+    ensures { λ r. ⌜ now (gs .exit) ≡ set (now (gs .entry)) i (rowAt (now (s .entry)) at .first) ⌝ }
+    ensures { λ r. ⌜ now (ge .exit) ≡ set (now (ge .entry)) i (rowAt (now (s .entry)) at .second) ⌝ }
+    ensures { λ r. ⌜ now (gn .exit) ≡ set (now (gn .entry)) i (rowAt (now (s .entry)) at .third) ⌝ }
+{
+    let a = take_number(s, at);
+    let second = a.next;
+    let b = take_number(s, second);
+    let third = b.next;
+    let c = take_number(s, third);
+    gs[i] = a.value;
+    ge[i] = b.value;
+    gn[i] = c.value;
+    c.next
+}
+
+fn fill_rows(s: &[u8], at: usize, m: usize, gs: &mut [u32], ge: &mut [u32], gn: &mut [u32])
+    requires { ⌜ (m ≤ length (now gs)) × (m ≤ length (now ge)) × (m ≤ length (now gn)) ⌝ }
+    ensures { λ r. ⌜ now (gs .exit) ≡ sets (now (gs .entry)) 0 (map (λ q. q .first) (rowsFrom (now (s .entry)) m at)) ⌝ }
+    ensures { λ r. ⌜ now (ge .exit) ≡ sets (now (ge .entry)) 0 (map (λ q. q .second) (rowsFrom (now (s .entry)) m at)) ⌝ }
+    ensures { λ r. ⌜ now (gn .exit) ≡ sets (now (gn .entry)) 0 (map (λ q. q .third) (rowsFrom (now (s .entry)) m at)) ⌝ }
+{
+    let mut here = at;
+    let mut i = 0;
+    while i < m {
+        here = fill_row(s, here, i, gs, ge, gn);
+        i += 1;
+    }
+}
+
+// The room, where the look passed: the copies, and behind the count of edges the rows.
+pub(crate) fn fill(
+    s: &[u8],
+    n: usize,
+    m: usize,
+    nodes: &mut [u32],
+    gs: &mut [u32],
+    ge: &mut [u32],
+    gn: &mut [u32],
+)
+    requires { ⌜ (n ≤ length (now nodes)) × (m ≤ length (now gs)) × (m ≤ length (now ge)) × (m ≤ length (now gn)) ⌝ }
+    ensures { λ r. ⌜ now (nodes .exit) ≡ sets (now (nodes .entry)) 0 (numbersFrom (now (s .entry)) n (nextAt (now (s .entry)) 0)) ⌝ }
+    ensures { λ r. ⌜ now (gs .exit) ≡ sets (now (gs .entry)) 0 (map (λ q. q .first) (rowsFrom (now (s .entry)) m (rowsPlace (now (s .entry)) n))) ⌝ }
+    ensures { λ r. ⌜ now (ge .exit) ≡ sets (now (ge .entry)) 0 (map (λ q. q .second) (rowsFrom (now (s .entry)) m (rowsPlace (now (s .entry)) n))) ⌝ }
+    ensures { λ r. ⌜ now (gn .exit) ≡ sets (now (gn .entry)) 0 (map (λ q. q .third) (rowsFrom (now (s .entry)) m (rowsPlace (now (s .entry)) n))) ⌝ }
+{
+    let copies = next_at(s, 0);
+    let count = fill_numbers(s, copies, n, nodes);
+    let rows = next_at(s, count);
+    fill_rows(s, rows, m, gs, ge, gn);
+}

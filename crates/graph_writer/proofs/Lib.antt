@@ -1,0 +1,2 @@
+-- Laws of writing numbers one after the other.
+pub mod Writing

@@ -1,0 +1,229 @@
+-- Numbers written one after the other: what is left to be written, and the room at the end.
+use Prim.Native.Nat.{ℕ, _+_, _≤_, _<_}
+use native.Mathlib.Omega.{arith}
+use native.Mathlib.Numerals.{add-one}
+use mathlib.Core.Path.{_≡_, refl, sym, _∙_, ap}
+use mathlib.Core.Bool.{Bool, true, false, cond, _&&_}
+use mathlib.Core.List.{List, [], _∷_, _++_, flatMap, append-assoc}
+use lib.Dec.{eqb, leb, eqb→eq, leb→le}
+use lib.ListN.{length, getD, take, drop, length-append, length-drop, drop-of-length-le}
+use lib.Seq.{sets, length-sets, drop-cons, length-take-le}
+use borrow.Author.Tests.{leb-true}
+use Rattle.timing.specs.declared.Refusal.{Refusal}
+use Rattle.timing.specs.declared.Verdict.{Verdict}
+use Rattle.timing.specs.declared.Verdict.the-variants.{Passed}
+use Rattle.timing.specs.declared.Verdict.the-variants.{Refused as NotPassed}
+use Rattle.timing.specs.declared.Written.{Written}
+use Rattle.timing.specs.declared.Written.the-variants.{End, Refused}
+use Rattle.timing.specs.Graphs.{Graph, edgesOf}
+use Rattle.timing.specs.GraphBytes.{graphNumbers, packedGraph}
+use Rattle.timing.specs.Refusals.{_then_}
+use Rattle.timing.specs.Refusals.{unless as passedIf}
+use Rattle.timing.specs.Tests.{sameSizes}
+use Rattle.timing.specs.Calls.{graphSlices, graphOf, writing, roomAfterWriting, graphWriteTests}
+use Rattle.theorems.proofs.Lists.{and-left, and-right, holds, length-edges}
+use Rattle.timing.proofs.Verdicts.{then-passed, unless-passed}
+use Rattle.timing.specs.Numbers.{packed, writeAnswer, writtenRoom}
+use Rattle.packed.proofs.Sizes.{size-append, size-cons, size-none}
+use Rattle.packed.proofs.Rooms.{sets-append, written-sets, answer-fits}
+use Rattle.graph_writer.specs.Writing.{wroteNext, roomNext, wroteAll, roomAll, Wrote, rowsOf}
+
+-- a writer leaves a room of the same length
+written-length : (room : List ℕ) (at : ℕ) (bs : List ℕ) → length (writtenRoom room at bs) ≡ length room
+unfolding writtenRoom
+written-length room at bs = go (leb (at + length bs) (length room)) refl
+  where
+    go : (b : Bool) → leb (at + length bs) (length room) ≡ b → length (cond b (take at room ++ (bs ++ drop (at + length bs) room)) room) ≡ length room
+    go true e =
+        let h = leb-true (at + length bs) (length room) e in
+        let k : at ≤ length room = omega arith in
+        omega (
+          arith,
+          length-append (take at room) (bs ++ drop (at + length bs) room),
+          length-append bs (drop (at + length bs) room),
+          length-take-le at room k,
+          length-drop (at + length bs) room,
+        )
+    go false e = refl
+
+next-length : (w : Written) (room : List ℕ) (x : ℕ) → length (roomNext w room x) ≡ length room
+next-length (End at) room x = written-length room at (packed x)
+next-length (Refused r) room x = refl
+
+all-length : (w : Written) (room xs : List ℕ) → length (roomAll w room xs) ≡ length room
+all-length w room [] = refl
+all-length w room (x ∷ xs) = all-length (wroteNext w room x) (roomNext w room x) xs ∙ next-length w room x
+
+pub wrote-length : {w w′ : Written} {room room′ xs : List ℕ} → Wrote w room xs w′ room′ → length room′ ≡ length room
+wrote-length {w} {w′} {room} {room′} {xs} k = ap length (k .after) ∙ all-length w room xs
+
+-- what is written in two parts
+both-wrote : (w : Written) (room xs ys : List ℕ) → wroteAll w room (xs ++ ys) ≡ wroteAll (wroteAll w room xs) (roomAll w room xs) ys
+both-wrote w room [] ys = refl
+both-wrote w room (x ∷ xs) ys = both-wrote (wroteNext w room x) (roomNext w room x) xs ys
+
+both-room : (w : Written) (room xs ys : List ℕ) → roomAll w room (xs ++ ys) ≡ roomAll (wroteAll w room xs) (roomAll w room xs) ys
+both-room w room [] ys = refl
+both-room w room (x ∷ xs) ys = both-room (wroteNext w room x) (roomNext w room x) xs ys
+
+pub wrote-both : {w w′ w″ : Written} {room room′ room″ : List ℕ} (xs ys : List ℕ) → Wrote w room xs w′ room′ → Wrote w′ room′ ys w″ room″ → Wrote w room (xs ++ ys) w″ room″
+wrote-both {w} {w′} {w″} {room} {room′} {room″} xs ys k l =
+    record {
+      answer = l .answer ∙ rw (k .answer, k .after) (sym (both-wrote w room xs ys));
+      after = l .after ∙ rw (k .answer, k .after) (sym (both-room w room xs ys));
+    }
+
+pub wrote-none : (w : Written) (room : List ℕ) → Wrote w room [] w room
+wrote-none w room = record { answer = refl; after = refl }
+
+-- of the numbers `all`, `rest` are left
+pub record Left (w : Written) (room all : List ℕ) (w′ : Written) (room′ rest : List ℕ) : Type 0 where
+  pub answer : wroteAll w′ room′ rest ≡ wroteAll w room all
+  pub after : roomAll w′ room′ rest ≡ roomAll w room all
+  pub long : length room′ ≡ length room
+
+pub left-all : (w : Written) (room all : List ℕ) → Left w room all w room all
+left-all w room all = record { answer = refl; after = refl; long = refl }
+
+pub left-turn : {w w′ w″ : Written} {room all room′ room″ : List ℕ} (xs rest : List ℕ) → Left w room all w′ room′ (xs ++ rest) → Wrote w′ room′ xs w″ room″ → Left w room all w″ room″ rest
+left-turn {w} {w′} {w″} {room} {all} {room′} {room″} xs rest l k =
+    record {
+      answer = rw (k .answer, k .after) (sym (both-wrote w′ room′ xs rest) ∙ l .answer);
+      after = rw (k .answer, k .after) (sym (both-room w′ room′ xs rest) ∙ l .after);
+      long = wrote-length k ∙ l .long;
+    }
+
+pub left-none : {w w′ : Written} {room all room′ : List ℕ} → Left w room all w′ room′ [] → Wrote w room all w′ room′
+left-none l = record { answer = l .answer; after = l .after }
+
+-- the numbers of a slice, and the rows of three, from a place on
+pub numbers-turn : (s : List ℕ) (k : ℕ) → k < length s → drop k s ≡ (getD s k 0 ∷ []) ++ drop (k + 1) s
+numbers-turn s k h = rw (drop-cons s k 0 h, add-one k)
+
+pub rows-turn : (s t n : List ℕ) (k : ℕ) → k < length s → k < length t → k < length n
+    → rowsOf (drop k s) (drop k t) (drop k n) ≡ (getD s k 0 ∷ getD t k 0 ∷ getD n k 0 ∷ []) ++ rowsOf (drop (k + 1) s) (drop (k + 1) t) (drop (k + 1) n)
+unfolding flatMap
+rows-turn s t n k f g h = rw (drop-cons s k 0 f, drop-cons t k 0 g, drop-cons n k 0 h, add-one k)
+
+pub rows-done : (s t n : List ℕ) (k : ℕ) → length s ≤ k → rowsOf (drop k s) (drop k t) (drop k n) ≡ []
+unfolding flatMap
+rows-done s t n k h = rw (drop-of-length-le s h)
+
+-- where they all fit, the answer and the room are those of one write
+all-sets : (room : List ℕ) (at : ℕ) (xs : List ℕ) → at + length (flatMap packed xs) ≤ length room
+    → (wroteAll (End at) room xs ≡ End (at + length (flatMap packed xs))) × (roomAll (End at) room xs ≡ sets room at (flatMap packed xs))
+unfolding flatMap
+all-sets room at [] h = (ap End (omega arith), refl)
+all-sets room at (x ∷ xs) h =
+    let s = size-cons x xs in
+    let f : at + length (packed x) ≤ length room = omega arith in
+    let r = all-sets (sets room at (packed x)) (at + length (packed x)) xs (omega (arith, length-sets room at (packed x))) in
+    rw (answer-fits room at (packed x) f, written-sets room at (packed x) f)
+    (r .0 ∙ ap End (omega arith), r .1 ∙ sym (sets-append room at (packed x) (flatMap packed xs)))
+
+pub all-fit : (room xs : List ℕ) → length (flatMap packed xs) ≤ length room
+    → (wroteAll (End 0) room xs ≡ writeAnswer room 0 (flatMap packed xs)) × (roomAll (End 0) room xs ≡ writtenRoom room 0 (flatMap packed xs))
+all-fit room xs h =
+    let f : 0 + length (flatMap packed xs) ≤ length room = omega arith in
+    let r = all-sets room 0 xs f in
+    (r .0 ∙ sym (answer-fits room 0 (flatMap packed xs) f), r .1 ∙ sym (written-sets room 0 (flatMap packed xs) f))
+
+-- The numbers of a graph whose slices of edges are as long as each other.
+module _ (nodes gs ge gn : List ℕ) (e : length ge ≡ length gs) (f : length gn ≡ length gs) where
+  pub edge-count : length (edgesOf gs ge gn) ≡ length gs
+  edge-count = omega (arith, length-edges gs ge gn)
+
+  pub graph-numbers : graphNumbers (graphOf (graphSlices nodes gs ge gn)) ≡ (length nodes ∷ []) ++ nodes ++ (length gs ∷ []) ++ rowsOf gs ge gn
+  unfolding graphNumbers
+  graph-numbers = rw edge-count (ap (λ (l : List ℕ). length nodes ∷ l) (sym (append-assoc nodes (length gs ∷ []) (rowsOf gs ge gn))))
+
+size-rows : (s t n : List ℕ) → length t ≡ length s → length n ≡ length s
+    → length (flatMap packed (rowsOf s t n)) ≡ length (flatMap packed s) + length (flatMap packed t) + length (flatMap packed n)
+unfolding flatMap
+size-rows [] [] [] e f = refl
+size-rows [] (y ∷ t) n e f = absurd (omega arith)
+size-rows [] [] (z ∷ n) e f = absurd (omega arith)
+size-rows (x ∷ s) [] n e f = absurd (omega arith)
+size-rows (x ∷ s) (y ∷ t) [] e f = absurd (omega arith)
+size-rows (x ∷ s) (y ∷ t) (z ∷ n) e f =
+    omega (
+      arith,
+      size-cons x (y ∷ z ∷ rowsOf s t n),
+      size-cons y (z ∷ rowsOf s t n),
+      size-cons z (rowsOf s t n),
+      size-cons x s,
+      size-cons y t,
+      size-cons z n,
+      size-rows s t n (omega arith) (omega arith),
+    )
+
+pub size-graph : (nodes gs ge gn : List ℕ) → length ge ≡ length gs → length gn ≡ length gs
+    → length (packed (length nodes)) + length (flatMap packed nodes) + (length (packed (length gs)) + length (flatMap packed gs)) + length (flatMap packed ge) + length (flatMap packed gn)
+    ≡ length (packedGraph (graphOf (graphSlices nodes gs ge gn)))
+unfolding packedGraph
+size-graph nodes gs ge gn e f =
+    rw (graph-numbers nodes gs ge gn e f)
+    (omega (
+      arith,
+      size-append ((length nodes ∷ []) ++ nodes ++ (length gs ∷ [])) (rowsOf gs ge gn),
+      size-append ((length nodes ∷ []) ++ nodes) (length gs ∷ []),
+      size-cons (length nodes) nodes,
+      size-cons (length gs) [],
+      size-none,
+      size-rows gs ge gn e f,
+    ))
+
+-- A test that refused, and one that passed.
+pub then-refused : (v w x : Verdict) (r : Refusal) → x ≡ v → x ≡ NotPassed r → x ≡ (v then w)
+then-refused v w x r p q = rw (sym p, q)
+
+pub then-next : (v w x y : Verdict) → x ≡ v → x ≡ Passed → y ≡ w → y ≡ (v then w)
+then-next v w x y p q e = rw (sym p, q) e
+
+-- The writer's tests by the four lengths, and what they say where they pass.
+pub tests-are : (nodes gs ge gn : List ℕ)
+    → graphWriteTests (graphSlices nodes gs ge gn)
+    ≡ (sameSizes (length gs) (length ge) (length gn) then passedIf 32 (leb (length nodes) 16384 && leb (length gs) 65536))
+unfolding graphWriteTests
+tests-are nodes gs ge gn = go (eqb (length gs) (length ge) && eqb (length gs) (length gn)) refl
+  where
+    go : (b : Bool) → (eqb (length gs) (length ge) && eqb (length gs) (length gn)) ≡ b
+        → (passedIf 30 b then passedIf 32 (leb (length nodes) 16384 && leb (length (edgesOf gs ge gn)) 65536))
+        ≡ (passedIf 30 b then passedIf 32 (leb (length nodes) 16384 && leb (length gs) 65536))
+    go true q =
+        let t = holds (eqb (length gs) (length ge) && eqb (length gs) (length gn)) q in
+        let s₁ = eqb→eq (length gs) (length ge) (and-left (eqb (length gs) (length ge)) (eqb (length gs) (length gn)) t) in
+        let s₂ = eqb→eq (length gs) (length gn) (and-right (eqb (length gs) (length ge)) (eqb (length gs) (length gn)) t) in
+        rw (edge-count nodes gs ge gn (sym s₁) (sym s₂))
+    go false q = refl
+
+pub record Fits (nodes gs ge gn : List ℕ) : Type 0 where
+  pub copies : length nodes ≤ 16384
+  pub edges : length gs ≤ 65536
+  pub ends : length ge ≡ length gs
+  pub names : length gn ≡ length gs
+
+pub tests-fit : (nodes gs ge gn : List ℕ)
+    → (sameSizes (length gs) (length ge) (length gn) then passedIf 32 (leb (length nodes) 16384 && leb (length gs) 65536)) ≡ Passed → Fits nodes gs ge gn
+tests-fit nodes gs ge gn q =
+    let a = eqb (length gs) (length ge) in
+    let b = eqb (length gs) (length gn) in
+    let c = leb (length nodes) 16384 in
+    let d = leb (length gs) 65536 in
+    let r = then-passed (sameSizes (length gs) (length ge) (length gn)) (passedIf 32 (c && d)) q in
+    let s = holds (a && b) (unless-passed 30 (a && b) (r .0)) in
+    let t = holds (c && d) (unless-passed 32 (c && d) (r .1)) in
+    record {
+      copies = leb→le (length nodes) 16384 (and-left c d t);
+      edges = leb→le (length gs) 65536 (and-right c d t);
+      ends = sym (eqb→eq (length gs) (length ge) (and-left a b s));
+      names = sym (eqb→eq (length gs) (length gn) (and-right a b s));
+    }
+
+-- What the writer answers and leaves, where the graph is written.
+pub write-done : (v : Verdict) (G : Graph) (room room′ : List ℕ) (w : Written) → v ≡ Passed → length (packedGraph G) ≤ length room → Wrote (End 0) room (graphNumbers G) w room′
+    → (w ≡ writing v room (packedGraph G)) × (room′ ≡ roomAfterWriting v room (packedGraph G))
+unfolding packedGraph
+write-done v G room room′ w e h k =
+    let r = all-fit room (graphNumbers G) h in
+    rw e (k .answer ∙ r .0, k .after ∙ r .1)

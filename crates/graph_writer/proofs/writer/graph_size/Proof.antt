@@ -1,0 +1,88 @@
+-- No sum wraps: each number takes at most five bytes.
+use native.Mathlib.Omega.{arith}
+use lib.ListN.{length}
+use Rattle.packed.proofs.Numbers.{packed-size}
+use Rattle.packed.proofs.Sizes.{size-most}
+use Rattle.graph_writer.proofs.Writing.{size-graph}
+use borrow.Author.Needs.{needs}
+use Rattle.graph_writer.proofs.writer.graph_size.Statement.{statement}
+use Rattle.graph_writer.proofs.writer.graph_size.Tie as tie
+
+cast-number-size : tie.Need-cast-number-size
+cast-number-size c = search needs
+
+number-size-requires : tie.Need-number-size-requires
+number-size-requires c κs = search needs
+
+numbers-size-requires : tie.Need-numbers-size-requires
+numbers-size-requires c κs = search needs
+
+add-copies : tie.Need-add-copies
+add-copies c =
+    let s = c .before .before .before .before .before .before in
+    let a = s .args in
+    omega (arith, s .pre .0, size-most (a .nodes .now), packed-size 4 (length (a .nodes .now)) .1)
+
+cast-number-size-2 : tie.Need-cast-number-size-2
+cast-number-size-2 c = search needs
+
+number-size-requires-2 : tie.Need-number-size-requires-2
+number-size-requires-2 c κs = search needs
+
+numbers-size-requires-2 : tie.Need-numbers-size-requires-2
+numbers-size-requires-2 c κs = search needs
+
+add-starts : tie.Need-add-starts
+add-starts c =
+    let s = c .before .before .before .before .before .before .before .before in
+    let a = s .args in
+    omega (arith, s .pre .1, size-most (a .gs .now), packed-size 4 (length (a .gs .now)) .1)
+
+add-result : tie.Need-add-result
+add-result c =
+    let s = c .before .before .before .before .before .before .before .before in
+    let a = s .args in
+    omega (arith, s .pre .0, s .pre .1, size-most (a .nodes .now), packed-size 4 (length (a .nodes .now)) .1, size-most (a .gs .now), packed-size 4 (length (a .gs .now)) .1)
+
+numbers-size-requires-3 : tie.Need-numbers-size-requires-3
+numbers-size-requires-3 c κs = search needs
+
+add-result-2 : tie.Need-add-result-2
+add-result-2 c =
+    let s = c .before .before .before .before .before .before .before .before .before in
+    let a = s .args in
+    omega (arith, s .pre, size-most (a .nodes .now), packed-size 4 (length (a .nodes .now)) .1, size-most (a .gs .now), packed-size 4 (length (a .gs .now)) .1, size-most (a .ge .now))
+
+numbers-size-requires-4 : tie.Need-numbers-size-requires-4
+numbers-size-requires-4 c κs = search needs
+
+add-result-3 : tie.Need-add-result-3
+add-result-3 c =
+    let s = c .before .before .before .before .before .before .before .before .before .before in
+    let a = s .args in
+    omega (arith, s .pre, size-most (a .nodes .now), packed-size 4 (length (a .nodes .now)) .1, size-most (a .gs .now), packed-size 4 (length (a .gs .now)) .1, size-most (a .ge .now), size-most (a .gn .now))
+
+returns : tie.Need-returns
+returns c =
+    let s = c .before .before .before .before .before .before .before .before .before .before in
+    let a = s .args in
+    cc (size-graph (a .nodes .now) (a .gs .now) (a .ge .now) (a .gn .now) (s .pre .2) (s .pre .3))
+
+pub graph-size-spec : {M : Type 1} → statement M
+graph-size-spec =
+    tie.close
+    (tie.spec
+    cast-number-size
+    number-size-requires
+    numbers-size-requires
+    add-copies
+    cast-number-size-2
+    number-size-requires-2
+    numbers-size-requires-2
+    add-starts
+    add-result
+    numbers-size-requires-3
+    add-result-2
+    numbers-size-requires-4
+    add-result-3
+    returns)

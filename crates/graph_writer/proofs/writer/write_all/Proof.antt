@@ -1,0 +1,60 @@
+-- The four parts, one after the other.
+use mathlib.Core.List.{[], _∷_, _++_}
+use lib.ListN.{length}
+use Rattle.graph_writer.specs.Writing.{rowsOf}
+use Rattle.graph_writer.proofs.Writing.{wrote-both, graph-numbers}
+use borrow.Author.Needs.{needs}
+use Rattle.graph_writer.proofs.writer.write_all.Statement.{statement}
+use Rattle.graph_writer.proofs.writer.write_all.Tie as tie
+
+cast-and-write : tie.Need-cast-and-write
+cast-and-write c = search needs
+
+and-write-requires : tie.Need-and-write-requires
+and-write-requires c κs = search needs
+
+write-numbers-requires : tie.Need-write-numbers-requires
+write-numbers-requires c κs = search needs
+
+cast-and-write-2 : tie.Need-cast-and-write-2
+cast-and-write-2 c = search needs
+
+and-write-requires-2 : tie.Need-and-write-requires-2
+and-write-requires-2 c κs = search needs
+
+write-edges-requires : tie.Need-write-edges-requires
+write-edges-requires c κs = search needs
+
+same-length : tie.Need-same-length
+same-length c = search needs
+
+returns : tie.Need-returns
+returns c =
+    let fourth = c .before .before in
+    let third = fourth .before .before .before .before in
+    let second = third .before .before .before .before in
+    let first = second .before .before .before .before in
+    let s = first .before .before .before .before .before .before .before in
+    let ns = s .args .nodes .now in
+    let gs = s .args .gs .now in
+    let ge = s .args .ge .now in
+    let gn = s .args .gn .now in
+    rw (graph-numbers ns gs ge gn (s .pre .2) (s .pre .3))
+    (wrote-both ((length ns ∷ []) ++ ns ++ (length gs ∷ [])) (rowsOf gs ge gn)
+    (wrote-both ((length ns ∷ []) ++ ns) (length gs ∷ [])
+    (wrote-both (length ns ∷ []) ns (first .and-write .ensures) (second .write-numbers .ensures))
+    (third .and-write2 .ensures))
+    (fourth .write-edges .ensures))
+
+pub write-all-spec : {M : Type 1} → statement M
+write-all-spec =
+    tie.close
+    (tie.spec
+    cast-and-write
+    and-write-requires
+    write-numbers-requires
+    cast-and-write-2
+    and-write-requires-2
+    write-edges-requires
+    same-length
+    returns)

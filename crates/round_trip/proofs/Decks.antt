@@ -1,0 +1,302 @@
+-- Reading what was written gives the same deck, and writing what was read gives the same bytes.
+use Prim.Native.Nat.{ℕ, zero, suc, _+_, _-_, _≤_, _<_}
+use native.Mathlib.Omega.{arith}
+use mathlib.Core.Path.{_≡_, refl, sym, _∙_, ap}
+use mathlib.Core.Bool.{Bool, true, false, cond}
+use mathlib.Core.List.{List, [], _∷_, _++_, map, flatMap, append-assoc, append-nil}
+use lib.Dec.{leb}
+use lib.IntN.{ℤ}
+use lib.ListN.{length, take, drop, length-drop, length-map, take-append-drop, drop-of-length-le}
+use lib.Seq.{drop-drop, drop-append-seam, take-at, drop-at, length-take-le}
+use borrow.Author.Tests.{le-leb, leb-true, eq-eqb}
+use Rattle.timing.specs.declared.Groups.{Groups}
+use Rattle.timing.specs.declared.Groups.the-variants.{Number, Ended, Unfit}
+use Rattle.timing.specs.declared.Verdict.{Verdict}
+use Rattle.timing.specs.declared.Verdict.the-variants.{Passed}
+use Rattle.timing.specs.Lists.{sum}
+use Rattle.timing.specs.Graphs.{design}
+use Rattle.timing.specs.Marks.{PathList, pathList, cut}
+use Rattle.timing.specs.Numbers.{packed, groupsIn, numberAnswer, readNumber}
+use Rattle.timing.specs.Delays.{packedDelay, delayOf}
+use Rattle.timing.specs.Refusals.{refusal, unless, _then_}
+use Rattle.timing.specs.Parsing.{Parsed, found, stopped, Reader, _>>=_, _>>_, return, tested, parsedNumber, number, repeated, Row, row, ended}
+use Rattle.timing.specs.Decks.{Deck, Tables, edgeNumbers, pathNumbers, deckNumbers, packedDeck, paths, readDeck}
+use Rattle.timing.specs.declared.Verdict.the-variants.{Refused as NotPassed}
+use Rattle.timing.specs.Tests.{sameSizes}
+use Rattle.timing.specs.Calls.{made, parsed, guarded, deckRead}
+use Rattle.packed.proofs.Numbers.{cap-32, Bytes, bytes-drop, read-packed, Back, packed-read}
+use Rattle.packed.proofs.Delays.{delay-packed, packed-delay}
+use Rattle.deck_writer.specs.Writing.{Fit, bytesOf}
+use Rattle.deck_writer.proofs.Writing.{bytes-append, bytes-one, deck-parts, packed-deck}
+use Rattle.deck_reader.proofs.Reading.{Is, is-onward, TestIs, is-tested}
+
+-- numbers that fit 32 bits
+abbrev pub Small : List ℕ → Type 0
+Small [] = Unit {0}
+Small (x ∷ xs) = (x < 4294967296) × Small xs
+
+small-append : (xs ys : List ℕ) → Small (xs ++ ys) → Small xs × Small ys
+small-append [] ys h = (tt, h)
+small-append (x ∷ xs) ys h = let g = small-append xs ys (h .1) in ((h .0, g .0), g .1)
+
+-- 1. Reading what was written. A reader at a place finds x, and behind it the bytes are those of the numbers ys.
+record There {A : Type 0} (s : List ℕ) (p : Reader A) (at : ℕ) (x : A) (ys : List ℕ) : Type 0 where
+  next : ℕ
+  reads : p at ≡ found x next
+  left : drop next s ≡ bytesOf ys
+
+number-there : (s : List ℕ) (at x : ℕ) (ys : List ℕ) → x < 4294967296 → drop at s ≡ bytesOf (x ∷ ys) → There s (number s) at x ys
+unfolding readNumber bytesOf flatMap
+number-there s at x ys h e =
+    let g : groupsIn 15 4 (drop at s) ≡ Number x (length (packed x)) = rw e (read-packed 15 4 x (bytesOf ys) (rw cap-32 h)) in
+    record {
+      next = at + length (packed x);
+      reads = rw g;
+      left = sym (drop-drop (length (packed x)) at s) ∙ ap (λ (l : List ℕ). drop (length (packed x)) l) e ∙ drop-append-seam (packed x) (bytesOf ys);
+    }
+
+numbers-there : (s : List ℕ) (at : ℕ) (xs ys : List ℕ) → Small xs → drop at s ≡ bytesOf (xs ++ ys) → There s (repeated (length xs) (number s)) at xs ys
+numbers-there s at [] ys h e = record { next = at; reads = refl; left = e }
+numbers-there s at (x ∷ xs) ys h e =
+    let t = number-there s at x (xs ++ ys) (h .0) e in
+    let u = numbers-there s (t .next) xs ys (h .1) (t .left) in
+    record { next = u .next; reads = rw (t .reads, u .reads); left = u .left }
+
+abbrev rowsOf : List ℕ → List ℕ → List ℤ → List Row
+rowsOf [] t d = []
+rowsOf (x ∷ s) [] d = []
+rowsOf (x ∷ s) (y ∷ t) [] = []
+rowsOf (x ∷ s) (y ∷ t) (z ∷ d) = record { first = x; second = y; third = packedDelay z } ∷ rowsOf s t d
+
+rows-there : (s : List ℕ) (at : ℕ) (a b : List ℕ) (d : List ℤ) (ys : List ℕ) → length b ≡ length a → length d ≡ length a → Small (edgeNumbers a b d)
+    → drop at s ≡ bytesOf (edgeNumbers a b d ++ ys) → There s (repeated (length a) (row s)) at (rowsOf a b d) ys
+rows-there s at [] b d ys f g h e = record { next = at; reads = refl; left = e }
+rows-there s at (x ∷ a) [] d ys f g h e = absurd (omega arith)
+rows-there s at (x ∷ a) (y ∷ b) [] ys f g h e = absurd (omega arith)
+rows-there s at (x ∷ a) (y ∷ b) (z ∷ d) ys f g h e =
+    let t = number-there s at x (y ∷ packedDelay z ∷ (edgeNumbers a b d ++ ys)) (h .0) e in
+    let u = number-there s (t .next) y (packedDelay z ∷ (edgeNumbers a b d ++ ys)) (h .1 .0) (t .left) in
+    let v = number-there s (u .next) (packedDelay z) (edgeNumbers a b d ++ ys) (h .1 .1 .0) (u .left) in
+    let w = rows-there s (v .next) a b d ys (omega arith) (omega arith) (h .1 .1 .1) (v .left) in
+    record { next = w .next; reads = rw (t .reads, u .reads, v .reads, w .reads); left = w .left }
+
+rows-parts : (a b : List ℕ) (d : List ℤ) → length b ≡ length a → length d ≡ length a
+    → (map (λ r. r .first) (rowsOf a b d) ≡ a) × (map (λ r. r .second) (rowsOf a b d) ≡ b) × (map (λ r. delayOf (r .third)) (rowsOf a b d) ≡ d)
+rows-parts [] [] [] f g = (refl, refl, refl)
+rows-parts [] (y ∷ b) d f g = absurd (omega arith)
+rows-parts [] [] (z ∷ d) f g = absurd (omega arith)
+rows-parts (x ∷ a) [] d f g = absurd (omega arith)
+rows-parts (x ∷ a) (y ∷ b) [] f g = absurd (omega arith)
+rows-parts (x ∷ a) (y ∷ b) (z ∷ d) f g = let p = rows-parts a b d (omega arith) (omega arith) in (rw (p .0), rw (p .1), rw (delay-packed z, p .2))
+
+paths-there : (s : List ℕ) (at table before : ℕ) (edges lengths ys : List ℕ) → sum lengths ≡ length edges → before + length edges ≤ 8192 → before + length edges ≤ table
+    → Small (flatMap pathNumbers (cut edges lengths)) → drop at s ≡ bytesOf (flatMap pathNumbers (cut edges lengths) ++ ys)
+    → There s (paths s table (length lengths) before) at (pathList edges lengths) ys
+unfolding flatMap
+paths-there s at table before [] [] ys a l m h e = record { next = at; reads = refl; left = e }
+paths-there s at table before (x ∷ edges) [] ys a l m h e = absurd (omega arith)
+paths-there s at table before edges (k ∷ lengths) ys a l m h e =
+    let p = take k edges in
+    let rest = flatMap pathNumbers (cut (drop k edges) lengths) in
+    let d : length p ≡ k = length-take-le k edges (omega arith) in
+    let n : length (drop k edges) ≡ length edges - k = length-drop k edges in
+    let g = small-append p rest (h .1) in
+    let t = number-there s at k ((p ++ rest) ++ ys) (rw d at (h .0)) (rw d at e) in
+    let u = numbers-there s (t .next) p (rest ++ ys) (g .0) (t .left ∙ ap bytesOf (append-assoc p rest ys)) in
+    let v = paths-there s (u .next) table (before + k) (drop k edges) lengths ys (omega arith) (omega arith) (omega arith) (g .1) (u .left) in
+    let r : repeated k (number s) (t .next) ≡ found p (u .next) = rw d at (u .reads) in
+    record {
+      next = v .next;
+      reads = rw (t .reads, le-leb (before + k) 8192 (omega arith), le-leb (before + k) table (omega arith), r, v .reads, take-append-drop k edges);
+      left = v .left;
+    }
+
+deck-there : (d : Deck) (tables : Tables) (s : List ℕ) → s ≡ bytesOf (deckNumbers d) → Fit d → Small (deckNumbers d)
+    → length (d .design .starts) ≤ tables .edges → length (d .list .lengths) ≤ tables .paths → length (d .list .edges) ≤ tables .listed → parsed (readDeck s tables) ≡ made d
+unfolding readDeck bytesOf flatMap
+deck-there d tables s e f h te tp tl =
+    let D = d .design in
+    let es = edgeNumbers (D .starts) (D .ends) (D .delays) in
+    let ps = flatMap pathNumbers (cut (d .list .edges) (d .list .lengths)) in
+    let q : deckNumbers d ≡ D .nodes ∷ length (D .starts) ∷ (es ++ (length (d .list .lengths) ∷ (ps ++ (d .allowed ∷ [])))) =
+    deck-parts d ∙ ap (λ (l : List ℕ). D .nodes ∷ length (D .starts) ∷ l) (append-assoc es (length (d .list .lengths) ∷ ps) (d .allowed ∷ [])) in
+    let g = rw q at h in
+    let ge = small-append es (length (d .list .lengths) ∷ (ps ++ (d .allowed ∷ []))) (g .1 .1) in
+    let gp = small-append ps (d .allowed ∷ []) (ge .1 .1) in
+    let a = number-there s 0 (D .nodes) (length (D .starts) ∷ (es ++ (length (d .list .lengths) ∷ (ps ++ (d .allowed ∷ []))))) (g .0) (e ∙ ap bytesOf q) in
+    let b = number-there s (a .next) (length (D .starts)) (es ++ (length (d .list .lengths) ∷ (ps ++ (d .allowed ∷ [])))) (g .1 .0) (a .left) in
+    let c = rows-there s (b .next) (D .starts) (D .ends) (D .delays) (length (d .list .lengths) ∷ (ps ++ (d .allowed ∷ []))) (f .ends) (f .delays) (ge .0) (b .left) in
+    let k = number-there s (c .next) (length (d .list .lengths)) (ps ++ (d .allowed ∷ [])) (ge .1 .0) (c .left) in
+    let l = paths-there s (k .next) (tables .listed) 0 (d .list .edges) (d .list .lengths) (d .allowed ∷ []) (f .adds) (omega (arith, f .listed)) (omega arith) (gp .0) (k .left) in
+    let t = number-there s (l .next) (d .allowed) [] (gp .1 .0) (l .left) in
+    let n : length s ≤ t .next = omega (arith, length-drop (t .next) s, ap length (t .left)) in
+    let r = rows-parts (D .starts) (D .ends) (D .delays) (f .ends) (f .delays) in
+    rw (
+      a .reads,
+      le-leb (D .nodes) 4096 (f .nodes),
+      b .reads,
+      le-leb (length (D .starts)) 16384 (f .edges),
+      le-leb (length (D .starts)) (tables .edges) te,
+      c .reads,
+      k .reads,
+      le-leb (length (d .list .lengths)) 1024 (f .paths),
+      le-leb (length (d .list .lengths)) (tables .paths) tp,
+      l .reads,
+      t .reads,
+      le-leb (length s) (t .next) n,
+      r .0,
+      r .1,
+      r .2,
+    )
+
+-- Reading a deck's packed form gives the deck, for every deck whose counts are within the limits and the tables and whose
+-- numbers fit 32 bits.
+pub read-written : (d : Deck) (edges listed paths : ℕ) → Fit d → Small (deckNumbers d)
+    → length (d .design .starts) ≤ edges → length (d .list .edges) ≤ listed → length (d .list .lengths) ≤ paths → deckRead (packedDeck d) edges edges edges listed paths ≡ made d
+unfolding deckRead
+read-written d edges listed paths f h te tl tp =
+    rw (eq-eqb edges edges refl) (deck-there d (record { edges = edges; listed = listed; paths = paths }) (packedDeck d) (packed-deck d) f h te tp tl)
+
+-- 2. Writing what was read. The bytes from a place up to the next are those of the numbers xs.
+abbrev Took : List ℕ → ℕ → List ℕ → ℕ → Type 0
+Took s at xs next = drop at s ≡ bytesOf xs ++ drop next s
+
+took-both : (s : List ℕ) (at mid next : ℕ) (xs ys : List ℕ) → Took s at xs mid → Took s mid ys next → Took s at (xs ++ ys) next
+took-both s at mid next xs ys f g =
+    f ∙ ap (λ (l : List ℕ). bytesOf xs ++ l) g ∙ sym (append-assoc (bytesOf xs) (bytesOf ys) (drop next s)) ∙ ap (λ (l : List ℕ). l ++ drop next s) (sym (bytes-append xs ys))
+
+took-none : (s : List ℕ) (at : ℕ) → Took s at [] at
+unfolding bytesOf flatMap
+took-none s at = refl
+
+module _ (s : List ℕ) (bytes : Bytes s) where
+  took-number : (at : ℕ) → Is (λ x next. Took s at (x ∷ []) next) (number s at)
+  unfolding readNumber
+  took-number at = by (groupsIn 15 4 (drop at s)) (packed-read 15 4 (drop at s) (bytes-drop s at bytes))
+    where
+      by : (g : Groups) → Back 4 (drop at s) g → Is (λ x next. Took s at (x ∷ []) next) (parsedNumber (numberAnswer (length s) at g))
+      by (Number v n) k = sym (take-append-drop n (drop at s)) ∙ rw (k, bytes-one v, drop-drop n at s)
+      by Ended k = tt
+      by Unfit k = tt
+
+  abbrev TookNumbers : ℕ → ℕ → List ℕ → ℕ → Type 0
+  TookNumbers k at xs next = Took s at xs next × (length xs ≡ k)
+
+  took-numbers : (k at : ℕ) → Is (TookNumbers k at) (repeated k (number s) at)
+  took-numbers zero at = (took-none s at, refl)
+  took-numbers (suc k) at =
+      is-onward (λ x next. Took s at (x ∷ []) next) (TookNumbers (suc k) at) (number s at) (λ x. repeated k (number s) >>= (λ xs. return (x ∷ xs))) (took-number at)
+      (λ x a f. is-onward (TookNumbers k a) (TookNumbers (suc k) at) (repeated k (number s) a) (λ xs. return (x ∷ xs)) (took-numbers k a)
+      (λ xs b g. (took-both s at a b (x ∷ []) xs f (g .0), ap suc (g .1))))
+
+  abbrev TookRow : ℕ → Row → ℕ → Type 0
+  TookRow at r next = Took s at (r .first ∷ r .second ∷ r .third ∷ []) next
+
+  took-row : (at : ℕ) → Is (TookRow at) (row s at)
+  took-row at =
+      is-onward (λ x next. Took s at (x ∷ []) next) (TookRow at) (number s at) (λ a. number s >>= (λ b. number s >>= (λ c. return (record { first = a; second = b; third = c })))) (took-number at)
+      (λ a p f. is-onward (λ x next. Took s p (x ∷ []) next) (TookRow at) (number s p) (λ b. number s >>= (λ c. return (record { first = a; second = b; third = c }))) (took-number p)
+      (λ b q g. is-onward (λ x next. Took s q (x ∷ []) next) (TookRow at) (number s q) (λ c. return (record { first = a; second = b; third = c })) (took-number q)
+      (λ c n h. took-both s at p n (a ∷ []) (b ∷ c ∷ []) f (took-both s p q n (b ∷ []) (c ∷ []) g h))))
+
+  abbrev rowNumbers : List Row → List ℕ
+  rowNumbers rs = edgeNumbers (map (λ r. r .first) rs) (map (λ r. r .second) rs) (map (λ r. delayOf (r .third)) rs)
+
+  abbrev TookRows : ℕ → ℕ → List Row → ℕ → Type 0
+  TookRows k at rs next = Took s at (rowNumbers rs) next × (length rs ≡ k)
+
+  took-rows : (k at : ℕ) → Is (TookRows k at) (repeated k (row s) at)
+  took-rows zero at = (took-none s at, refl)
+  took-rows (suc k) at =
+      is-onward (TookRow at) (TookRows (suc k) at) (row s at) (λ r. repeated k (row s) >>= (λ rs. return (r ∷ rs))) (took-row at)
+      (λ r a f. is-onward (TookRows k a) (TookRows (suc k) at) (repeated k (row s) a) (λ rs. return (r ∷ rs)) (took-rows k a)
+      (λ rs b g. (rw (packed-delay (r .third)) (took-both s at a b (r .first ∷ r .second ∷ r .third ∷ []) (rowNumbers rs) f (g .0)), ap suc (g .1))))
+
+  -- a path of n edges in front of the others
+  path-numbers : (n : ℕ) (p : List ℕ) (edges lengths : List ℕ) → length p ≡ n → flatMap pathNumbers (cut (p ++ edges) (n ∷ lengths)) ≡ (n ∷ p) ++ flatMap pathNumbers (cut edges lengths)
+  unfolding flatMap
+  path-numbers n p edges lengths e = rw (take-at p edges n e, drop-at p edges n e, e)
+
+  abbrev TookPaths : ℕ → ℕ → PathList → ℕ → Type 0
+  TookPaths k at l next = Took s at (flatMap pathNumbers (cut (l .edges) (l .lengths))) next × (length (l .lengths) ≡ k)
+
+  paths-none : (at : ℕ) → Took s at (flatMap pathNumbers (cut [] [])) at
+  unfolding flatMap
+  paths-none at = took-none s at
+
+  took-paths : (table k sum at : ℕ) → Is (TookPaths k at) (paths s table k sum at)
+  took-paths table zero sum at = (paths-none at, refl)
+  took-paths table (suc k) sum at =
+      let test : ℕ → Verdict = λ n. unless 21 (leb (sum + n) 8192) then unless 36 (leb (sum + n) table) in
+      is-onward (λ x next. Took s at (x ∷ []) next) (TookPaths (suc k) at) (number s at) _ (took-number at)
+      (λ n a f. is-onward (TestIs (test n) a) (TookPaths (suc k) at) (tested (test n) a) _ (is-tested (test n) a)
+      (λ u b t. is-onward (TookNumbers n b) (TookPaths (suc k) at) (repeated n (number s) b) _ (took-numbers n b)
+      (λ p d g. is-onward (TookPaths k d) (TookPaths (suc k) at) (paths s table k (sum + n) d) _ (took-paths table k (sum + n) d)
+      (λ l e h. (
+        rw (path-numbers n p (l .edges) (l .lengths) (g .1))
+            (took-both s at a e (n ∷ []) (p ++ flatMap pathNumbers (cut (l .edges) (l .lengths))) f
+            (rw (t .1) at (took-both s b d e p (flatMap pathNumbers (cut (l .edges) (l .lengths))) (g .0) (h .0)))),
+        ap suc (h .1),
+      )))))
+
+  is-ended : (at : ℕ) → Is (λ u next. length s ≤ at) (ended s at)
+  is-ended at = by (leb (length s) at) refl
+    where
+      by : (t : Bool) → leb (length s) at ≡ t → Is (λ u next. length s ≤ at) (cond t (found (tt {0}) at) (stopped (refusal 3 at)))
+      by true e = leb-true (length s) at e
+      by false e = tt
+
+  whole : (next : ℕ) (xs : List ℕ) → Took s 0 xs next → length s ≤ next → bytesOf xs ≡ s
+  whole next xs f h = sym (f ∙ ap (λ (l : List ℕ). bytesOf xs ++ l) (drop-of-length-le s h) ∙ append-nil (bytesOf xs))
+
+  -- the parts of a deck, put together
+  took-parts : (n m count e : ℕ) (rows : List Row) (list : PathList) (a b c p t f : ℕ) → Took s 0 (n ∷ []) a → Took s a (m ∷ []) b → TookRows m b rows c → Took s c (count ∷ []) p
+      → TookPaths count p list t → Took s t (e ∷ []) f → length s ≤ f
+      → packedDeck (record {
+        design = design n (map (λ r. r .first) rows) (map (λ r. r .second) rows) (map (λ r. delayOf (r .third)) rows);
+        list = list;
+        allowed = e;
+      }) ≡ s
+  took-parts n m count e rows list a b c p t f hn hm hr hc hp ht he =
+      let d : Deck = record { design = design n (map (λ r. r .first) rows) (map (λ r. r .second) rows) (map (λ r. delayOf (r .third)) rows); list = list; allowed = e } in
+      let k : length (map (λ (r : Row). r .first) rows) ≡ m = length-map rows (λ (r : Row). r .first) ∙ hr .1 in
+      let ps = flatMap pathNumbers (cut (list .edges) (list .lengths)) in
+      packed-deck d ∙ ap bytesOf (deck-parts d)
+      ∙ rw (k, hp .1)
+      (whole f ((n ∷ m ∷ rowNumbers rows) ++ (count ∷ ps) ++ (e ∷ []))
+      (took-both s 0 t f ((n ∷ m ∷ rowNumbers rows) ++ (count ∷ ps)) (e ∷ [])
+      (took-both s 0 c t (n ∷ m ∷ rowNumbers rows) (count ∷ ps) (took-both s 0 a c (n ∷ []) (m ∷ rowNumbers rows) hn (took-both s a b c (m ∷ []) (rowNumbers rows) hm (hr .0)))
+      (took-both s c p t (count ∷ []) ps hc (hp .0)))
+      ht)
+      he)
+
+  took-deck : (tables : Tables) → Is (λ d next. packedDeck d ≡ s) (readDeck s tables)
+  unfolding readDeck
+  took-deck tables =
+      let Q : Deck → ℕ → Type 0 = λ d next. packedDeck d ≡ s in
+      is-onward (λ x next. Took s 0 (x ∷ []) next) Q (number s 0) _ (took-number 0)
+      (λ n a hn. is-onward (TestIs (unless 10 (leb n 4096)) a) Q (tested (unless 10 (leb n 4096)) a) _ (is-tested (unless 10 (leb n 4096)) a)
+      (λ u a' ta. is-onward (λ x next. Took s a' (x ∷ []) next) Q (number s a') _ (took-number a')
+      (λ m b hm. is-onward (TestIs (unless 11 (leb m 16384) then unless 36 (leb m (tables .edges))) b) Q (tested (unless 11 (leb m 16384) then unless 36 (leb m (tables .edges))) b) _
+      (is-tested (unless 11 (leb m 16384) then unless 36 (leb m (tables .edges))) b)
+      (λ u' b' tb. is-onward (TookRows m b') Q (repeated m (row s) b') _ (took-rows m b')
+      (λ rows c hr. is-onward (λ x next. Took s c (x ∷ []) next) Q (number s c) _ (took-number c)
+      (λ count p hc. is-onward (TestIs (unless 20 (leb count 1024) then unless 36 (leb count (tables .paths))) p) Q (tested (unless 20 (leb count 1024) then unless 36 (leb count (tables .paths))) p) _
+      (is-tested (unless 20 (leb count 1024) then unless 36 (leb count (tables .paths))) p)
+      (λ u″ p' tp. is-onward (TookPaths count p') Q (paths s (tables .listed) count 0 p') _ (took-paths (tables .listed) count 0 p')
+      (λ list t hp. is-onward (λ x next. Took s t (x ∷ []) next) Q (number s t) _ (took-number t)
+      (λ e f ht. is-onward (λ v z. length s ≤ f) Q (ended s f) _ (is-ended f)
+      (λ v z he. took-parts n m count e rows list a' b' c p' t f (rw (ta .1) hn) (rw (tb .1) hm) hr (rw (tp .1) hc) hp ht he))))))))))
+
+-- Packing a deck that was read gives the bytes that were read, all of them.
+pub written-read : (s : List ℕ) (starts ends delays listed lengths : ℕ) (d : Deck) → Bytes s → deckRead s starts ends delays listed lengths ≡ made d → packedDeck d ≡ s
+unfolding deckRead
+written-read s starts ends delays listed lengths d bytes e = by (sameSizes starts ends delays) e
+  where
+    two : (p : Parsed Deck) → Is (λ d next. packedDeck d ≡ s) p → parsed p ≡ made d → packedDeck d ≡ s
+    two (found x at) h q = let g : x ≡ d = cc in rw (← g) h
+    two (stopped r) h q = absurd (let z : _≡_ {A = ℕ} 0 1 = cc in omega arith)
+
+    by : (v : Verdict) → guarded v (parsed (readDeck s (record { edges = starts; listed = listed; paths = lengths }))) ≡ made d → packedDeck d ≡ s
+    by Passed q = two (readDeck s (record { edges = starts; listed = listed; paths = lengths })) (took-deck s bytes (record { edges = starts; listed = listed; paths = lengths })) q
+    by (NotPassed r) q = absurd (let z : _≡_ {A = ℕ} 0 1 = cc in omega arith)

@@ -1,0 +1,137 @@
+-- Reading a deck: no place of a refusal is past the bytes, and what is found fits the tables.
+use Prim.Native.Nat.{ℕ, zero, suc, _+_, _≤_, _<_}
+use native.Mathlib.Omega.{arith}
+use mathlib.Core.Path.{_≡_, refl, sym, ap, _∙_, subst}
+use mathlib.Core.Bool.{Bool, true, false, cond}
+use mathlib.Core.List.{List, [], _∷_, _++_, map}
+use lib.Dec.{leb}
+use lib.ListN.{length, drop, length-drop, length-map}
+use borrow.Author.Tests.{leb-false}
+use Rattle.timing.specs.declared.Verdict.{Verdict}
+use Rattle.timing.specs.declared.Verdict.the-variants.{Passed, Refused}
+use Rattle.timing.specs.declared.Groups.{Groups}
+use Rattle.timing.specs.declared.Groups.the-variants.{Number, Ended, Unfit}
+use Rattle.timing.specs.Graphs.{Design}
+use Rattle.timing.specs.Marks.{PathList, pathList}
+use Rattle.timing.specs.Refusals.{refusal, unless, _then_}
+use Rattle.timing.specs.Numbers.{groupsIn, numberAnswer, readNumber}
+use Rattle.timing.specs.Delays.{delayOf}
+use Rattle.timing.specs.Parsing.{Parsed, found, stopped, Reader, onward, _>>=_, _>>_, return, tested, parsedNumber, number, repeated, Row, row, ended}
+use Rattle.timing.specs.Decks.{Deck, Tables, paths, deckReader, readDeck}
+use Rattle.timing.specs.Calls.{Outcome, made, refused, parsed}
+use Rattle.packed.proofs.Numbers.{Inside, number-inside}
+use Rattle.deck_reader.specs.Reading.{deckFrom, edgeCount, edgesPlace, rowsFrom, Fits}
+use Rattle.deck_reader.proofs.Reading.{Is, is-deck, length-rows}
+use Rattle.true_graph.specs.Small.{SmallRefusal, Small}
+use Rattle.true_graph.proofs.Small.{small-then, small-unless}
+
+-- no place is past the bytes
+abbrev pub Within : {A : Type 0} → List ℕ → Parsed A → Type 0
+Within s (found x at) = at ≤ length s
+Within s (stopped r) = (r .number ≤ 36) × (r .place ≤ length s)
+
+within-onward : {A B : Type 0} (s : List ℕ) (p : Parsed A) (f : A → Reader B) → Within s p → ((x : A) (at : ℕ) → at ≤ length s → Within s (f x at)) → Within s (onward p f)
+within-onward s (found x at) f h k = k x at h
+within-onward s (stopped r) f h k = h
+
+within-number : (s : List ℕ) (at : ℕ) → at ≤ length s → Within s (number s at)
+unfolding readNumber
+within-number s at h = go (groupsIn 15 4 (drop at s)) (number-inside 15 4 (drop at s))
+  where
+    go : (g : Groups) → Inside (drop at s) g → Within s (parsedNumber (numberAnswer (length s) at g))
+    go (Number v n) i = omega (arith, i .1, length-drop at s)
+    go Ended i = (omega arith, omega arith)
+    go Unfit i = (omega arith, h)
+
+-- tests whose place is 0
+abbrev Front : Verdict → Type 0
+Front Passed = Unit {0}
+Front (Refused r) = (r .number ≤ 36) × (r .place ≡ 0)
+
+front-unless : (k : ℕ) → k ≤ 36 → (fit : Bool) → Front (unless k fit)
+front-unless k h true = tt
+front-unless k h false = (h, refl)
+
+front-then : (v w : Verdict) → Front v → Front w → Front (v then w)
+front-then Passed w a b = b
+front-then (Refused r) w a b = a
+
+within-tested : (s : List ℕ) (v : Verdict) (at : ℕ) → Front v → at ≤ length s → Within s (tested v at)
+within-tested s Passed at f h = h
+within-tested s (Refused r) at f h = (f .0, omega (arith, f .1))
+
+within-count : (s : List ℕ) (k n limit table at : ℕ) → k ≤ 36 → at ≤ length s → Within s (tested (unless k (leb n limit) then unless 36 (leb n table)) at)
+within-count s k n limit table at l h =
+    within-tested s (unless k (leb n limit) then unless 36 (leb n table)) at
+    (front-then (unless k (leb n limit)) (unless 36 (leb n table)) (front-unless k l (leb n limit)) (front-unless 36 (omega arith) (leb n table))) h
+
+within-repeated : {A : Type 0} (s : List ℕ) (p : Reader A) → ((at : ℕ) → at ≤ length s → Within s (p at)) → (k at : ℕ) → at ≤ length s → Within s (repeated k p at)
+within-repeated s p w zero at h = h
+within-repeated {A} s p w (suc k) at h =
+    within-onward s (p at) (λ x. repeated k p >>= (λ xs. return (x ∷ xs))) (w at h)
+    (λ x a i. within-onward s (repeated k p a) (λ xs. return (x ∷ xs)) (within-repeated s p w k a i) (λ xs b j. j))
+
+within-row : (s : List ℕ) (at : ℕ) → at ≤ length s → Within s (row s at)
+within-row s at h =
+    within-onward s (number s at) _ (within-number s at h)
+    (λ x a i. within-onward s (number s a) _ (within-number s a i) (λ y b j. within-onward s (number s b) _ (within-number s b j) (λ z c k. k)))
+
+within-paths : (s : List ℕ) (table k sum at : ℕ) → at ≤ length s → Within s (paths s table k sum at)
+within-paths s table zero sum at h = h
+within-paths s table (suc k) sum at h =
+    within-onward s (number s at) _ (within-number s at h)
+    (λ n a i. within-onward s (tested (unless 21 (leb (sum + n) 8192) then unless 36 (leb (sum + n) table)) a) _ (within-count s 21 (sum + n) 8192 table a (omega arith) i)
+    (λ u b j. within-onward s (repeated n (number s) b) _ (within-repeated s (number s) (within-number s) n b j)
+    (λ p c l. within-onward s (paths s table k (sum + n) c) _ (within-paths s table k (sum + n) c l) (λ rest d m. m))))
+
+within-ended : (s : List ℕ) (at : ℕ) → at ≤ length s → Within s (ended s at)
+within-ended s at h = go (leb (length s) at)
+  where
+    go : (b : Bool) → Within {A = Unit {0}} s (cond b (found tt at) (stopped (refusal 3 at)))
+    go true = h
+    go false = (omega arith, h)
+
+pub within-deck : (s : List ℕ) (tables : Tables) → Within s (readDeck s tables)
+unfolding readDeck
+within-deck s tables =
+    within-onward s (number s 0) _ (within-number s 0 (omega arith))
+    (λ n a h. within-onward s (tested (unless 10 (leb n 4096)) a) _ (within-tested s (unless 10 (leb n 4096)) a (front-unless 10 (omega arith) (leb n 4096)) h)
+    (λ u b i. within-onward s (number s b) _ (within-number s b i)
+    (λ m c j. within-onward s (tested (unless 11 (leb m 16384) then unless 36 (leb m (tables .edges))) c) _ (within-count s 11 m 16384 (tables .edges) c (omega arith) j)
+    (λ v d k. within-onward s (repeated m (row s) d) _ (within-repeated s (row s) (within-row s) m d k)
+    (λ rows e l. within-onward s (number s e) _ (within-number s e l)
+    (λ count f o. within-onward s (tested (unless 20 (leb count 1024) then unless 36 (leb count (tables .paths))) f) _ (within-count s 20 count 1024 (tables .paths) f (omega arith) o)
+    (λ w g q. within-onward s (paths s (tables .listed) count 0 g) _ (within-paths s (tables .listed) count 0 g q)
+    (λ list t r. within-onward s (number s t) _ (within-number s t r)
+    (λ allowed x y. within-onward s (ended s x) _ (within-ended s x y) (λ z aa bb. bb))))))))))
+
+-- a deck that is read: its three slices of edges are of one length, and it fits the tables
+pub record ReadSizes (d : Deck) (tables : Tables) : Type 0 where
+  pub ends : length (d .design .ends) ≡ length (d .design .starts)
+  pub delays : length (d .design .delays) ≡ length (d .design .starts)
+
+pub read-sizes : (s : List ℕ) (tables : Tables) (d : Deck) → parsed (readDeck s tables) ≡ made d → ReadSizes d tables
+unfolding deckFrom
+read-sizes s tables d e = go (readDeck s tables) (is-deck s tables) e
+  where
+    of : Outcome Deck → Deck
+    of (made x) = x
+    of (refused r) = d
+
+    isMade : Outcome Deck → Type 0
+    isMade (made x) = Unit {0}
+    isMade (refused r) = ⊥
+
+    rows : List Row
+    rows = rowsFrom s (edgeCount s 0) (edgesPlace s 0)
+
+    sized : ReadSizes (deckFrom s 0) tables
+    sized =
+        let a = length-map rows (λ (r : Row). r .first) in
+        let b = length-map rows (λ (r : Row). r .second) in
+        let c = length-map rows (λ (r : Row). delayOf (r .third)) in
+        record { ends = omega (arith, a, b); delays = omega (arith, a, c) }
+
+    go : (p : Parsed Deck) → Is (λ x next. (x ≡ deckFrom s 0) × Fits s 0 tables) p → parsed p ≡ made d → ReadSizes d tables
+    go (found x at) h q = subst (λ (y : Deck). ReadSizes y tables) (sym (h .0) ∙ ap of q) sized
+    go (stopped r) h q = absurd (subst isMade (sym q) tt)

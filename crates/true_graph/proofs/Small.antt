@@ -1,0 +1,156 @@
+-- Every refusal and every count fits one number of 64 bits: a place is that of an edge or a path, which are counted before they
+-- are looked at, and what is made has passed 33 and 34.
+use Prim.Native.Nat.{ℕ, suc, _+_, _*_, _≤_, min}
+use native.Mathlib.Omega.{arith}
+use mathlib.Core.Path.{_≡_, refl, sym, subst}
+use mathlib.Core.Bool.{Bool, true, false, cond, not, _&&_}
+use mathlib.Core.List.{List, [], _∷_}
+use lib.Dec.{eqb, ltb, leb, leb→le}
+use lib.ListN.{length}
+use Rattle.timing.specs.declared.Verdict.{Verdict}
+use Rattle.timing.specs.declared.Verdict.the-variants.{Passed, Refused}
+use Rattle.timing.specs.Lists.{isNil, anyOf, eachNext, upto, sum}
+use Rattle.timing.specs.Graphs.{Design, Graph, designGraph}
+use Rattle.timing.specs.Marks.{PathList, pathsOf, cut}
+use Rattle.timing.specs.TrueGraphs.{trueGraph}
+use Rattle.timing.specs.WellFormed.{wellFormed}
+use Rattle.timing.specs.Refusals.{refusal, unless, firstBad, _then_}
+use Rattle.timing.specs.Tests.{sameSizes, designSizes, listSizes, nodeCount, designCounts, strays, falls, tooSlow, designTests, listCounts, meets, listTests, allowedTest, graphTest, candidates, scratchTest, Room, roomSizes, roomTests}
+use Rattle.timing.specs.Calls.{GraphSlices, graphOf, graphSizes, Outcome, outcome, Removal, removalTests, removeFromDesign, removeFromGraph, graphAnswer, testTimes}
+use Rattle.theorems.proofs.Lists.{holds, length-upto}
+use Rattle.timing.proofs.Verdicts.{then-passed, unless-passed}
+use Rattle.design.proofs.Laws.{length-cut}
+use Rattle.true_graph.specs.Small.{SmallRefusal, SmallGraph, Small}
+
+pub small-then : (v w : Verdict) → Small v → (v ≡ Passed → Small w) → Small (v then w)
+small-then Passed w a b = b refl
+small-then (Refused x) w a b = a
+
+pub small-unless : (k : ℕ) → k ≤ 36 → (fit : Bool) → Small (unless k fit)
+small-unless k h true = tt
+small-unless k h false = (h, omega arith)
+
+small-first : {A : Type 0} (k : ℕ) → k ≤ 36 → (bad : A → Bool) (i : ℕ) (xs : List A) → i + length xs ≤ 65536 → Small (firstBad k bad i xs)
+small-first k h bad i [] l = tt
+small-first {A} k h bad i (x ∷ xs) l = go (bad x) (small-first k h bad (suc i) xs (omega arith))
+  where
+    go : (b : Bool) → Small (firstBad k bad (suc i) xs) → Small (cond b (Refused (refusal k i)) (firstBad k bad (suc i) xs))
+    go true r = (h, omega arith)
+    go false r = r
+
+pub small-sizes : (a b c : ℕ) → Small (sameSizes a b c)
+small-sizes a b c = small-unless 30 (omega arith) (eqb a b && eqb a c)
+
+passes-le : (k a b : ℕ) → unless k (leb a b) ≡ Passed → a ≤ b
+passes-le k a b e = leb→le a b (holds (leb a b) (unless-passed k (leb a b) e))
+
+pub small-design : (D : Design) → Small (designTests D)
+unfolding designTests
+small-design D =
+    let ks = upto (length (D .starts)) 0 in
+    small-then (designCounts D) (firstBad 12 (strays D) 0 ks then (firstBad 13 (falls D) 0 ks then firstBad 14 (tooSlow D) 0 ks))
+    (small-then (nodeCount (D .nodes)) (unless 11 (leb (length (D .starts)) 16384)) (small-unless 10 (omega arith) (leb (D .nodes) 4096)) (λ e. small-unless 11 (omega arith) (leb (length (D .starts)) 16384)))
+    (λ p.
+    let m = passes-le 11 (length (D .starts)) 16384 (then-passed (nodeCount (D .nodes)) (unless 11 (leb (length (D .starts)) 16384)) p .1) in
+    let few : 0 + length ks ≤ 65536 = omega (arith, length-upto (length (D .starts)) 0) in
+    small-then (firstBad 12 (strays D) 0 ks) (firstBad 13 (falls D) 0 ks then firstBad 14 (tooSlow D) 0 ks) (small-first 12 (omega arith) (strays D) 0 ks few)
+    (λ e. small-then (firstBad 13 (falls D) 0 ks) (firstBad 14 (tooSlow D) 0 ks) (small-first 13 (omega arith) (falls D) 0 ks few) (λ e. small-first 14 (omega arith) (tooSlow D) 0 ks few)))
+
+pub small-list : (D : Design) (L : PathList) → Small (listTests D L)
+unfolding listTests
+small-list D L =
+    let K = pathsOf L in
+    let named : List ℕ → Bool = anyOf (λ k. not (ltb k (length (D .starts)))) in
+    let joined : List ℕ → Bool = λ p. not (eachNext (meets D) p) in
+    small-then (listCounts L) (firstBad 22 isNil 0 K then (firstBad 23 named 0 K then firstBad 24 joined 0 K))
+    (small-then (unless 20 (leb (length (L .lengths)) 1024)) (unless 21 (leb (length (L .edges)) 8192)) (small-unless 20 (omega arith) (leb (length (L .lengths)) 1024)) (λ e. small-unless 21 (omega arith) (leb (length (L .edges)) 8192)))
+    (λ p.
+    let m = passes-le 20 (length (L .lengths)) 1024 (then-passed (unless 20 (leb (length (L .lengths)) 1024)) (unless 21 (leb (length (L .edges)) 8192)) p .0) in
+    let few : 0 + length K ≤ 65536 = omega (arith, length-cut (L .edges) (L .lengths)) in
+    small-then (firstBad 22 isNil 0 K) (firstBad 23 named 0 K then firstBad 24 joined 0 K) (small-first 22 (omega arith) isNil 0 K few)
+    (λ e. small-then (firstBad 23 named 0 K) (firstBad 24 joined 0 K) (small-first 23 (omega arith) named 0 K few) (λ e. small-first 24 (omega arith) joined 0 K few)))
+
+pub small-scratch : (D : Design) (G : Graph) (L : PathList) (words : ℕ) → Small (scratchTest D G L words)
+unfolding scratchTest
+small-scratch D G L words = small-unless 31 (omega arith) (leb (16 * (candidates D G L + length (L .edges) + length (G .edges))) words)
+
+-- what is made has passed 33 and 34
+small-made : (R : Room) (H : Graph) (v : Verdict) → Small v → SmallGraph (graphAnswer (outcome (v then roomTests R H) H))
+unfolding roomTests
+small-made R H (Refused x) s = s
+small-made R H Passed s = go (leb (length (H .nodes)) (min (R .nodes) 16384)) (leb (length (H .edges)) (min (R .starts) 65536)) refl refl
+  where
+    go : (a b : Bool) → leb (length (H .nodes)) (min (R .nodes) 16384) ≡ a → leb (length (H .edges)) (min (R .starts) 65536) ≡ b
+        → SmallGraph (graphAnswer (outcome (unless 33 a then unless 34 b) H))
+    go true true p q = (
+      omega (arith, leb→le (length (H .nodes)) (min (R .nodes) 16384) (holds (leb (length (H .nodes)) (min (R .nodes) 16384)) p)),
+      omega (arith, leb→le (length (H .edges)) (min (R .starts) 65536) (holds (leb (length (H .edges)) (min (R .starts) 65536)) q)),
+    )
+    go true false p q = (omega arith, omega arith)
+    go false b p q = (omega arith, omega arith)
+
+-- the tests before 33
+abbrev designEarly : Design → Removal → Verdict
+designEarly D r = designSizes D then (listSizes (r .list) then (roomSizes (r .room) then (designTests D then (listTests D (r .list) then scratchTest D (designGraph D) (r .list) (r .scratch)))))
+
+abbrev graphEarly : Design → GraphSlices → Removal → Verdict
+graphEarly D S r =
+    designSizes D then (listSizes (r .list) then (graphSizes S then (roomSizes (r .room) then (designTests D then (listTests D (r .list) then (graphTest D (graphOf S) then scratchTest D (graphOf S) (r .list) (r .scratch)))))))
+
+early-six : (d l o t u s w : Verdict) → ((d then (l then (o then (t then (u then s))))) then w) ≡ (d then (l then (o then (t then (u then (s then w))))))
+early-six (Refused x) l o t u s w = refl
+early-six Passed (Refused x) o t u s w = refl
+early-six Passed Passed (Refused x) t u s w = refl
+early-six Passed Passed Passed (Refused x) u s w = refl
+early-six Passed Passed Passed Passed (Refused x) s w = refl
+early-six Passed Passed Passed Passed Passed s w = refl
+
+early-eight : (d l g o t u f s w : Verdict)
+    → ((d then (l then (g then (o then (t then (u then (f then s))))))) then w) ≡ (d then (l then (g then (o then (t then (u then (f then (s then w))))))))
+early-eight (Refused x) l g o t u f s w = refl
+early-eight Passed (Refused x) g o t u f s w = refl
+early-eight Passed Passed g o t u f s w = early-six g o t u f s w
+
+pub small-list-sizes : (L : PathList) → Small (listSizes L)
+small-list-sizes L = small-unless 30 (omega arith) (eqb (sum (L .lengths)) (length (L .edges)))
+
+pub small-from-design : (D : Design) (r : Removal) → SmallGraph (graphAnswer (removeFromDesign D r))
+unfolding removeFromDesign
+small-from-design D r =
+    let G = designGraph D in
+    let H = trueGraph G (pathsOf (r .list)) in
+    subst (λ (v : Verdict). SmallGraph (graphAnswer (outcome v H)))
+    (early-six (designSizes D) (listSizes (r .list)) (roomSizes (r .room)) (designTests D) (listTests D (r .list)) (scratchTest D G (r .list) (r .scratch)) (roomTests (r .room) H))
+    (small-made (r .room) H (designEarly D r)
+    (small-then (designSizes D) _ (small-sizes (length (D .starts)) (length (D .ends)) (length (D .delays)))
+    (λ e. small-then (listSizes (r .list)) _ (small-list-sizes (r .list))
+    (λ e. small-then (roomSizes (r .room)) _ (small-sizes (r .room .starts) (r .room .ends) (r .room .names))
+    (λ e. small-then (designTests D) _ (small-design D)
+    (λ e. small-then (listTests D (r .list)) _ (small-list D (r .list)) (λ e. small-scratch D G (r .list) (r .scratch))))))))
+
+pub small-from-graph : (D : Design) (S : GraphSlices) (r : Removal) → SmallGraph (graphAnswer (removeFromGraph D S r))
+unfolding removeFromGraph
+small-from-graph D S r =
+    let G = graphOf S in
+    let H = trueGraph G (pathsOf (r .list)) in
+    subst (λ (v : Verdict). SmallGraph (graphAnswer (outcome v H)))
+    (early-eight (designSizes D) (listSizes (r .list)) (graphSizes S) (roomSizes (r .room)) (designTests D) (listTests D (r .list)) (graphTest D G) (scratchTest D G (r .list) (r .scratch)) (roomTests (r .room) H))
+    (small-made (r .room) H (graphEarly D S r)
+    (small-then (designSizes D) _ (small-sizes (length (D .starts)) (length (D .ends)) (length (D .delays)))
+    (λ e. small-then (listSizes (r .list)) _ (small-list-sizes (r .list))
+    (λ e. small-then (graphSizes S) _ (small-sizes (length (S .starts)) (length (S .ends)) (length (S .names)))
+    (λ e. small-then (roomSizes (r .room)) _ (small-sizes (r .room .starts) (r .room .ends) (r .room .names))
+    (λ e. small-then (designTests D) _ (small-design D)
+    (λ e. small-then (listTests D (r .list)) _ (small-list D (r .list))
+    (λ e. small-then (graphTest D G) _ (small-unless 32 (omega arith) (wellFormed D G)) (λ e. small-scratch D G (r .list) (r .scratch))))))))))
+
+pub small-times : (D : Design) (S : GraphSlices) (T a r s : ℕ) → Small (testTimes D S T a r s)
+unfolding testTimes
+small-times D S T a r s =
+    let n = length (S .nodes) in
+    small-then (designSizes D) _ (small-sizes (length (D .starts)) (length (D .ends)) (length (D .delays)))
+    (λ e. small-then (graphSizes S) _ (small-sizes (length (S .starts)) (length (S .ends)) (length (S .names)))
+    (λ e. small-then (sameSizes n a r) _ (small-sizes n a r)
+    (λ e. small-then (sameSizes n n s) _ (small-sizes n n s)
+    (λ e. small-then (designTests D) _ (small-design D)
+    (λ e. small-then (allowedTest T) _ (small-unless 25 (omega arith) (leb T 1000000000)) (λ e. small-unless 32 (omega arith) (wellFormed D (graphOf S))))))))

@@ -1,0 +1,53 @@
+// The tests of unfit input, whole: of a design, of a list of paths with its design, and of a deck.
+ghost use mathlib.Core.Path.{_≡_};
+ghost use Rattle.timing.specs.Graphs.{design};
+ghost use Rattle.timing.specs.Marks.{pathList};
+ghost use Rattle.timing.specs.Calls.{testDesign, testList, testDeck};
+use design::and_design_tests;
+use design::and_list_sizes;
+use design::and_list_tests;
+use design::design_sizes;
+use timing::MAX_ALLOWED_TIME;
+use timing::Verdict;
+use timing::and_unless;
+
+// Tests a design: 30, and 10 to 14.
+pub fn test_design(n: u32, starts: &[u32], ends: &[u32], delays: &[i32]) -> Verdict
+    ensures { λ r. ⌜ r ≡ testDesign (design n (now (starts .entry)) (now (ends .entry)) (now (delays .entry))) ⌝ }
+{
+    let sizes = design_sizes(starts, ends, delays);
+    and_design_tests(sizes, n, starts, ends, delays)
+}
+
+// Tests a design and a list of paths: 30, 10 to 14, and 20 to 24.
+pub fn test_list(
+    n: u32,
+    starts: &[u32],
+    ends: &[u32],
+    delays: &[i32],
+    listed: &[u32],
+    lengths: &[u32],
+) -> Verdict
+    ensures { λ r. ⌜ r ≡ testList (design n (now (starts .entry)) (now (ends .entry)) (now (delays .entry))) (pathList (now (listed .entry)) (now (lengths .entry))) ⌝ }
+{
+    let slices = design_sizes(starts, ends, delays);
+    let sizes = and_list_sizes(slices, listed, lengths);
+    let fit = and_design_tests(sizes, n, starts, ends, delays);
+    and_list_tests(fit, starts, ends, listed, lengths)
+}
+
+// Tests a deck: a design, a list of paths and T.
+pub fn test_deck(
+    n: u32,
+    starts: &[u32],
+    ends: &[u32],
+    delays: &[i32],
+    listed: &[u32],
+    lengths: &[u32],
+    t: u32,
+) -> Verdict
+    ensures { λ r. ⌜ r ≡ testDeck (design n (now (starts .entry)) (now (ends .entry)) (now (delays .entry))) (pathList (now (listed .entry)) (now (lengths .entry))) t ⌝ }
+{
+    let fit = test_list(n, starts, ends, delays, listed, lengths);
+    and_unless(fit, 25, t <= MAX_ALLOWED_TIME)
+}
