@@ -6,41 +6,16 @@
 // one before, and the numbers. So slices need not belong together, and a chain takes few bytes.
 ghost use Prim.Native.Nat.{_+_, _≤_};
 ghost use lib.ListN.{length};
+use cases::Slice;
+use cases::least;
+use cases::unpack;
 use libc::STDIN_FILENO;
-use packed::read_number;
-use packed::unpack_delay;
+use packed::take_number;
 use print::refused;
 use print::text;
 use timing::NodeAnswer;
 use timing::NodeTimes;
-use timing::NumberRead;
 use timing::Verdict;
-
-// A number, and the place behind it.
-struct Met {
-    value: u32,
-    next: usize,
-}
-
-// The number at a place, or 0 where none can be read.
-fn number(s: &[u8], at: usize) -> Met {
-    match read_number(s, at) {
-        NumberRead::Value { value, next } => Met { value, next },
-        NumberRead::Refused(_) => Met { value: 0, next: at },
-    }
-}
-
-fn least(a: usize, b: usize) -> usize
-    ensures { λ r. ⌜ (r ≤ a) × (r ≤ b) ⌝ }
-{
-    if a <= b { a } else { b }
-}
-
-// How many places of a table a slice took, and the place behind its bytes.
-struct Slice {
-    len: usize,
-    next: usize,
-}
 
 // The number after `value`, or `value` where the sum would not fit.
 fn above(value: u32, rise: u32) -> u32 {
@@ -54,9 +29,9 @@ fn above(value: u32, rise: u32) -> u32 {
 fn fill(s: &[u8], at: usize, table: &mut [u32]) -> Slice
     ensures { λ r. ⌜ r .len ≤ length (now (table .entry)) ⌝ }
 {
-    let stored = number(s, at);
-    let more = number(s, stored.next);
-    let rise = number(s, more.next);
+    let stored = take_number(s, at);
+    let more = take_number(s, stored.next);
+    let rise = take_number(s, more.next);
     let count = stored.value as usize;
     let len = least(count + more.value as usize, table.len());
     let mut next = rise.next;
@@ -64,7 +39,7 @@ fn fill(s: &[u8], at: usize, table: &mut [u32]) -> Slice
     let mut k = 0;
     while k < len {
         if k < count {
-            let x = number(s, next);
+            let x = take_number(s, next);
             value = x.value;
             next = x.next;
         } else {
@@ -74,16 +49,6 @@ fn fill(s: &[u8], at: usize, table: &mut [u32]) -> Slice
         k += 1;
     }
     Slice { len, next }
-}
-
-// The delays that some packed numbers stand for.
-fn unpack(codes: &[u32], delays: &mut [i32]) {
-    let len = least(codes.len(), delays.len());
-    let mut k = 0;
-    while k < len {
-        delays[k] = unpack_delay(codes[k]);
-        k += 1;
-    }
 }
 
 // What a case asks besides its slices.
@@ -98,12 +63,12 @@ struct Question {
 }
 
 fn read_question(s: &[u8], at: usize) -> Question {
-    let n = number(s, at);
-    let t = number(s, n.next);
-    let v = number(s, t.next);
-    let x = number(s, v.next);
-    let y = number(s, x.next);
-    let z = number(s, y.next);
+    let n = take_number(s, at);
+    let t = take_number(s, n.next);
+    let v = take_number(s, t.next);
+    let x = take_number(s, v.next);
+    let y = take_number(s, x.next);
+    let z = take_number(s, y.next);
     Question {
         nodes: n.value,
         allowed: t.value,
@@ -125,10 +90,10 @@ struct Places {
 }
 
 fn read_places(s: &[u8], at: usize) -> Places {
-    let k = number(s, at);
-    let x = number(s, k.next);
-    let y = number(s, x.next);
-    let z = number(s, y.next);
+    let k = take_number(s, at);
+    let x = take_number(s, k.next);
+    let y = take_number(s, x.next);
+    let z = take_number(s, y.next);
     Places {
         known: k.value,
         arrivals: x.value,
@@ -410,7 +375,7 @@ fn case(s: &[u8], at: usize) -> usize {
 }
 
 fn run(s: &[u8]) {
-    let count = number(s, 0);
+    let count = take_number(s, 0);
     let mut at = count.next;
     let mut i: u32 = 0;
     while i < count.value {

@@ -13,14 +13,14 @@ Inv-loop s at table₀ rise count len next₀ value₀ k₀ table next value k =
 abbrev μ-loop : tie.MeasureT-loop
 μ-loop s at table₀ rise count len next₀ value₀ k₀ table next value k = len - k
 
-number-requires : tie.Need-number-requires Inv-loop μ-loop
-number-requires c κs = search needs
+take-number-requires : tie.Need-take-number-requires Inv-loop μ-loop
+take-number-requires c κs = search needs
 
-number-requires-2 : tie.Need-number-requires-2 Inv-loop μ-loop
-number-requires-2 c κs = search needs
+take-number-requires-2 : tie.Need-take-number-requires-2 Inv-loop μ-loop
+take-number-requires-2 c κs = search needs
 
-number-requires-3 : tie.Need-number-requires-3 Inv-loop μ-loop
-number-requires-3 c κs = search needs
+take-number-requires-3 : tie.Need-take-number-requires-3 Inv-loop μ-loop
+take-number-requires-3 c κs = search needs
 
 cast-count : tie.Need-cast-count Inv-loop μ-loop
 cast-count c = search needs
@@ -37,8 +37,8 @@ least-requires c κs = search needs
 loop-holds : tie.Need-loop-holds Inv-loop μ-loop
 loop-holds c = (omega arith, omega arith, refl)
 
-number-requires-4 : tie.Need-number-requires-4 Inv-loop μ-loop
-number-requires-4 c κs = search needs
+take-number-requires-4 : tie.Need-take-number-requires-4 Inv-loop μ-loop
+take-number-requires-4 c κs = search needs
 
 above-requires : tie.Need-above-requires Inv-loop μ-loop
 above-requires c κs = search needs
@@ -70,15 +70,15 @@ fill-spec =
     (tie.spec
     Inv-loop
     μ-loop
-    number-requires
-    number-requires-2
-    number-requires-3
+    take-number-requires
+    take-number-requires-2
+    take-number-requires-3
     cast-count
     cast-least
     add-least
     least-requires
     loop-holds
-    number-requires-4
+    take-number-requires-4
     above-requires
     mul-table
     slice-write-table

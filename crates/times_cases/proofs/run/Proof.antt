@@ -10,8 +10,8 @@ Inv-loop s count at₀ i₀ at i = i ≤ count .value
 abbrev μ-loop : tie.MeasureT-loop
 μ-loop s count at₀ i₀ at i = count .value - i
 
-number-requires : tie.Need-number-requires Inv-loop μ-loop
-number-requires c κs = search needs
+take-number-requires : tie.Need-take-number-requires Inv-loop μ-loop
+take-number-requires c κs = search needs
 
 loop-holds : tie.Need-loop-holds Inv-loop μ-loop
 loop-holds c = omega arith
@@ -37,7 +37,7 @@ run-spec =
     (tie.spec
     Inv-loop
     μ-loop
-    number-requires
+    take-number-requires
     loop-holds
     case-requires
     add-i

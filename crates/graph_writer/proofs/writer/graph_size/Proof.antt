@@ -1,5 +1,7 @@
 -- No sum wraps: each number takes at most five bytes.
+use Prim.Native.Nat.{_+_}
 use native.Mathlib.Omega.{arith}
+use mathlib.Core.Path.{_∙_}
 use lib.ListN.{length}
 use Rattle.packed.proofs.Numbers.{packed-size}
 use Rattle.packed.proofs.Sizes.{size-most}
@@ -66,7 +68,10 @@ returns : tie.Need-returns
 returns c =
     let s = c .before .before .before .before .before .before .before .before .before .before in
     let a = s .args in
-    cc (size-graph (a .nodes .now) (a .gs .now) (a .ge .now) (a .gn .now) (s .pre .2) (s .pre .3))
+    let copies = c .before .before .before .before in
+    let starts = c .before .before in
+    (λ i. copies .before .number-size .ensures i + copies .numbers-size .ensures i + (starts .before .number-size2 .ensures i + starts .numbers-size2 .ensures i) + c .before .numbers-size3 .ensures i + c .numbers-size4 .ensures i)
+    ∙ size-graph (a .nodes .now) (a .gs .now) (a .ge .now) (a .gn .now) (s .pre .2) (s .pre .3)
 
 pub graph-size-spec : {M : Type 1} → statement M
 graph-size-spec =
