@@ -16,6 +16,7 @@ status 0, or with the first difference and status 1.
 import argparse
 import array
 import itertools
+import os
 import pathlib
 import random
 import shutil
@@ -246,7 +247,7 @@ def of_deck(rng, data):
 
 def build(name, sources, flags):
     made = pathlib.Path(tempfile.mkdtemp(dir=BUILT)) / name     # its own folder: two parts may be run at a time
-    command = ["cc", "-std=c11", "-g", "-O1", "-Wall", "-Wextra", "-Werror", "-I", str(HERE / "include"), *flags,
+    command = [os.environ.get("CC", "cc"), "-std=c11", "-g", "-O1", "-Wall", "-Wextra", "-Werror", "-I", str(HERE / "include"), *flags,
                *(str(source) for source in sources), "-o", str(made)]
     return made, subprocess.run(command, stdout=subprocess.PIPE, stderr=subprocess.STDOUT, text=True)
 
