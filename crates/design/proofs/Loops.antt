@@ -1,5 +1,5 @@
--- How the loops go that add up, look for an edge, or look at each edge with the next; and the two tests of a delay.
-use Prim.Native.Nat.{ℕ, suc, _+_, _-_, _≤_, _<_}
+-- How the loops go that look for an edge, or look at each edge with the next; and the two tests of a delay.
+use Prim.Native.Nat.{ℕ, suc, _+_, _≤_, _<_}
 use native.Mathlib.Omega.{arith}
 use native.Mathlib.Numerals.{add-one}
 use mathlib.Core.Path.{_≡_, refl, sym, _∙_, ap}
@@ -10,13 +10,9 @@ use lib.ListN.{length, getD, drop, length-drop, drop-of-length-le}
 use lib.Seq.{drop-cons}
 use lib.IntN.{ℤ, pos, negsuc, natAbs}
 use lib.Signed.{ltZ, leZ}
-use borrow.Author.Tests.{le-leb, lt-leb, eq-eqb, ne-eqb, eqb-true, eqb-false}
+use borrow.Author.Tests.{le-leb, lt-leb, ne-eqb}
 use Rattle.timing.proofs.Ints.{ltZ-true, ltZ-false, abs-is}
-use Rattle.timing.specs.Lists.{isNil, anyOf, eachNext, sum}
-
--- what is left of a sum
-pub sum-drop : (l : List ℕ) (i : ℕ) → i < length l → sum (drop i l) ≡ getD l i 0 + sum (drop (i + 1) l)
-sum-drop l i h = rw (add-one i, drop-cons l i 0 h)
+use Rattle.timing.specs.Lists.{isNil, anyOf, eachNext}
 
 -- what is left of a test for any member
 module _ (bad : ℕ → Bool) (l : List ℕ) (j : ℕ) where
@@ -60,21 +56,3 @@ too-low d e = lt-leb (natAbs d) 1000000 (omega (arith, ltZ-true d (negsuc 999999
 pub high-is : (d : ℤ) → ltZ d (negsuc 999999) ≡ false → leZ d (pos 1000000) ≡ leb (natAbs d) 1000000
 high-is (pos n) e = refl
 high-is (negsuc n) e = sym (le-leb (suc n) 1000000 (omega (arith, ltZ-false (negsuc n) (negsuc 999999) e)))
-
--- the lengths are counted off the flat list: `left` of n edges are left before length i
-module _ (lengths : List ℕ) (n left i : ℕ) (counted : sum lengths + left ≡ n + sum (drop i lengths)) where
-  pub not-enough : i < length lengths → left < getD lengths i 0 → eqb (sum lengths) n ≡ false
-  not-enough h l = ne-eqb (sum lengths) n (λ (e : sum lengths ≡ n). omega (arith, sum-drop lengths i h))
-
-  pub counted-on : i < length lengths → getD lengths i 0 ≤ left → sum lengths + (left - getD lengths i 0) ≡ n + sum (drop (i + 1) lengths)
-  counted-on h l = omega (arith, sum-drop lengths i h)
-
-  pub all-counted : length lengths ≤ i → eqb left 0 ≡ eqb (sum lengths) n
-  all-counted h = go (eqb left 0) refl
-    where
-      none : sum (drop i lengths) ≡ 0
-      none = rw (drop-of-length-le lengths {i = i} h)
-
-      go : (b : Bool) → eqb left 0 ≡ b → eqb left 0 ≡ eqb (sum lengths) n
-      go true e = e ∙ sym (eq-eqb (sum lengths) n (omega (arith, none, eqb-true left 0 e)))
-      go false e = e ∙ sym (ne-eqb (sum lengths) n (λ (q : sum lengths ≡ n). eqb-false left 0 e (omega (arith, none))))

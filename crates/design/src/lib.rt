@@ -10,46 +10,16 @@ ghost use Rattle.timing.specs.Refusals.{_then_};
 ghost use Rattle.timing.specs.Refusals.{unless as passedIf};
 ghost use Rattle.timing.specs.Graphs.{design};
 ghost use Rattle.timing.specs.Marks.{pathList};
-ghost use Rattle.timing.specs.Tests.{designSizes, listSizes, designTests, listTests};
+ghost use Rattle.timing.specs.Tests.{designTests, listTests};
 use timing::MAX_EDGES;
 use timing::MAX_LISTED_EDGES;
 use timing::MAX_NODES;
 use timing::MAX_PATHS;
 use timing::Verdict;
 use timing::and_unless;
-use timing::same_sizes;
-use timing::unless;
 
 mod edges;
 mod paths;
-
-// 30 for the three slices of a design.
-pub fn design_sizes(starts: &[u32], ends: &[u32], delays: &[i32]) -> Verdict
-    ensures { λ r. ⌜ ((n : ℕ) → r ≡ designSizes (design n (now (starts .entry)) (now (ends .entry)) (now (delays .entry)))) ⌝ }
-{
-    same_sizes(starts.len(), ends.len(), delays.len())
-}
-
-// 30 for a list of paths: its lengths do not add up to the flat list. What is left of the flat list
-// is counted down, so that no sum wraps.
-pub fn and_list_sizes(before: Verdict, listed: &[u32], lengths: &[u32]) -> Verdict
-    ensures { λ r. ⌜ r ≡ (before then listSizes (pathList (now (listed .entry)) (now (lengths .entry)))) ⌝ }
-{
-    let Verdict::Passed = before else {
-        return before;
-    };
-    let mut left = listed.len();
-    let mut i = 0;
-    while i < lengths.len() {
-        let k = lengths[i] as usize;
-        if left < k {
-            return unless(30, false);
-        }
-        left -= k;
-        i += 1;
-    }
-    unless(30, left == 0)
-}
 
 // 10 and 11, from n and m.
 fn and_design_counts(before: Verdict, n: u32, m: usize) -> Verdict

@@ -16,10 +16,10 @@ ghost use Rattle.timing.specs.Calls.{graphSlices, graphOf, lentRemoval, removeF
 ghost use Rattle.removal.specs.Numbered.{Numberable, DesignRemoved};
 use crate::remove::remove;
 use design::and_design_tests;
-use design::and_list_sizes;
 use design::and_list_tests;
-use design::design_sizes;
 use graph::and_graph_test;
+use sizes::and_list_sizes;
+use sizes::design_sizes;
 use timing::GraphMade;
 use timing::Verdict;
 use timing::same_sizes;

@@ -304,7 +304,7 @@ fn times_sizes(
 ) -> Verdict
     ensures { λ r. ⌜ ((n : ℕ) → r ≡ (designSizes (design n (now (starts .entry)) (now (ends .entry)) (now (delays .entry))) then sameSizes (length (now (gs .entry))) (length (now (ge .entry))) (length (now (gn .entry))) then sameSizes copies arrivals requireds then sameSizes copies copies slacks)) ⌝ }
 {
-    let first = design::design_sizes(starts, ends, delays);
+    let first = sizes::design_sizes(starts, ends, delays);
     let joined = timing::same_sizes(gs.len(), ge.len(), gn.len());
     let lent = copy_sizes(copies, arrivals, requireds, slacks);
     then(first, then(joined, lent))

@@ -6,9 +6,9 @@ use lib.ListN.{length, drop}
 use borrow.Author.Needs.{needs}
 use Rattle.timing.specs.Lists.{sum}
 use Rattle.timing.specs.Refusals.{unless}
-use Rattle.design.proofs.Loops.{not-enough, counted-on, all-counted}
-use Rattle.design.proofs.and_list_sizes.Statement.{statement}
-use Rattle.design.proofs.and_list_sizes.Tie as tie
+use Rattle.sizes.proofs.Counted.{not-enough, counted-on, all-counted}
+use Rattle.sizes.proofs.and_list_sizes.Statement.{statement}
+use Rattle.sizes.proofs.and_list_sizes.Tie as tie
 
 abbrev Inv-loop : tie.InvT-loop
 Inv-loop listed lengths left₀ i₀ left i = (i ≤ length lengths) × (sum lengths + left ≡ length listed + sum (drop i lengths))
