@@ -1,5 +1,5 @@
--- Searching the order of positions: the node at which a position's edge starts and whether it is the first of its path, as one
--- number, never fall along the order, so that the bounds of a node are found by halving.
+-- The order of positions by code: the node at which a position's edge starts and whether it is the first of its path, as one
+-- number. Codes never fall along the order, so that the bounds of a node are those of three codes, found in one pass.
 use Prim.Native.Nat.{ℕ, _+_, _*_, _≤_, _<_}
 use mathlib.Core.Path.{_≡_}
 use mathlib.Core.List.{List, [], map}

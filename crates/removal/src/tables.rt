@@ -1,4 +1,5 @@
-// The tables about the list, besides the rests: the ranks of the positions, their order, and the links.
+// The tables about the list, besides the rests: the ranks of the positions, their order, and the links
+// in the scratch, and where the places of each node begin in a slice of its own.
 ghost use mathlib.Core.Path.{_≡_};
 ghost use Prim.Native.Nat.{_+_, _≤_};
 ghost use lib.ListN.{length};
@@ -22,7 +23,7 @@ fn rank_listed(flat: &[u32], s: &[u32], rest: usize, places: &mut [u32], ranks: 
     rank_tails(flat, &s[rest..end], places, ranks);
 }
 
-// The three tables, with a word for each position in three more slices to work in.
+// These tables, with a word for each position in three more slices to work in.
 fn fill_with(
     starts: &[u32],
     flat: &[u32],
@@ -59,7 +60,7 @@ fn fill_with(
     );
 }
 
-// The three tables.
+// These tables.
 pub(crate) fn fill_tables(
     starts: &[u32],
     flat: &[u32],
