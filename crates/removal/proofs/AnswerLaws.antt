@@ -27,7 +27,7 @@ use Rattle.removal.specs.Fill.{EdgesInto, Result, ResultFilled}
 use Rattle.removal.specs.Search.{ofStarts, ofNodes}
 use Rattle.removal.specs.Build.{Given}
 use Rattle.removal.specs.Counts.{ListCountable, CopiesCountable}
-use Rattle.removal.specs.Remove.{Worked, Workable, WorkableIn, AllFound, Found, Answered, roomOutcome, RoomAnswered, removalOutcome, Removed, SearchRemoved, AllRemoved}
+use Rattle.removal.specs.Remove.{Worked, Workable, WorkableIn, AllFound, Found, Answered, roomOutcome, RoomAnswered, removalOutcome, Removed, AllRemoved}
 use Rattle.removal.proofs.IntoLaws.{length-edges}
 use Rattle.removal.proofs.BuildLaws.{candidates-slices}
 use Rattle.removal.proofs.CountLaws.{list-countable, copies-countable}
@@ -86,6 +86,11 @@ room-scratch R H s = go (leb (length (H .nodes)) (min (R .nodes) 16384)) (leb (l
     go true true = refl
     go true false = refl
     go false b = refl
+
+-- what is made where the scratch is enough
+unfoldable pub SearchRemoved : List ℕ → List ℕ → List ℕ → List ℕ → List ℕ → List ℕ → List ℕ → GraphMade → List ℕ → List ℕ → List ℕ → List ℕ → List ℕ → List ℕ → List ℕ → List ℕ → List ℕ → List ℕ → Type 0
+SearchRemoved starts flat lengths nodes gs ge gn r room from to via s room′ from′ to′ via′ s′ =
+    (D : Design) (L : PathList) (G : Graph) → Worked D L G starts flat lengths nodes gs ge gn → Removed (roomOutcome L G room from to via) r room from to via s room′ from′ to′ via′ s′
 
 module _ (starts flat lengths nodes gs ge gn room from to via s : List ℕ) where
   pub search-removed : (l : Layout) (copies edges : ℕ) (t room′ from′ to′ via′ t′ : List ℕ) (r : GraphMade) → Found starts flat lengths nodes gs ge gn s t l copies edges

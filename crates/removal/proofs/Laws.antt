@@ -1,5 +1,5 @@
 -- The tests of a removal one after the other, and what the passes are asked where they all pass.
-use Prim.Native.Nat.{ℕ, suc, _+_, _≤_, _<_}
+use Prim.Native.Nat.{ℕ, zero, suc, _+_, _≤_, _<_}
 use native.Mathlib.Omega.{arith}
 use native.Mathlib.Decide.{decLt}
 use mathlib.Core.Path.{_≡_, refl, sym, ap, _∙_, subst}
@@ -7,7 +7,7 @@ use mathlib.Core.Bool.{Bool, true, false, cond, not, _&&_, _||_}
 use mathlib.Core.List.{List, [], _∷_, map}
 use lib.Dec.{eqb, ltb, leb, eqb→eq, leb→le}
 use lib.IntN.{ℤ}
-use lib.ListN.{length, getD, set}
+use lib.ListN.{length, getD, set, take}
 use lib.Seq.{getD-set-same, getD-set-other}
 use Rattle.timing.specs.declared.Refusal.{Refusal}
 use Rattle.timing.specs.declared.GraphMade.{GraphMade}
@@ -395,11 +395,12 @@ module _ (n : ℕ) (starts ends : List ℕ) (delays : List ℤ) (listed lengths 
       sym (q ∙ ap (λ (x : Verdict). designSizes (design n starts ends delays) then (listSizes (pathList listed lengths) then (graphSizes (graphSlices onodes ofrom oto ovia) then (x then (designTests (design n starts ends delays) then (listTests (design n starts ends delays) (pathList listed lengths) then graphTest (design n starts ends delays) (graphOf (graphSlices onodes ofrom oto ovia)))))))) p)
 
 -- places that hold their own numbers
-pub is-upto : (i : ℕ) (l : List ℕ) → ((k : ℕ) → k < length l → getD l k 0 ≡ i + k) → l ≡ upto (length l) i
-is-upto i [] f = refl
-is-upto i (x ∷ l) f =
+pub front-upto : (n i : ℕ) (l : List ℕ) → n ≤ length l → ((k : ℕ) → k < n → getD l k 0 ≡ i + k) → take n l ≡ upto n i
+front-upto zero i l h f = refl
+front-upto (suc n) i [] h f = absurd (omega arith)
+front-upto (suc n) i (x ∷ l) h f =
     let e : x ≡ i = omega (arith, f 0 (omega arith)) in
-    rw e (ap (λ (t : List ℕ). i ∷ t) (is-upto (suc i) l (λ k h. omega (arith, f (suc k) (omega arith)))))
+    rw e (ap (λ (t : List ℕ). i ∷ t) (front-upto n (suc i) l (omega arith) (λ k m. omega (arith, f (suc k) (omega arith)))))
 
 pub numbered-next : (t : List ℕ) (i : ℕ) → i < length t → ((k : ℕ) → k < i → getD t k 0 ≡ k) → (k : ℕ) → k < i + 1 → getD (set t i i) k 0 ≡ k
 numbered-next t i h f k l = go (decLt k i)

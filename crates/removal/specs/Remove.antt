@@ -78,9 +78,6 @@ pub record Removed (o : Outcome Graph) (r : GraphMade) (room from to via s room�
   pub answered : Answered o r room from to via room′ from′ to′ via′
   pub scratch : s′ ≡ scratchAfter o s
 
-module _ (starts flat lengths nodes gs ge gn : List ℕ) (r : GraphMade) (room from to via s room′ from′ to′ via′ s′ : List ℕ) where
-  unfoldable pub SearchRemoved : Type 0
-  SearchRemoved = (D : Design) (L : PathList) (G : Graph) → Worked D L G starts flat lengths nodes gs ge gn → Removed (roomOutcome L G room from to via) r room from to via s room′ from′ to′ via′ s′
-
-  unfoldable pub AllRemoved : Type 0
-  AllRemoved = (D : Design) (L : PathList) (G : Graph) → Worked D L G starts flat lengths nodes gs ge gn → Removed (removalOutcome D L G room from to via s) r room from to via s room′ from′ to′ via′ s′
+unfoldable pub AllRemoved : List ℕ → List ℕ → List ℕ → List ℕ → List ℕ → List ℕ → List ℕ → GraphMade → List ℕ → List ℕ → List ℕ → List ℕ → List ℕ → List ℕ → List ℕ → List ℕ → List ℕ → List ℕ → Type 0
+AllRemoved starts flat lengths nodes gs ge gn r room from to via s room′ from′ to′ via′ s′ =
+    (D : Design) (L : PathList) (G : Graph) → Worked D L G starts flat lengths nodes gs ge gn → Removed (removalOutcome D L G room from to via s) r room from to via s room′ from′ to′ via′ s′

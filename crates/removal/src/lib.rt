@@ -6,7 +6,7 @@
 // table at `base`. Nothing is written to the room before 33 and 34 are settled.
 ghost use mathlib.Core.Path.{_≡_};
 ghost use Prim.Native.Nat.{ℕ, _≤_, _<_};
-ghost use lib.ListN.{length};
+ghost use lib.ListN.{length, take};
 ghost use Rattle.timing.specs.Lists.{upto};
 ghost use Rattle.timing.specs.Graphs.{design};
 ghost use Rattle.timing.specs.Marks.{pathList};
@@ -59,63 +59,27 @@ fn list_tests(
     and_list_tests(fit, starts, ends, listed, lengths)
 }
 
-// Writes each place's own number to it.
-fn number_places(t: &mut [u32])
-    requires { ⌜ length (now t) ≤ 16384 ⌝ }
-    ensures { λ r. ⌜ now (t .exit) ≡ upto (length (now (t .entry))) 0 ⌝ }
+// Writes its own number to each of the first n places.
+fn number_places(t: &mut [u32], n: usize)
+    requires { ⌜ (n ≤ length (now t)) × (n ≤ 16384) ⌝ }
+    ensures { λ r. ⌜ take n (now (t .exit)) ≡ upto n 0 ⌝ }
 {
     let mut i = 0;
-    while i < t.len() {
+    while i < n {
         t[i] = i as u32;
         i += 1;
     }
 }
 
-// Removal from a design that has passed its tests. As a graph it has a copy for each node and an
-// edge for each edge, each of its own number: the numbers are written to two slices first.
-fn remove_numbered(
-    starts: &[u32],
-    ends: &[u32],
-    listed: &[u32],
-    lengths: &[u32],
-    numbers: &mut [u32],
-    names: &mut [u32],
-    nodes: &mut [u32],
-    from: &mut [u32],
-    to: &mut [u32],
-    via: &mut [u32],
-    scratch: &mut [u32],
-) -> GraphMade
-    requires { ⌜ Numberable (now starts) (now ends) (now listed) (now lengths) (length (now numbers)) (length (now names)) (now from) (now to) (now via) ⌝ }
-    ensures { λ r. ⌜ DesignRemoved (now (starts .entry)) (now (ends .entry)) (now (listed .entry)) (now (lengths .entry)) (length (now (numbers .entry))) r (now (nodes .entry)) (now (from .entry)) (now (to .entry)) (now (via .entry)) (now (scratch .entry)) (now (nodes .exit)) (now (from .exit)) (now (to .exit)) (now (via .exit)) (now (scratch .exit)) ⌝ }
-{
-    number_places(numbers);
-    number_places(names);
-    remove(
-        starts,
-        listed,
-        lengths,
-        numbers,
-        starts,
-        ends,
-        names,
-        nodes,
-        from,
-        to,
-        via,
-        scratch,
-    )
-}
-
-// The same with room for the numbers of as many nodes and edges as a design can have.
+// Removal from a design that has passed its tests. As a graph it has a copy for each node and an edge for
+// each edge, each of its own number: so the numbers are written down, in room for as many as a design can
+// have.
 fn remove_tested(
     n: usize,
     starts: &[u32],
     ends: &[u32],
     listed: &[u32],
     lengths: &[u32],
-    numbers: &mut [u32],
-    names: &mut [u32],
     nodes: &mut [u32],
     from: &mut [u32],
     to: &mut [u32],
@@ -123,17 +87,21 @@ fn remove_tested(
     scratch: &mut [u32],
 ) -> GraphMade
     requires { ⌜ Numberable (now starts) (now ends) (now listed) (now lengths) n (length (now starts)) (now from) (now to) (now via) ⌝ }
-    requires { ⌜ (length (now numbers) ≡ 4096) × (length (now names) ≡ 16384) ⌝ }
     ensures { λ r. ⌜ DesignRemoved (now (starts .entry)) (now (ends .entry)) (now (listed .entry)) (now (lengths .entry)) n r (now (nodes .entry)) (now (from .entry)) (now (to .entry)) (now (via .entry)) (now (scratch .entry)) (now (nodes .exit)) (now (from .exit)) (now (to .exit)) (now (via .exit)) (now (scratch .exit)) ⌝ }
 {
     let m = starts.len();
-    remove_numbered(
+    let mut numbers = [0u32; 4096];
+    let mut names = [0u32; 16384];
+    number_places(&mut numbers, n);
+    number_places(&mut names, m);
+    remove(
         starts,
-        ends,
         listed,
         lengths,
-        &mut numbers[..n],
-        &mut names[..m],
+        &numbers[..n],
+        starts,
+        ends,
+        &names[..m],
         nodes,
         from,
         to,
@@ -168,16 +136,12 @@ pub fn remove_from_design(
     if let Verdict::Refused(r) = verdict {
         return GraphMade::Refused(r);
     }
-    let mut numbers = [0u32; 4096];
-    let mut names = [0u32; 16384];
     remove_tested(
         n as usize,
         starts,
         ends,
         listed,
         lengths,
-        &mut numbers,
-        &mut names,
         nodes,
         from,
         to,

@@ -7,7 +7,7 @@ ghost use lib.ListN.{length};
 ghost use Rattle.timing.specs.Refusals.{_then_};
 ghost use Rattle.timing.specs.Refusals.{unless as passedIf};
 ghost use Rattle.removal.specs.Fill.{SameRooms};
-ghost use Rattle.removal.specs.Remove.{Workable, WorkableIn, AllFound, Found, RoomAnswered, SearchRemoved, AllRemoved};
+ghost use Rattle.removal.specs.Remove.{Workable, WorkableIn, AllFound, Found, RoomAnswered, AllRemoved};
 use crate::build::build;
 use crate::build::count_candidates;
 use crate::build::scratch_fits;
@@ -95,44 +95,8 @@ fn write_result(
     }
 }
 
-// A removal with enough scratch, which is all zero afterwards.
-fn remove_with(
-    starts: &[u32],
-    flat: &[u32],
-    lengths: &[u32],
-    nodes: &[u32],
-    gs: &[u32],
-    ge: &[u32],
-    gn: &[u32],
-    room: &mut [u32],
-    from: &mut [u32],
-    to: &mut [u32],
-    via: &mut [u32],
-    s: &mut [u32],
-) -> GraphMade
-    requires { ⌜ WorkableIn (now starts) (now flat) (now lengths) (now nodes) (now gs) (now ge) (now gn) (now s) × SameRooms (now from) (now to) (now via) ⌝ }
-    ensures { λ r. ⌜ SearchRemoved (now (starts .entry)) (now (flat .entry)) (now (lengths .entry)) (now (nodes .entry)) (now (gs .entry)) (now (ge .entry)) (now (gn .entry)) r (now (room .entry)) (now (from .entry)) (now (to .entry)) (now (via .entry)) (now (s .entry)) (now (room .exit)) (now (from .exit)) (now (to .exit)) (now (via .exit)) (now (s .exit)) ⌝ }
-{
-    let finding = search(starts, flat, lengths, nodes, gs, ge, gn, s);
-    let made = write_result(
-        finding.layout,
-        finding.counts,
-        flat,
-        nodes,
-        gs,
-        ge,
-        gn,
-        s,
-        room,
-        from,
-        to,
-        via,
-    );
-    zero(s);
-    made
-}
-
-// A removal of listed paths from a graph. The tests before 31 have passed.
+// A removal of listed paths from a graph. The tests before 31 have passed. With enough scratch, this is all
+// zero afterwards.
 pub(crate) fn remove(
     starts: &[u32],
     flat: &[u32],
@@ -152,20 +116,23 @@ pub(crate) fn remove(
 {
     let candidates = count_candidates(starts, flat, lengths, nodes);
     if scratch_fits(s.len(), candidates, flat.len(), gs.len()) {
-        return remove_with(
-            starts,
+        let finding = search(starts, flat, lengths, nodes, gs, ge, gn, s);
+        let made = write_result(
+            finding.layout,
+            finding.counts,
             flat,
-            lengths,
             nodes,
             gs,
             ge,
             gn,
+            s,
             room,
             from,
             to,
             via,
-            s,
         );
+        zero(s);
+        return made;
     }
     GraphMade::Refused(refuse(31, 0))
 }

@@ -1,18 +1,17 @@
 -- Invariant: the places below i hold their own numbers.
 use Prim.Native.Nat.{ℕ, _-_, _≤_, _<_}
 use native.Mathlib.Omega.{arith}
-use mathlib.Core.Path.{_≡_, refl, _∙_, ap}
+use mathlib.Core.Path.{_≡_, refl, _∙_}
 use lib.ListN.{length, getD, length-set}
-use Rattle.timing.specs.Lists.{upto}
-use Rattle.removal.proofs.Laws.{is-upto, numbered-next}
+use Rattle.removal.proofs.Laws.{front-upto, numbered-next}
 use Rattle.removal.proofs.number_places.Statement.{statement}
 use Rattle.removal.proofs.number_places.Tie as tie
 
 abbrev Inv-loop : tie.InvT-loop
-Inv-loop t₀ i₀ t i = (i ≤ length t₀) × (length t ≡ length t₀) × ((k : ℕ) → k < i → getD t k 0 ≡ k)
+Inv-loop t₀ n i₀ t i = (i ≤ n) × (length t ≡ length t₀) × ((k : ℕ) → k < i → getD t k 0 ≡ k)
 
 abbrev μ-loop : tie.MeasureT-loop
-μ-loop t₀ i₀ t i = length t₀ - i
+μ-loop t₀ n i₀ t i = n - i
 
 loop-holds : tie.Need-loop-holds Inv-loop μ-loop
 loop-holds c = (omega arith, refl, λ k h. absurd (omega arith))
@@ -41,8 +40,8 @@ same-length c = c .before .loop .inv .1
 returns : tie.Need-returns Inv-loop μ-loop
 returns c =
     let w = c .before .loop in
-    let e : w .i ≡ length (w .t) = omega (arith, w .inv .1) in
-    is-upto 0 (w .t) (λ k h. omega (arith, w .inv .2 k (omega (arith, e)))) ∙ ap (λ (n : ℕ). upto n 0) (w .inv .1)
+    let st = c .before .before in
+    front-upto (st .args .n) 0 (w .t) (omega (arith, w .inv .1, st .pre .0)) (λ k h. omega (arith, w .inv .2 k (omega (arith, w .inv .0))))
 
 pub number-places-spec : {M : Type 1} → statement M
 number-places-spec =

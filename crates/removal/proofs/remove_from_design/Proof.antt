@@ -30,17 +30,11 @@ returns c =
 enum-told : tie.Need-enum-told
 enum-told c = search needs
 
-slice-aggregate-remove-tested : tie.Need-slice-aggregate-remove-tested
-slice-aggregate-remove-tested c = search needs
-
-slice-aggregate-remove-tested-2 : tie.Need-slice-aggregate-remove-tested-2
-slice-aggregate-remove-tested-2 c = search needs
-
 remove-tested-requires : tie.Need-remove-tested-requires
 remove-tested-requires c κs =
-    let w = c .before .before .before .before .before .before .before .before .before in
+    let w = c .before .before .before .before .before .before .before in
     let a = start w .args in
-    (design-numberable (a .n) (a .starts .now) (a .ends .now) (a .delays .now) (a .listed .now) (a .lengths .now) (a .nodes .now) (a .from .now) (a .to .now) (a .via .now) (a .scratch .now) (tested w ∙ c .before .before .before .before .before .before .before .enum-told .given .1) (length (a .starts .now)) refl, search needs)
+    design-numberable (a .n) (a .starts .now) (a .ends .now) (a .delays .now) (a .listed .now) (a .lengths .now) (a .nodes .now) (a .from .now) (a .to .now) (a .via .now) (a .scratch .now) (tested w ∙ c .before .before .before .before .before .enum-told .given .1) (length (a .starts .now)) refl
 
 same-length : tie.Need-same-length
 same-length c = search needs
@@ -59,10 +53,10 @@ same-length-5 c = search needs
 
 returns-2 : tie.Need-returns-2
 returns-2 c =
-    let t = c .before .before .before .before .before .before .before .before .before .before .before .before in
-    let w = t .before .before .before .before .before .before .before .before .before .before in
+    let t = c .before .before .before .before .before .before .before .before .before .before in
+    let w = t .before .before .before .before .before .before .before .before in
     let a = start w .args in
-    design-removed (a .n) (a .starts .now) (a .ends .now) (a .delays .now) (a .listed .now) (a .lengths .now) (a .nodes .now) (a .from .now) (a .to .now) (a .via .now) (a .scratch .now) (tested w ∙ t .before .before .before .before .before .before .before .before .enum-told .given .1) (t .remove-tested .result) (t .remove-tested .last .1 .1 .1 .1 .1 .1 .1 .0) (t .remove-tested .last .1 .1 .1 .1 .1 .1 .1 .1 .0) (t .remove-tested .last .1 .1 .1 .1 .1 .1 .1 .1 .1 .0) (t .remove-tested .last .1 .1 .1 .1 .1 .1 .1 .1 .1 .1 .0) (t .remove-tested .last .1 .1 .1 .1 .1 .1 .1 .1 .1 .1 .1 .0) (t .remove-tested .ensures)
+    design-removed (a .n) (a .starts .now) (a .ends .now) (a .delays .now) (a .listed .now) (a .lengths .now) (a .nodes .now) (a .from .now) (a .to .now) (a .via .now) (a .scratch .now) (tested w ∙ t .before .before .before .before .before .before .enum-told .given .1) (t .remove-tested .result) (t .remove-tested .last .1 .1 .1 .1 .1 .0) (t .remove-tested .last .1 .1 .1 .1 .1 .1 .0) (t .remove-tested .last .1 .1 .1 .1 .1 .1 .1 .0) (t .remove-tested .last .1 .1 .1 .1 .1 .1 .1 .1 .0) (t .remove-tested .last .1 .1 .1 .1 .1 .1 .1 .1 .1 .0) (t .remove-tested .ensures)
 
 pub remove-from-design-spec : {M : Type 1} → statement M
 remove-from-design-spec =
@@ -73,8 +67,6 @@ remove-from-design-spec =
     enum-known-verdict
     returns
     enum-told
-    slice-aggregate-remove-tested
-    slice-aggregate-remove-tested-2
     remove-tested-requires
     same-length
     same-length-2

@@ -1,32 +1,47 @@
--- The numbers stand in the front of the two slices.
+-- The design as a graph: its copies and its edges have their own numbers.
 use Prim.Native.Nat.{ℕ}
-use native.Mathlib.Omega.{arith}
-use mathlib.Core.Path.{_≡_, sym, subst, subst₂}
-use lib.ListN.{length, take, length-take}
-use Rattle.removal.specs.Numbered.{Numberable, DesignRemoved}
+use mathlib.Core.Path.{refl, sym, ap, _∙_, subst₂}
+use mathlib.Core.List.{List}
+use lib.ListN.{length}
+use Rattle.theorems.proofs.Lists.{length-upto}
+use Rattle.removal.specs.Remove.{Workable, AllRemoved}
+use Rattle.removal.proofs.Laws.{numbered-workable, numbered-removed}
 use borrow.Author.Needs.{needs}
 use Rattle.removal.proofs.remove_tested.Statement.{statement}
 use Rattle.removal.proofs.remove_tested.Tie as tie
 
-slice-relend-prefix-remove-numbered : tie.Need-slice-relend-prefix-remove-numbered
-slice-relend-prefix-remove-numbered c = search needs
+slice-aggregate-number-places : tie.Need-slice-aggregate-number-places
+slice-aggregate-number-places c = search needs
 
-slice-aggregate-remove-numbered : tie.Need-slice-aggregate-remove-numbered
-slice-aggregate-remove-numbered c = let st = c .before .before .before .before .before .before .before .before .before .before .before .before in simp length-take (omega (arith, st .pre .0 .design-fits .fewNodes, st .pre .1 .0))
+number-places-requires : tie.Need-number-places-requires
+number-places-requires c κs = search needs
 
-slice-relend-prefix-remove-numbered-2 : tie.Need-slice-relend-prefix-remove-numbered-2
-slice-relend-prefix-remove-numbered-2 c = search needs
+slice-aggregate-number-places-2 : tie.Need-slice-aggregate-number-places-2
+slice-aggregate-number-places-2 c = search needs
 
-slice-aggregate-remove-numbered-2 : tie.Need-slice-aggregate-remove-numbered-2
-slice-aggregate-remove-numbered-2 c = let st = c .before .before .before .before .before .before .before .before .before .before .before .before .before in simp length-take (omega (arith, st .pre .0 .design-fits .fewEdges, st .pre .1 .1))
+number-places-requires-2 : tie.Need-number-places-requires-2
+number-places-requires-2 c κs = search needs
 
-remove-numbered-requires : tie.Need-remove-numbered-requires
-remove-numbered-requires c κs =
-    let st = c .before .before .before .before .before .before .before .before .before .before .before .before .before .before .before .before .before .before in
-    let a = st .args in
-    let p : length (take (a .n) (a .numbers .now)) ≡ a .n = simp length-take (omega (arith, st .pre .0 .design-fits .fewNodes, st .pre .1 .0)) in
-    let q : length (take (length (a .starts .now)) (a .names .now)) ≡ length (a .starts .now) = simp length-take (omega (arith, st .pre .0 .design-fits .fewEdges, st .pre .1 .1)) in
-    subst₂ (λ (x y : ℕ). Numberable (a .starts .now) (a .ends .now) (a .listed .now) (a .lengths .now) x y (a .from .now) (a .to .now) (a .via .now)) (sym p) (sym q) (st .pre .0)
+array-share-prefix-numbers : tie.Need-array-share-prefix-numbers
+array-share-prefix-numbers c = search needs
+
+slice-aggregate-remove : tie.Need-slice-aggregate-remove
+slice-aggregate-remove c = sym (ap length (c .before .before .before .before .before .number-places .ensures) ∙ length-upto (c .before .before .before .before .before .before .before .before .before .before .before .before .before .before .before .before .args .n) 0)
+
+array-share-prefix-names : tie.Need-array-share-prefix-names
+array-share-prefix-names c = search needs
+
+slice-aggregate-remove-2 : tie.Need-slice-aggregate-remove-2
+slice-aggregate-remove-2 c = sym (ap length (c .before .before .before .number-places2 .ensures) ∙ length-upto (length (c .before .before .before .before .before .before .before .before .before .before .before .before .before .before .before .before .before .args .starts .now)) 0)
+
+remove-requires : tie.Need-remove-requires
+remove-requires c κs =
+    let st = c .before .before .before .before .before .before .before .before .before .before .before .before .before .before .before .before .before .before .before .before .before .before in
+    let a = st .args in (
+      subst₂ (λ (x y : List ℕ). Workable (a .starts .now) (a .listed .now) (a .lengths .now) x (a .starts .now) (a .ends .now) y) (sym (c .before .before .before .before .before .before .before .before .before .before .before .number-places .ensures)) (sym (c .before .before .before .before .before .before .before .before .number-places2 .ensures))
+          (numbered-workable (a .starts .now) (a .ends .now) (a .listed .now) (a .lengths .now) (a .n) (length (a .starts .now)) refl (a .from .now) (a .to .now) (a .via .now) (st .pre)),
+      st .pre .same,
+    )
 
 same-length : tie.Need-same-length
 same-length c = search needs
@@ -43,34 +58,29 @@ same-length-4 c = search needs
 same-length-5 : tie.Need-same-length-5
 same-length-5 c = search needs
 
-same-length-6 : tie.Need-same-length-6
-same-length-6 c = search needs
-
-same-length-7 : tie.Need-same-length-7
-same-length-7 c = search needs
-
 returns : tie.Need-returns
 returns c =
-    let r = c .before .before .before .before .before .before .before .before .before .before .before .before .before .before in
-    let st = r .before .before .before .before .before .before .before .before .before .before .before .before .before .before .before .before .before .before .before in
-    let a = st .args in
-    let p : length (take (a .n) (a .numbers .now)) ≡ a .n = simp length-take (omega (arith, st .pre .0 .design-fits .fewNodes, st .pre .1 .0)) in
-    subst (λ (x : ℕ). DesignRemoved (a .starts .now) (a .ends .now) (a .listed .now) (a .lengths .now) x (r .remove-numbered .result) (a .nodes .now) (a .from .now) (a .to .now) (a .via .now) (a .scratch .now) (r .remove-numbered .last .1 .1 .1 .1 .1 .1 .0) (r .remove-numbered .last .1 .1 .1 .1 .1 .1 .1 .0) (r .remove-numbered .last .1 .1 .1 .1 .1 .1 .1 .1 .0) (r .remove-numbered .last .1 .1 .1 .1 .1 .1 .1 .1 .1 .0) (r .remove-numbered .last .1 .1 .1 .1 .1 .1 .1 .1 .1 .1 .0)) p (r .remove-numbered .ensures)
+    let r = c .before .before .before .before .before .before .before .before .before .before in
+    let a = c .before .before .before .before .before .before .before .before .before .before .before .before .before .before .before .before .before .before .before .before .before .before .before .before .before .before .before .before .before .before .before .before .before .args in
+    numbered-removed (a .starts .now) (a .ends .now) (a .listed .now) (a .lengths .now) (a .n) (length (a .starts .now)) refl (r .remove .result) (a .nodes .now) (a .from .now) (a .to .now) (a .via .now) (a .scratch .now) (r .remove .last .1 .1 .1 .1 .1 .1 .1 .0) (r .remove .last .1 .1 .1 .1 .1 .1 .1 .1 .0) (r .remove .last .1 .1 .1 .1 .1 .1 .1 .1 .1 .0) (r .remove .last .1 .1 .1 .1 .1 .1 .1 .1 .1 .1 .0) (r .remove .last .1 .1 .1 .1 .1 .1 .1 .1 .1 .1 .1 .0)
+    (subst₂ (λ (x y : List ℕ). AllRemoved (a .starts .now) (a .listed .now) (a .lengths .now) x (a .starts .now) (a .ends .now) y (r .remove .result) (a .nodes .now) (a .from .now) (a .to .now) (a .via .now) (a .scratch .now) (r .remove .last .1 .1 .1 .1 .1 .1 .1 .0) (r .remove .last .1 .1 .1 .1 .1 .1 .1 .1 .0) (r .remove .last .1 .1 .1 .1 .1 .1 .1 .1 .1 .0) (r .remove .last .1 .1 .1 .1 .1 .1 .1 .1 .1 .1 .0) (r .remove .last .1 .1 .1 .1 .1 .1 .1 .1 .1 .1 .1 .0)) (c .before .before .before .before .before .before .before .before .before .before .before .before .before .before .before .before .before .before .before .before .before .before .number-places .ensures) (c .before .before .before .before .before .before .before .before .before .before .before .before .before .before .before .before .before .before .before .number-places2 .ensures) (r .remove .ensures))
 
 pub remove-tested-spec : {M : Type 1} → statement M
 remove-tested-spec =
     tie.close
     (tie.spec
-    slice-relend-prefix-remove-numbered
-    slice-aggregate-remove-numbered
-    slice-relend-prefix-remove-numbered-2
-    slice-aggregate-remove-numbered-2
-    remove-numbered-requires
+    slice-aggregate-number-places
+    number-places-requires
+    slice-aggregate-number-places-2
+    number-places-requires-2
+    array-share-prefix-numbers
+    slice-aggregate-remove
+    array-share-prefix-names
+    slice-aggregate-remove-2
+    remove-requires
     same-length
     same-length-2
     same-length-3
     same-length-4
     same-length-5
-    same-length-6
-    same-length-7
     returns)

@@ -1,4 +1,5 @@
--- 31 is tested with the count of candidates; where it passes, the scratch is enough.
+-- 31 is tested with the count of candidates; where it passes, the scratch is enough. The search then finds what the
+-- answer asks, and the scratch is cleared whatever it is.
 use Prim.Native.Nat.{ℕ, _+_, _*_}
 use mathlib.Core.Path.{sym, _∙_, subst}
 use lib.Dec.{leb}
@@ -7,7 +8,7 @@ use Rattle.timing.specs.declared.Refusal.{Refusal}
 use Rattle.timing.specs.declared.GraphMade.the-variants.{Refused as NoGraph}
 use Rattle.theorems.proofs.Lists.{holds}
 use Rattle.removal.specs.Remove.{AllRemoved}
-use Rattle.removal.proofs.AnswerLaws.{work-countable, work-in, removed-refused, removed-made}
+use Rattle.removal.proofs.AnswerLaws.{work-countable, work-in, search-removed, removed-refused, removed-made}
 use borrow.Author.Needs.{needs}
 use Rattle.removal.proofs.remove.remove.Statement.{statement}
 use Rattle.removal.proofs.remove.remove.Tie as tie
@@ -25,13 +26,19 @@ scratch-fits-requires c κs =
     let a = st .args in
     (c .count-candidates .ensures .1, work-countable (a .starts .now) (a .flat .now) (a .lengths .now) (a .nodes .now) (a .gs .now) (a .ge .now) (a .gn .now) (st .pre .0) .0 .few, g .few-edges)
 
-remove-with-requires : tie.Need-remove-with-requires
-remove-with-requires c κs =
-    let k = c .before .before .before .before .before .before .before in
-    let st = k .before .before .before .before .before .before .before .before .before .before .before .before .before in
+search-requires : tie.Need-search-requires
+search-requires c κs =
+    let k = c .before .before .before in
+    let st = c .before .before .before .before .before .before .before .before .before .before .before .before .before .before .before .before in
     let a = st .args in
     let n : ℕ = k .count-candidates .result in
-    (work-in (a .starts .now) (a .flat .now) (a .lengths .now) (a .nodes .now) (a .gs .now) (a .ge .now) (a .gn .now) n (k .count-candidates .ensures .0) (a .s .now) (st .pre .0) (holds (leb (16 * (n + length (a .flat .now) + length (a .gs .now))) (length (a .s .now))) (sym (c .before .before .before .before .before .before .scratch-fits .ensures) ∙ c .before .before .before .before .before .if1 .taken)), st .pre .1)
+    work-in (a .starts .now) (a .flat .now) (a .lengths .now) (a .nodes .now) (a .gs .now) (a .ge .now) (a .gn .now) n (k .count-candidates .ensures .0) (a .s .now) (st .pre .0) (holds (leb (16 * (n + length (a .flat .now) + length (a .gs .now))) (length (a .s .now))) (sym (c .before .before .scratch-fits .ensures) ∙ c .before .if1 .taken))
+
+write-result-requires : tie.Need-write-result-requires
+write-result-requires c κs = (c .before .before .before .before .before .before .before .search .ensures .all, c .before .before .before .before .before .before .before .before .before .before .before .before .before .before .before .before .before .before .before .before .before .before .before .before .pre .1)
+
+zero-requires : tie.Need-zero-requires
+zero-requires c κs = search needs
 
 same-length : tie.Need-same-length
 same-length c = search needs
@@ -50,12 +57,13 @@ same-length-5 c = search needs
 
 returns : tie.Need-returns
 returns c =
-    let r = c .before .before .before .before .before .before .before .before .before .before in
-    let k = r .before .before .before .before .before .before .before .before in
-    let st = k .before .before .before .before .before .before .before .before .before .before .before .before .before in
-    let a = st .args in
-    removed-made (a .starts .now) (a .flat .now) (a .lengths .now) (a .nodes .now) (a .gs .now) (a .ge .now) (a .gn .now) (k .count-candidates .result) (k .count-candidates .ensures .0) (a .room .now) (a .from .now) (a .to .now) (a .via .now) (a .s .now) (sym (r .before .before .before .before .before .before .before .scratch-fits .ensures) ∙ r .before .before .before .before .before .before .if1 .taken) (r .remove-with .result)
-    (r .remove-with .last .1 .1 .1 .1 .1 .1 .1 .0) (r .remove-with .last .1 .1 .1 .1 .1 .1 .1 .1 .0) (r .remove-with .last .1 .1 .1 .1 .1 .1 .1 .1 .1 .0) (r .remove-with .last .1 .1 .1 .1 .1 .1 .1 .1 .1 .1 .0) (r .remove-with .last .1 .1 .1 .1 .1 .1 .1 .1 .1 .1 .1 .0) (r .remove-with .ensures)
+    let z = c .before .before in
+    let r = c .before .before .before .before .before .before .before .before .before .before .before .before in
+    let w = r .before .before .before .before .before .before .before .before in
+    let k = w .before .before .before .before in
+    let a = k .before .before .before .before .before .before .before .before .before .before .before .before .before .args in
+    removed-made (a .starts .now) (a .flat .now) (a .lengths .now) (a .nodes .now) (a .gs .now) (a .ge .now) (a .gn .now) (k .count-candidates .result) (k .count-candidates .ensures .0) (a .room .now) (a .from .now) (a .to .now) (a .via .now) (a .s .now) (sym (w .before .before .before .scratch-fits .ensures) ∙ w .before .before .if1 .taken) (r .write-result .result) (r .write-result .last .1 .1 .1 .1 .1 .1 .1 .1 .0) (r .write-result .last .1 .1 .1 .1 .1 .1 .1 .1 .1 .0) (r .write-result .last .1 .1 .1 .1 .1 .1 .1 .1 .1 .1 .0) (r .write-result .last .1 .1 .1 .1 .1 .1 .1 .1 .1 .1 .1 .0) (z .zero .last .0)
+    (search-removed (a .starts .now) (a .flat .now) (a .lengths .now) (a .nodes .now) (a .gs .now) (a .ge .now) (a .gn .now) (a .room .now) (a .from .now) (a .to .now) (a .via .now) (a .s .now) (w .search .result .layout) (w .search .result .counts .copies) (w .search .result .counts .edges) (w .search .last .1 .1 .1 .1 .1 .1 .1 .0) (r .write-result .last .1 .1 .1 .1 .1 .1 .1 .1 .0) (r .write-result .last .1 .1 .1 .1 .1 .1 .1 .1 .1 .0) (r .write-result .last .1 .1 .1 .1 .1 .1 .1 .1 .1 .1 .0) (r .write-result .last .1 .1 .1 .1 .1 .1 .1 .1 .1 .1 .1 .0) (z .zero .last .0) (r .write-result .result) (w .search .ensures) (r .write-result .ensures) (z .zero .ensures))
 
 refuse-requires : tie.Need-refuse-requires
 refuse-requires c κs = search needs
@@ -74,7 +82,9 @@ remove-spec =
     (tie.spec
     count-candidates-requires
     scratch-fits-requires
-    remove-with-requires
+    search-requires
+    write-result-requires
+    zero-requires
     same-length
     same-length-2
     same-length-3
