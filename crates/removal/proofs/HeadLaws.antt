@@ -44,8 +44,3 @@ head-next (k ∷ lengths) i f h =
     go (no a) (no b) r =
         let z : suc i - k ≡ suc (i - k) = omega arith in
         rw (le-ltb (suc i) k (omega arith), le-ltb i k (omega arith), z) (r (omega arith))
-
-pub map-upto : (f : ℕ → ℕ) (n k i : ℕ) → i < n → getD (map f (upto n k)) i 0 ≡ f (k + i)
-map-upto f zero k i h = absurd (omega arith)
-map-upto f (suc n) k zero h = ap f (omega arith)
-map-upto f (suc n) k (suc i) h = map-upto f n (suc k) i (omega arith) ∙ ap f (omega arith)

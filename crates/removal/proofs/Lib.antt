@@ -10,7 +10,6 @@ pub mod KeyLaws
 pub mod SortLaws
 pub mod HeadLaws
 pub mod SearchLaws
-pub mod ReadLaws
 pub mod FillLaws
 pub mod StepLaws
 pub mod StepMarks

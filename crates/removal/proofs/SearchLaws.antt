@@ -14,7 +14,7 @@ use Rattle.timing.specs.Marks.{PathList}
 use Rattle.theorems.proofs.Lists.{and-intro, or-left, or-right}
 use Rattle.removal.specs.Positions.{headAt, startAt, restAt, tailAt, Ordered}
 use Rattle.removal.specs.Slots.{Bounds, Bounded}
-use Rattle.removal.specs.Search.{ofStarts, codeAt, Lower, Around, Firsts, FilledTo}
+use Rattle.removal.specs.Search.{ofStarts, codeAt, codeOf, codeIn, LowerBy, Lower, Around, Rising, FirstsBy, Firsts, FilledTo}
 use Rattle.removal.proofs.HeadLaws.{head-small}
 
 key-before : (a b x y : ℕ) (xs ys : List ℕ) → x ≤ 1 → y ≤ 1 → 2 * a + x < 2 * b + y → T (before (a ∷ x ∷ xs) (b ∷ y ∷ ys))
@@ -109,19 +109,18 @@ filled-end t u from to v k h m f = record {
 }
 
 -- the table up to a key, with t places below the keys so far
-pub record FirstsTo (starts : List ℕ) (L : PathList) (order firsts : List ℕ) (t key : ℕ) : Type 0 where
+pub record FirstsTo (code : ℕ → ℕ) (n : ℕ) (firsts : List ℕ) (t key : ℕ) : Type 0 where
   pub size : length firsts ≡ 8193
-  pub inside : t ≤ length order
-  pub below : (i : ℕ) → i < t → codeAt starts L (getD order i 0) < key
-  pub bounds : (k : ℕ) → k < key → Lower starts L order k (getD firsts k 0)
+  pub inside : t ≤ n
+  pub below : (i : ℕ) → i < t → code i < key
+  pub bounds : (k : ℕ) → k < key → LowerBy code n k (getD firsts k 0)
 
-module _ (starts : List ℕ) (L : PathList) (order firsts : List ℕ) where
-  pub firsts-start : length firsts ≡ 8193 → FirstsTo starts L order firsts 0 0
+module _ (code : ℕ → ℕ) (n : ℕ) (firsts : List ℕ) where
+  pub firsts-start : length firsts ≡ 8193 → FirstsTo code n firsts 0 0
   firsts-start e = record { size = e; inside = omega arith; below = λ i h. absurd (omega arith); bounds = λ k h. absurd (omega arith) }
 
   -- the words up to the code of place t are t, where they are not there yet
-  pub firsts-next : (u : List ℕ) (t key c r : ℕ) → Ordered (ofStarts starts) L order → t < length order → c ≡ codeAt starts L (getD order t 0) → FirstsTo starts L order firsts t key
-      → FilledTo firsts u key (c + 1) t r → FirstsTo starts L order u (t + 1) r
+  pub firsts-next : (u : List ℕ) (t key c r : ℕ) → Rising code n → t < n → c ≡ code t → FirstsTo code n firsts t key → FilledTo firsts u key (c + 1) t r → FirstsTo code n u (t + 1) r
   firsts-next u t key c r o h e f w = record {
     size = w .size ∙ f .size;
     inside = omega arith;
@@ -129,32 +128,50 @@ module _ (starts : List ℕ) (L : PathList) (order firsts : List ℕ) where
     bounds = λ k l. go k l (decLt k key);
   }
     where
-      under : (i : ℕ) → i < t + 1 → Dec (i ≡ t) → codeAt starts L (getD order i 0) < r
-      under i l (yes q) = omega (arith, ap (λ (j : ℕ). codeAt starts L (getD order j 0)) q, w .past)
+      under : (i : ℕ) → i < t + 1 → Dec (i ≡ t) → code i < r
+      under i l (yes q) = omega (arith, ap code q, w .past)
       under i l (no g) = omega (arith, f .below i (omega arith), w .least)
 
-      go : (k : ℕ) → k < r → Dec (k < key) → Lower starts L order k (getD u k 0)
-      go k l (yes q) = subst (Lower starts L order k) (sym (w .outside k (λ m n. omega arith))) (f .bounds k q)
+      go : (k : ℕ) → k < r → Dec (k < key) → LowerBy code n k (getD u k 0)
+      go k l (yes q) = subst (LowerBy code n k) (sym (w .outside k (λ m i. omega arith))) (f .bounds k q)
       go k l (no g) =
           let m : k < c + 1 = omega (arith, w .next (omega arith)) in
-          subst (Lower starts L order k) (sym (w .inside k (omega arith) m)) (record {
+          subst (LowerBy code n k) (sym (w .inside k (omega arith) m)) (record {
             within = omega arith;
             below = λ i q. omega (arith, f .below i q);
-            above = λ i q n. omega (arith, codes-rise starts L order o t i q n);
+            above = λ i q l. omega (arith, o .rise t i q l);
           })
 
   -- and the words after the last code are the number of all places
-  pub firsts-done : (u : List ℕ) (t key r : ℕ) → length order ≤ t → FirstsTo starts L order firsts t key → FilledTo firsts u key 8193 t r → Firsts starts L order u
+  pub firsts-done : (u : List ℕ) (t key r : ℕ) → n ≤ t → FirstsTo code n firsts t key → FilledTo firsts u key 8193 t r → FirstsBy code n u
   firsts-done u t key r h f w = record { size = w .size ∙ f .size; bounds = λ k l. go k l (decLt k key) }
     where
-      go : (k : ℕ) → k < 8193 → Dec (k < key) → Lower starts L order k (getD u k 0)
-      go k l (yes q) = subst (Lower starts L order k) (sym (w .outside k (λ m n. omega arith))) (f .bounds k q)
+      go : (k : ℕ) → k < 8193 → Dec (k < key) → LowerBy code n k (getD u k 0)
+      go k l (yes q) = subst (LowerBy code n k) (sym (w .outside k (λ m i. omega arith))) (f .bounds k q)
       go k l (no g) =
-          subst (Lower starts L order k) (sym (w .inside k (omega arith) l)) (record {
+          subst (LowerBy code n k) (sym (w .inside k (omega arith) l)) (record {
             within = f .inside;
             below = λ i q. omega (arith, f .below i q);
-            above = λ i q n. absurd (omega arith);
+            above = λ i q m. absurd (omega arith);
           })
+
+-- codes read off a table are those of the list
+module _ (starts : List ℕ) (L : PathList) (order codes : List ℕ) (is : (t : ℕ) → t < length order → codeIn codes order t ≡ codeOf starts L order t) where
+  pub table-rises : Ordered (ofStarts starts) L order → ((k : ℕ) → getD starts k 0 < 4096) → Rising (codeIn codes order) (length order)
+  table-rises o h = record {
+    rise = λ t u l m. omega (arith, is t (omega arith), is u m, codes-rise starts L order o t u l m);
+    small = λ t m. omega (arith, is t m, h (getD (L .edges) (getD order t 0) 0), head-small (L .lengths) (getD order t 0));
+  }
+
+  pub table-firsts : (firsts : List ℕ) → FirstsBy (codeIn codes order) (length order) firsts → Firsts starts L order firsts
+  table-firsts firsts f = record {
+    size = f .size;
+    bounds = λ k l. record {
+      within = f .bounds k l .within;
+      below = λ t m. omega (arith, is t (omega (arith, f .bounds k l .within)), f .bounds k l .below t m);
+      above = λ t m q. omega (arith, is t q, f .bounds k l .above t m q);
+    };
+  }
 
 pub around-bounded : (D : Design) (L : PathList) (G : Graph) (order : List ℕ) (B : Bounds) (c : ℕ)
     → Around (D .starts) L order (nodeOf G c) (B .low c) (B .middle c) (B .high c) → Bounded D L G order B c

@@ -1,5 +1,5 @@
 -- The tables about the list, one after the other: each later one leaves the earlier ones.
-use Prim.Native.Nat.{ℕ, suc, _+_, _≤_, _<_}
+use Prim.Native.Nat.{ℕ, suc, _+_, _*_, _≤_, _<_}
 use native.Mathlib.Omega.{arith}
 use mathlib.Core.Path.{_≡_, refl, sym, _∙_, ap, subst}
 use mathlib.Core.List.{List, map}
@@ -10,12 +10,13 @@ use Rattle.timing.specs.Marks.{PathList, pathList}
 use Rattle.theorems.proofs.Lists.{getD-mem}
 use Rattle.removal.specs.Table.{table, Frame}
 use Rattle.removal.specs.Positions.{restAt, Ordered}
-use Rattle.removal.specs.Listed.{RestTable, Sortable, Arranged}
+use Rattle.removal.specs.Listed.{RestTable, Coded, Sortable, Arranged}
 use Rattle.removal.specs.Ranks.{RestsFall, Ranked, Levels}
-use Rattle.removal.specs.Search.{ofStarts}
+use Rattle.removal.specs.Search.{ofStarts, codeOf, codeIn, Rising, FirstsBy, Firsts}
 use Rattle.removal.specs.Tails.{Tailed, TailsLinked, Orderable, Tabulated, LinkedTo}
 use Rattle.removal.proofs.Region.{table-length, frame-wider, frame-trans}
-use Rattle.removal.proofs.RestLaws.{table-is}
+use Rattle.removal.proofs.RestLaws.{table-is, head-is}
+use Rattle.removal.proofs.SearchLaws.{table-rises, table-firsts}
 use Rattle.removal.proofs.PositionLaws.{rest-least, rest-inside, rest-next}
 
 -- the rests of a list fall along its paths
@@ -88,6 +89,31 @@ module _ (starts flat lengths s : List ℕ) (rest order rank link : ℕ) (b : Or
       link-room = omega (arith, size₃, b .room);
       few = b .few;
     }
+
+    -- the codes of the places, read off a table
+    module _ (codes : List ℕ) (coded : Coded starts flat (table s rest (length flat)) codes) (size : length codes ≡ length flat) where
+      order-size : length (table s₃ order (length flat)) ≡ length flat
+      order-size = tailed .search .ordered .size
+
+      codes-are : (t : ℕ) → t < length (table s₃ order (length flat))
+          → codeIn codes (table s₃ order (length flat)) t ≡ codeOf starts (pathList flat lengths) (table s₃ order (length flat)) t
+      codes-are t h =
+          let p = getD (table s₃ order (length flat)) t 0 in
+          let inside = tailed .search .ordered .inside t h in
+          coded .at p inside ∙ ap (λ (k : ℕ). 2 * getD starts (getD flat p 0) 0 + k) (head-is (pathList flat lengths) s rest (b .rests) p inside)
+
+      pub rising₃ : Rising (codeIn codes (table s₃ order (length codes))) (length codes)
+      rising₃ =
+          subst (λ (n : ℕ). Rising (codeIn codes (table s₃ order n)) n) (sym size)
+          (subst (Rising (codeIn codes (table s₃ order (length flat)))) order-size
+          (table-rises starts (pathList flat lengths) (table s₃ order (length flat)) codes codes-are (tailed .search .ordered) (b .starts-below)))
+
+      pub firsts₃ : (firsts : List ℕ) → FirstsBy (codeIn codes (table s₃ order (length codes))) (length codes) firsts
+          → Firsts starts (pathList flat lengths) (table s₃ order (length flat)) firsts
+      firsts₃ firsts f =
+          table-firsts starts (pathList flat lengths) (table s₃ order (length flat)) codes codes-are firsts
+          (subst (λ (n : ℕ). FirstsBy (codeIn codes (table s₃ order (length flat))) n firsts) (sym order-size)
+          (subst (λ (n : ℕ). FirstsBy (codeIn codes (table s₃ order n)) n firsts) size f))
 
     -- and the links
     pub tabulated : (s₄ : List ℕ) → TailsLinked flat s₃ s₄ rest link → Tabulated starts flat s s₄ rest order rank link

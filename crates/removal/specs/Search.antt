@@ -31,21 +31,39 @@ pub record Searchable (starts flat lengths s : List ℕ) (rest order top : ℕ) 
   pub rests : table s rest (length flat) ≡ map (restIn lengths) (upto (length flat) 0)
   pub ordered : Ordered (ofStarts starts) (pathList flat lengths) (table s order (length flat))
 
--- r places of the order have a code below the key
-pub record Lower (starts : List ℕ) (L : PathList) (order : List ℕ) (key r : ℕ) : Type 0 where
-  pub within : r ≤ length order
-  pub below : (t : ℕ) → t < r → codeAt starts L (getD order t 0) < key
-  pub above : (t : ℕ) → r ≤ t → t < length order → key ≤ codeAt starts L (getD order t 0)
+-- of n places with codes, r have one below the key, and they come first
+pub record LowerBy (code : ℕ → ℕ) (n key r : ℕ) : Type 0 where
+  pub within : r ≤ n
+  pub below : (t : ℕ) → t < r → code t < key
+  pub above : (t : ℕ) → r ≤ t → t < n → key ≤ code t
+
+-- the code of the position at a place of the order, by the list, and by a table of the codes
+abbrev pub codeOf : List ℕ → PathList → List ℕ → ℕ → ℕ
+codeOf starts L order t = codeAt starts L (getD order t 0)
+
+abbrev pub codeIn : List ℕ → List ℕ → ℕ → ℕ
+codeIn codes order t = getD codes (getD order t 0) 0
+
+abbrev pub Lower : List ℕ → PathList → List ℕ → ℕ → ℕ → Type 0
+Lower starts L order = LowerBy (codeOf starts L order) (length order)
 
 pub record Around (starts : List ℕ) (L : PathList) (order : List ℕ) (v low middle high : ℕ) : Type 0 where
   pub lows : Lower starts L order (2 * v) low
   pub middles : Lower starts L order (2 * v + 1) middle
   pub highs : Lower starts L order (2 * v + 2) high
 
--- word `key` of a table is this bound; codes are below 8,192
-pub record Firsts (starts : List ℕ) (L : PathList) (order firsts : List ℕ) : Type 0 where
+-- codes that never fall, and are below 8,192
+pub record Rising (code : ℕ → ℕ) (n : ℕ) : Type 0 where
+  pub rise : (t u : ℕ) → t ≤ u → u < n → code t ≤ code u
+  pub small : (t : ℕ) → t < n → code t < 8192
+
+-- word `key` of a table is the bound of this key
+pub record FirstsBy (code : ℕ → ℕ) (n : ℕ) (firsts : List ℕ) : Type 0 where
   pub size : length firsts ≡ 8193
-  pub bounds : (key : ℕ) → key < 8193 → Lower starts L order key (getD firsts key 0)
+  pub bounds : (key : ℕ) → key < 8193 → LowerBy code n key (getD firsts key 0)
+
+abbrev pub Firsts : List ℕ → PathList → List ℕ → List ℕ → Type 0
+Firsts starts L order = FirstsBy (codeOf starts L order) (length order)
 
 -- the words from `from` on and before `to` are v, the others are as they were, and r is where the next ones start
 pub record FilledTo (t u : List ℕ) (from to v r : ℕ) : Type 0 where

@@ -4,59 +4,8 @@ ghost use Prim.Native.Nat.{ℕ, _+_, _*_, _≤_, _<_};
 ghost use lib.ListN.{length, getD};
 ghost use Rattle.timing.specs.Marks.{pathList};
 ghost use Rattle.removal.specs.Table.{table};
-ghost use Rattle.removal.specs.Positions.{headIn};
-ghost use Rattle.removal.specs.Search.{codeAt, Searchable, Firsts, FilledTo, putFour, Fillable, Filled};
-
-// What stands at i, and 0 past the end.
-fn at(s: &[u32], i: usize) -> u32
-    ensures { λ r. ⌜ r ≡ getD (now (s .entry)) i 0 ⌝ }
-{
-    if i < s.len() { s[i] } else { 0 }
-}
-
-// 1 for the first position of a path, else 0. No path is empty, so that one starts where the one
-// before has one edge left.
-fn head_at(
-    starts: &[u32],
-    flat: &[u32],
-    lengths: &[u32],
-    s: &[u32],
-    rest: usize,
-    order: usize,
-    top: usize,
-    p: usize,
-) -> usize
-    requires { ⌜ Searchable (now starts) (now flat) (now lengths) (now s) rest order top × (p < length (now flat)) ⌝ }
-    ensures { λ r. ⌜ r ≡ headIn (now (lengths .entry)) p ⌝ }
-{
-    if p == 0 {
-        return 1;
-    }
-    if at(s, rest + (p - 1)) == 1 {
-        return 1;
-    }
-    0
-}
-
-// The code of what stands at place t of the order.
-fn code_at(
-    starts: &[u32],
-    flat: &[u32],
-    lengths: &[u32],
-    s: &[u32],
-    rest: usize,
-    order: usize,
-    top: usize,
-    t: usize,
-) -> usize
-    requires { ⌜ Searchable (now starts) (now flat) (now lengths) (now s) rest order top × (t < length (now flat)) ⌝ }
-    ensures { λ r. ⌜ r ≡ codeAt (now (starts .entry)) (pathList (now (flat .entry)) (now (lengths .entry))) (getD (table (now (s .entry)) order (length (now (flat .entry)))) t 0) ⌝ }
-{
-    let p = at(s, order + t) as usize;
-    let e = at(flat, p) as usize;
-    let v = at(starts, e) as usize;
-    2 * v + head_at(starts, flat, lengths, s, rest, order, top, p)
-}
+ghost use Rattle.removal.specs.Search.{codeIn, Searchable, Rising, FirstsBy, Firsts, FilledTo, putFour, Fillable, Filled};
+use timing::number_at;
 
 // Fills the words from `from` on and before `to`; gives where the next words start.
 fn fill_to(firsts: &mut [u32], from: usize, to: usize, v: u32) -> usize
@@ -71,25 +20,17 @@ fn fill_to(firsts: &mut [u32], from: usize, to: usize, v: u32) -> usize
     k
 }
 
-// For each key how many places have a code below it. One pass over the order: the words up to the code of
-// a place that are not there yet are its number.
-pub(crate) fn fill_firsts(
-    starts: &[u32],
-    flat: &[u32],
-    lengths: &[u32],
-    s: &[u32],
-    rest: usize,
-    order: usize,
-    top: usize,
-    firsts: &mut [u32],
-)
-    requires { ⌜ Searchable (now starts) (now flat) (now lengths) (now s) rest order top × (length (now flat) ≤ 8192) × (length (now firsts) ≡ 8193) × ((k : ℕ) → getD (now starts) k 0 < 4096) ⌝ }
-    ensures { λ r. ⌜ Firsts (now (starts .entry)) (pathList (now (flat .entry)) (now (lengths .entry))) (table (now (s .entry)) order (length (now (flat .entry)))) (now (firsts .exit)) ⌝ }
+// For each key how many places of the order have a code below it. One pass over the order: the words up to
+// the code of a place that are not there yet are its number.
+pub(crate) fn fill_firsts(s: &[u32], order: usize, codes: &[u32], firsts: &mut [u32])
+    requires { ⌜ (order + length (now codes) ≤ length (now s)) × (length (now codes) ≤ 8192) × (length (now firsts) ≡ 8193) × Rising (codeIn (now codes) (table (now s) order (length (now codes)))) (length (now codes)) ⌝ }
+    ensures { λ r. ⌜ FirstsBy (codeIn (now (codes .entry)) (table (now (s .entry)) order (length (now (codes .entry))))) (length (now (codes .entry))) (now (firsts .exit)) ⌝ }
 {
     let mut key = 0;
     let mut t = 0;
-    while t < flat.len() {
-        let code = code_at(starts, flat, lengths, s, rest, order, top, t);
+    while t < codes.len() {
+        let p = number_at(s, order + t) as usize;
+        let code = number_at(codes, p) as usize;
         key = fill_to(firsts, key, code + 1, t as u32);
         t += 1;
     }
@@ -109,9 +50,9 @@ pub(crate) fn around(firsts: &[u32], v: u32, before: u32) -> Four
     ensures { λ r. ⌜ (r .low ≡ getD (now (firsts .entry)) (2 * v) 0) × (r .middle ≡ getD (now (firsts .entry)) (2 * v + 1) 0) × (r .high ≡ getD (now (firsts .entry)) (2 * v + 2) 0) × (r .before ≡ before) ⌝ }
 {
     let key = 2 * (v as usize);
-    let low = at(firsts, key);
-    let middle = at(firsts, key + 1);
-    let high = at(firsts, key + 2);
+    let low = number_at(firsts, key);
+    let middle = number_at(firsts, key + 1);
+    let high = number_at(firsts, key + 2);
     Four {
         low,
         middle,

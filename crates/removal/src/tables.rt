@@ -45,7 +45,7 @@ fn fill_with(
     rank_listed(flat, s, rest, places, ranks);
     order_positions(starts, flat, s, rest, order, codes, ranks);
     store(s, rank, ranks);
-    fill_firsts(starts, flat, lengths, s, rest, order, rank, firsts);
+    fill_firsts(s, order, codes, firsts);
     fill_links(
         starts,
         flat,
