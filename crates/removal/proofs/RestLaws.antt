@@ -13,11 +13,13 @@ use borrow.Author.Tests.{lt-ltb, le-ltb, eq-eqb, ne-eqb}
 use Rattle.timing.specs.Lists.{isNil, sum, upto}
 use Rattle.timing.specs.Graphs.{Design}
 use Rattle.timing.specs.Marks.{PathList, cut}
+use Rattle.theorems.proofs.Lists.{getD-mem}
 use Rattle.theorems.proofs.Tested.{ListFits}
 use Rattle.removal.specs.Table.{table, Frame}
 use Rattle.removal.specs.Positions.{restIn, headIn, restAt, headAt, positionKey}
 use Rattle.removal.specs.Listed.{PathRests, Rests, RestTable, headFrom, keyFrom}
 use Rattle.removal.proofs.Region.{table-at, table-length}
+use Rattle.removal.proofs.HeadLaws.{head-first, head-next}
 
 -- one more word of a path
 pub path-step : (s : List ℕ) (start n at left : ℕ) → at + left ≡ start + n → 0 < left → left ≤ n → at < length s
@@ -99,38 +101,18 @@ table-from f s base n room h =
     let k : i < n = omega arith in
     table-at s base n i k ∙ h i k ∙ sym (table-is f n i k))
 
--- the head of a path is told by the rest before it
-head-zero : (ls : List ℕ) → ((k : ℕ) → List·Memᴰ k ls → 0 < k) → 0 < sum ls → headIn ls 0 ≡ 1
-head-zero [] f h = absurd (omega arith)
-head-zero (k ∷ ls) f h = rw (lt-ltb 0 k (f k (List·Memᴰ·head refl)))
-
-head-suc : (ls : List ℕ) → ((k : ℕ) → List·Memᴰ k ls → 0 < k) → (i : ℕ) → suc i < sum ls
-    → headIn ls (suc i) ≡ cond (eqb (restIn ls i) 1) 1 0
-head-suc [] f i h = absurd (omega arith)
-head-suc (k ∷ ls) f i h = go (decLt (suc i) k) (ℕ-discrete (suc i) k) (head-suc ls rest)
-  where
-    rest : (j : ℕ) → List·Memᴰ j ls → 0 < j
-    rest j m = f j (List·Memᴰ·tail m)
-
-    go : Dec (suc i < k) → Dec (suc i ≡ k) → ((m : ℕ) → suc m < sum ls → headIn ls (suc m) ≡ cond (eqb (restIn ls m) 1) 1 0)
-        → cond (ltb (suc i) k) (cond (eqb (suc i) 0) 1 0) (headIn ls (suc i - k)) ≡ cond (eqb (cond (ltb i k) (k - i) (restIn ls (i - k))) 1) 1 0
-    go (yes l) d below = rw (lt-ltb (suc i) k l, lt-ltb i k (omega arith), ne-eqb (suc i) 0 (λ q. omega arith), ne-eqb (k - i) 1 (λ q. omega arith))
-    go (no l) (yes e) below =
-        let z : suc i - k ≡ 0 = omega arith in
-        rw (le-ltb (suc i) k (omega arith), lt-ltb i k (omega arith), eq-eqb (k - i) 1 (omega arith), z) (head-zero ls rest (omega arith))
-    go (no l) (no e) below =
-        let z : suc i - k ≡ suc (i - k) = omega arith in
-        rw (le-ltb (suc i) k (omega arith), le-ltb i k (omega arith)) (ap (headIn ls) z ∙ below (i - k) (omega arith))
-
--- what stands in a rest table
+-- what stands in a rest table; the first position of a path is told by the rest before it
 module _ (L : PathList) (s : List ℕ) (base : ℕ) (T : RestTable L s base) where
   pub rest-is : (i : ℕ) → i < length (L .edges) → getD (table s base (length (L .edges))) i 0 ≡ restAt L i
   rest-is i h = ap (λ (x : List ℕ). getD x i 0) (T .rests) ∙ table-is (restAt L) (length (L .edges)) i h
 
+  filled-at : (j : ℕ) → j < length (L .lengths) → 0 < getD (L .lengths) j 0
+  filled-at j h = T .filled (getD (L .lengths) j 0) (getD-mem (L .lengths) j 0 h)
+
   pub head-is : (i : ℕ) → i < length (L .edges) → headFrom (table s base (length (L .edges))) i ≡ headAt L i
-  head-is zero h = sym (head-zero (L .lengths) (T .filled) (omega (arith, T .total)))
+  head-is zero h = sym (head-first (L .lengths) filled-at (omega (arith, T .total)))
   head-is (suc i) h =
-      ap (λ (x : ℕ). cond (eqb x 1) 1 0) (rest-is i (omega arith)) ∙ sym (head-suc (L .lengths) (T .filled) i (omega (arith, T .total)))
+      ap (λ (x : ℕ). cond (eqb x 1) 1 0) (rest-is i (omega arith)) ∙ sym (head-next (L .lengths) i filled-at (omega (arith, T .total)))
 
   pub key-is : (D : Design) (starts flat : List ℕ) → D .starts ≡ starts → L .edges ≡ flat → (i : ℕ) → i < length flat
       → keyFrom starts flat (table s base (length flat)) i ≡ positionKey D L i
@@ -161,9 +143,9 @@ rest-table D L s t base fits r = record {
 }
 
 -- the head flag by the word before
-pub head-first : (s : List ℕ) (base n i : ℕ) → i ≡ 0 → 1 ≡ headFrom (table s base n) i
-head-first s base n zero e = refl
-head-first s base n (suc i) e = absurd (omega arith)
+pub head-start : (s : List ℕ) (base n i : ℕ) → i ≡ 0 → 1 ≡ headFrom (table s base n) i
+head-start s base n zero e = refl
+head-start s base n (suc i) e = absurd (omega arith)
 
 head-after : (s : List ℕ) (base n i : ℕ) → (i ≡ 0 → ⊥) → i ≤ n → headFrom (table s base n) i ≡ cond (eqb (getD s (base + i - 1) 0) 1) 1 0
 head-after s base n zero f h = absurd (f refl)
