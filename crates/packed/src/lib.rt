@@ -37,8 +37,7 @@ fn groups(s: &[u8], at: usize, g: usize) -> Groups
                 size: size + 1,
             }
         }
-        Groups::Ended => Groups::Ended,
-        Groups::Unfit => Groups::Unfit,
+        _ => higher,
     }
 }
 
