@@ -3,7 +3,7 @@ use super::say;
 use cases::fill;
 use cases::least;
 use cases::unpack;
-use packed::take_number;
+use packed_lists::take_number;
 use print::refused;
 use print::text;
 use timing::DeckRead;
@@ -20,7 +20,7 @@ fn pack(delays: &[i32], codes: &mut [u32]) {
     let len = least(delays.len(), codes.len());
     let mut k = 0;
     while k < len {
-        codes[k] = packed::pack_delay(delays[k]);
+        codes[k] = packed_delays::pack_delay(delays[k]);
         k += 1;
     }
 }

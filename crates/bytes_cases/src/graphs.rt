@@ -2,7 +2,7 @@
 use super::say;
 use cases::fill;
 use cases::least;
-use packed::take_number;
+use packed_lists::take_number;
 use print::refused;
 use print::text;
 use timing::GraphMade;

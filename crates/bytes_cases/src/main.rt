@@ -8,7 +8,7 @@
 // What was read is then written, and what was written is then read.
 // Crate `cases` says how a slice is packed.
 use libc::STDIN_FILENO;
-use packed::take_number;
+use packed_lists::take_number;
 
 mod decks;
 mod graphs;

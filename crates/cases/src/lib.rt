@@ -8,8 +8,8 @@ ghost use lib.ListN.{length, take};
 ghost use lib.Seq.{sets};
 ghost use Rattle.timing.specs.Delays.{delayOf};
 ghost use Rattle.cases.specs.Slices.{stepValue, stepNext, IsSlice};
-use packed::take_number;
-use packed::unpack_delay;
+use packed_delays::unpack_delay;
+use packed_lists::take_number;
 use timing::Taken;
 
 // How many places of a table a slice took, and the place behind its bytes.

@@ -23,7 +23,7 @@ use Rattle.timing.specs.declared.Looked.the-variants.{At, Refused}
 use Rattle.timing.specs.Looks.{looked, numberOf}
 use Rattle.deck_reader.specs.Reading.{verdictOf, countIn, pathIn, tailIn, deckIn}
 use Rattle.timing.proofs.Verdicts.{then-passed, unless-passed}
-use Rattle.packed.proofs.Looking.{looked-made}
+use Rattle.packed_lists.proofs.Looking.{looked-made}
 
 -- a reader that goes on, from where the one before it stopped
 pub looked-onward : {A B C : Type 0} (p : Parsed A) (f : A → Reader B) (g : A → Reader C) → ((x : A) (at : ℕ) → looked (f x at) ≡ looked (g x at)) → looked (onward p f) ≡ looked (onward p g)

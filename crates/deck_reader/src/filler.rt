@@ -10,7 +10,7 @@ ghost use Rattle.deck_reader.specs.Reading.{numbersFrom, numbersEnd, sta
 use super::Edges;
 use super::Listed;
 use super::wide;
-use packed::take_number;
+use packed_lists::take_number;
 use timing::DeckRead;
 use timing::Taken;
 
@@ -18,7 +18,7 @@ fn set_delay(delays: &mut [i32], i: usize, x: u32)
     requires { ⌜ i < length (now delays) ⌝ }
     ensures { λ r. ⌜ now (delays .exit) ≡ set (now (delays .entry)) i (delayOf x) ⌝ }
 {
-    delays[i] = packed::unpack_delay(x);
+    delays[i] = packed_delays::unpack_delay(x);
 }
 
 // An edge, to index i of its three tables.

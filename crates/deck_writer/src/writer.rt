@@ -24,7 +24,7 @@ fn numbers_size(s: &[u32]) -> usize
     requires { ⌜ length (now s) ≤ 16384 ⌝ }
     ensures { λ r. ⌜ (r ≡ size (now (s .entry))) × (r ≤ 81920) ⌝ }
 {
-    packed::numbers_size(s)
+    packed_lists::numbers_size(s)
 }
 
 // The number that stands for the delay at an index.
@@ -32,7 +32,7 @@ fn delay_number(s: &[i32], k: usize) -> u32
     requires { ⌜ k < length (now s) ⌝ }
     ensures { λ r. ⌜ r ≡ packedDelay (getD (now (s .entry)) k (pos 0)) ⌝ }
 {
-    packed::pack_delay(s[k])
+    packed_delays::pack_delay(s[k])
 }
 
 fn delays_size(s: &[i32]) -> usize

@@ -24,8 +24,8 @@ use Rattle.timing.specs.Calls.{graphSlices, graphOf, writing, roomAfterWriting,
 use Rattle.theorems.proofs.Lists.{and-left, and-right, holds, length-edges}
 use Rattle.timing.proofs.Verdicts.{then-passed, unless-passed}
 use Rattle.timing.specs.Numbers.{packed, writeAnswer, writtenRoom}
-use Rattle.packed.proofs.Sizes.{size-append, size-cons, size-none}
-use Rattle.packed.proofs.Rooms.{sets-append, written-sets, answer-fits}
+use Rattle.packed_lists.proofs.Sizes.{size-append, size-cons, size-none}
+use Rattle.packed_lists.proofs.Rooms.{sets-append, written-sets, answer-fits}
 use Rattle.graph_writer.specs.Writing.{wroteNext, roomNext, wroteAll, roomAll, Wrote, rowsOf}
 
 -- a writer leaves a room of the same length

@@ -39,9 +39,9 @@ pub(crate) fn graph_size(nodes: &[u32], gs: &[u32], ge: &[u32], gn: &[u32]) -> u
     requires { ⌜ (length (now nodes) ≤ 16384) × (length (now gs) ≤ 65536) × (length (now ge) ≡ length (now gs)) × (length (now gn) ≡ length (now gs)) ⌝ }
     ensures { λ r. ⌜ r ≡ length (packedGraph (graphOf (graphSlices (now (nodes .entry)) (now (gs .entry)) (now (ge .entry)) (now (gn .entry))))) ⌝ }
 {
-    let copies = packed::number_size(nodes.len() as u32) + packed::numbers_size(nodes);
-    let starts = packed::number_size(gs.len() as u32) + packed::numbers_size(gs);
-    copies + starts + packed::numbers_size(ge) + packed::numbers_size(gn)
+    let copies = packed::number_size(nodes.len() as u32) + packed_lists::numbers_size(nodes);
+    let starts = packed::number_size(gs.len() as u32) + packed_lists::numbers_size(gs);
+    copies + starts + packed_lists::numbers_size(ge) + packed_lists::numbers_size(gn)
 }
 
 // One number more behind what was written.

@@ -1,6 +1,2 @@
--- The laws of the packed form.
+-- The laws of one packed number.
 pub mod Numbers
-pub mod Delays
-pub mod Sizes
-pub mod Looking
-pub mod Rooms

@@ -1,17 +1,10 @@
-// Numbers and delays to bytes and back; and numbers one after the other.
+// One number to bytes and back.
 ghost use mathlib.Core.Path.{_≡_};
 ghost use Prim.Native.Nat.{ℕ, _+_, _≤_};
 ghost use lib.ListN.{length, take, drop};
-ghost use mathlib.Core.List.{flatMap};
-ghost use lib.IntN.{ℤ};
 ghost use Rattle.timing.specs.Numbers.{packed, groupsIn, readNumber, writeAnswer, writtenRoom};
-ghost use Rattle.timing.specs.Delays.{packedDelay, delayOf};
-ghost use Rattle.timing.specs.Parsing.{number, repeated, row};
-ghost use Rattle.timing.specs.Looks.{looked, valueAt, nextAt};
 use timing::Groups;
-use timing::Looked;
 use timing::NumberRead;
-use timing::Taken;
 use timing::Written;
 
 // The number at a place, with at most `g` groups after its first. The highest group comes back
@@ -44,8 +37,7 @@ fn groups(s: &[u8], at: usize, g: usize) -> Groups
                 size: size + 1,
             }
         }
-        Groups::Ended => Groups::Ended,
-        Groups::Unfit => Groups::Unfit,
+        _ => higher,
     }
 }
 
@@ -110,28 +102,6 @@ pub fn write_number(room: &mut [u8], at: usize, x: u32) -> Written
     Written::End(at + n)
 }
 
-// A delay as the number that stands for it.
-pub fn pack_delay(d: i32) -> u32
-    ensures { λ r. ⌜ r ≡ packedDelay d ⌝ }
-{
-    if d < 0 {
-        let m = -(d + 1);
-        let n = m as u32;
-        2 * n + 1
-    } else {
-        let n = d as u32;
-        2 * n
-    }
-}
-
-// The delay that a number stands for.
-pub fn unpack_delay(x: u32) -> i32
-    ensures { λ r. ⌜ r ≡ delayOf x ⌝ }
-{
-    let h = (x / 2) as i32;
-    if x % 2 == 0 { h } else { -h - 1 }
-}
-
 // How many bytes a number takes.
 pub fn number_size(x: u32) -> usize
     ensures { λ r. ⌜ r ≡ length (packed x) ⌝ }
@@ -146,57 +116,4 @@ pub fn number_size(x: u32) -> usize
         return 3;
     }
     if x < 268435456 { 4 } else { 5 }
-}
-
-// How many bytes the numbers of a slice take.
-pub fn numbers_size(s: &[u32]) -> usize
-    ensures { λ r. ⌜ r ≡ length (flatMap packed (now (s .entry))) ⌝ }
-{
-    let mut total: usize = 0;
-    let mut i = 0;
-    while i < s.len() {
-        total += number_size(s[i]);
-        i += 1;
-    }
-    total
-}
-
-// k numbers, one after the other.
-pub fn look_numbers(s: &[u8], at: usize, k: usize) -> Looked
-    ensures { λ r. ⌜ r ≡ looked (repeated k (number (now (s .entry))) at) ⌝ }
-{
-    let mut here = at;
-    let mut n = 0;
-    while n < k {
-        let r = read_number(s, here);
-        match r {
-            NumberRead::Value { value: _, next } => {
-                here = next;
-                n += 1;
-            }
-            NumberRead::Refused(e) => {
-                return Looked::Refused(e);
-            }
-        }
-    }
-    Looked::At(here)
-}
-
-// m times three numbers.
-pub fn look_rows(s: &[u8], at: usize, m: u32) -> Looked
-    ensures { λ r. ⌜ r ≡ looked (repeated m (row (now (s .entry))) at) ⌝ }
-{
-    let rows = m as usize;
-    look_numbers(s, at, 3 * rows)
-}
-
-// The number at a place, where a look has passed over it.
-pub fn take_number(s: &[u8], at: usize) -> Taken
-    ensures { λ r. ⌜ (r .value ≡ valueAt (now (s .entry)) at) × (r .next ≡ nextAt (now (s .entry)) at) ⌝ }
-{
-    let r = read_number(s, at);
-    match r {
-        NumberRead::Value { value, next } => Taken { value, next },
-        NumberRead::Refused(_) => Taken { value: 0, next: at },
-    }
 }

@@ -71,13 +71,13 @@ fn read_case(s: &[u8], place: usize) {
 }
 
 fn delay_case(x: u32) {
-    let d = packed::unpack_delay(x);
+    let d = packed_delays::unpack_delay(x);
     text(b"delay ");
     number(x as u64);
     text(b": ");
     print::delay(d);
     text(b" packed ");
-    number(packed::pack_delay(d) as u64);
+    number(packed_delays::pack_delay(d) as u64);
 }
 
 fn case(s: &[u8]) {

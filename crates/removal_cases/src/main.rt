@@ -5,7 +5,7 @@ mod remove;
 mod tables;
 
 use libc::STDIN_FILENO;
-use packed::take_number;
+use packed_lists::take_number;
 use remove::lend;
 use tables::Design;
 use tables::Held;

@@ -7,7 +7,7 @@ use cases::Slice;
 use cases::fill;
 use cases::least;
 use cases::unpack;
-use packed::take_number;
+use packed_lists::take_number;
 use timing::GraphMade;
 
 pub const WORDS: usize = 81080;

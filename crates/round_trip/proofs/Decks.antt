@@ -25,7 +25,7 @@ use Rattle.timing.specs.declared.Verdict.the-variants.{Refused as NotPassed}
 use Rattle.timing.specs.Tests.{sameSizes}
 use Rattle.timing.specs.Calls.{made, parsed, guarded, deckRead}
 use Rattle.packed.proofs.Numbers.{cap-32, Bytes, bytes-drop, read-packed, Back, packed-read}
-use Rattle.packed.proofs.Delays.{delay-packed, packed-delay}
+use Rattle.packed_delays.proofs.Delays.{delay-packed, packed-delay}
 use Rattle.deck_writer.specs.Writing.{Fit, bytesOf}
 use Rattle.deck_writer.proofs.Writing.{bytes-append, bytes-one, deck-parts, packed-deck}
 use Rattle.deck_reader.proofs.Reading.{Is, is-onward, TestIs, is-tested}

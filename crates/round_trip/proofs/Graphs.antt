@@ -13,7 +13,7 @@ use Rattle.timing.specs.GraphBytes.{graphNumbers, packedGraph, readGraph}
 use Rattle.timing.specs.Parsing.{found, number, repeated, Row, row, ended}
 use Rattle.timing.specs.Calls.{made, parsed}
 use Rattle.packed.proofs.Numbers.{cap-32, read-packed}
-use Rattle.packed.proofs.Sizes.{bytes-append, size-cons}
+use Rattle.packed_lists.proofs.Sizes.{bytes-append, size-cons}
 use Rattle.graph_reader.proofs.Looking.{edgeOfRow}
 
 -- numbers of document 01

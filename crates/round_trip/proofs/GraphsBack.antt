@@ -20,7 +20,7 @@ use Rattle.timing.specs.GraphBytes.{graphNumbers, packedGraph, readGraph}
 use Rattle.timing.specs.Refusals.{refusal, unless, _then_}
 use Rattle.timing.specs.Parsing.{Parsed, found, stopped, Reader, onward, _>>=_, _>>_, return, tested, parsedNumber, number, repeated, Row, row, ended}
 use Rattle.packed.proofs.Numbers.{Bytes, bytes-drop, Back, packed-read}
-use Rattle.packed.proofs.Sizes.{bytes-append}
+use Rattle.packed_lists.proofs.Sizes.{bytes-append}
 use Rattle.graph_reader.proofs.Looking.{edgeOfRow, edgesReader, repeated-length}
 use Rattle.round_trip.proofs.Graphs.{rowNumbers}
 

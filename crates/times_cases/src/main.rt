@@ -10,7 +10,7 @@ use cases::Slice;
 use cases::least;
 use cases::unpack;
 use libc::STDIN_FILENO;
-use packed::take_number;
+use packed_lists::take_number;
 use print::refused;
 use print::text;
 use timing::NodeAnswer;

@@ -4,7 +4,7 @@
 use cases::fill;
 use cases::unpack;
 use libc::STDIN_FILENO;
-use packed::take_number;
+use packed_lists::take_number;
 use print::refused;
 use print::text;
 use timing::Verdict;

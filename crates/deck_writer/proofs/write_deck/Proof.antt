@@ -5,7 +5,7 @@ use Rattle.timing.specs.Decks.{Deck}
 use Rattle.timing.specs.Calls.{deckWriteTests}
 use Rattle.deck_writer.specs.Writing.{deckOf}
 use Rattle.deck_writer.proofs.Tests.{fit-of, tests-untimed}
-use Rattle.packed.proofs.Rooms.{write-refused, write-long}
+use Rattle.packed_lists.proofs.Rooms.{write-refused, write-long}
 use Rattle.deck_writer.proofs.Writing.{write-done}
 use borrow.Author.Needs.{needs}
 use Rattle.deck_writer.proofs.write_deck.Statement.{statement}

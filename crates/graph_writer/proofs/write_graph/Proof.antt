@@ -6,7 +6,7 @@ use borrow.Author.Needs.{needs}
 use Rattle.timing.specs.declared.Verdict.the-variants.{Passed}
 use Rattle.timing.specs.Calls.{GraphSlices, graphSlices, graphOf, graphWriteTests}
 use Rattle.graph_writer.proofs.Writing.{Fits, tests-are, tests-fit, write-done}
-use Rattle.packed.proofs.Rooms.{write-refused, write-long}
+use Rattle.packed_lists.proofs.Rooms.{write-refused, write-long}
 use Rattle.graph_writer.proofs.write_graph.Statement.{statement}
 use Rattle.graph_writer.proofs.write_graph.Tie as tie
 

@@ -1,10 +1,16 @@
 use Prim.Native.Nat.{suc, _+_, _-_, _*_, _≤_}
 use native.Mathlib.Omega.{arith}
-use mathlib.Core.Path.{_≡_, sym, _∙_}
+use mathlib.Core.Path.{_≡_, refl, sym, _∙_}
+use mathlib.Core.Logic.{inl, inr}
+use mathlib.Core.List.{[], _∷_}
 use lib.ListN.{getD, drop}
 use borrow.Author.Needs.{needs}
 use borrow.Author.Tests.{lt-ltb, le-ltb, le-leb, lt-leb, eq-eqb, ne-eqb}
-use Rattle.timing.specs.declared.Groups.the-variants.{Number}
+use denote.Enum.Declared.{tagOf}
+use types.Run.{OneOf}
+use Rattle.timing.proofs.Groups.{the-type as Groups-type}
+use Rattle.timing.specs.declared.Groups.{Groups}
+use Rattle.timing.specs.declared.Groups.the-variants.{Number, Ended, Unfit}
 use Rattle.timing.specs.Numbers.{followed, groupsIn}
 use Rattle.packed.proofs.Numbers.{cap, Below, number-below, bytes-drop, cap-le, number-end, number-last, number-step}
 use Prim.Native.Nat.{ℕ, _<_}
@@ -53,6 +59,13 @@ range-of t c v n q =
     let h : Below (cap 15 (a .g - 1)) (a .g - 1) (Number v n) = rw q at (small-of t c) in
     let l : cap 15 (suc (a .g - 1)) ≤ 4294967296 = cap-le (suc (a .g - 1)) (omega arith) in
     (omega (arith, h .0), omega (arith, h .1))
+
+-- what is no number stays what it is
+kept : (b : ℕ) (r : Groups) → OneOf (1 ∷ 2 ∷ []) (tagOf Groups-type r) → r ≡ followed b r
+kept b (Number v n) (inl e) = absurd (omega arith)
+kept b (Number v n) (inr e) = absurd (omega arith)
+kept b Ended h = refl
+kept b Unfit h = refl
 
 groups-returns :
     (t : ℕ) → groups-lts.Need-returns (groups-below t, groups.Post) (groups-at t) groups.Post
@@ -132,25 +145,15 @@ groups-add-t19 t c =
     let e = g .before .before .before .before in
     omega (arith, range-of t g (c .before .before .higher .given .0 .0) (c .before .before .higher .given .0 .1 .0) (c .before .before .higher .given .1), e .before .shared-slice-known .given (e .before .before .args .at))
 
-groups-enum-told :
-    (t : ℕ) → groups-lts.Need-enum-told (groups-below t, groups.Post) (groups-at t) groups.Post
-groups-enum-told t c = search needs
-
-groups-enum-told-2 :
-    (t : ℕ) → groups-lts.Need-enum-told-2 (groups-below t, groups.Post) (groups-at t) groups.Post
-groups-enum-told-2 t c = search needs
-
 groups-returns-6 :
     (t : ℕ) → groups-lts.Need-returns-6 (groups-below t, groups.Post) (groups-at t) groups.Post
 groups-returns-6 t c = let g = c .before .before .before .before in rw (step-of t g, c .before .before .higher .given .1, ne-eqb _ _ (c .if5 .left))
 
 groups-returns-7 :
     (t : ℕ) → groups-lts.Need-returns-7 (groups-below t, groups.Post) (groups-at t) groups.Post
-groups-returns-7 t c = let g = c .before .before in rw (step-of t g, c .enum-told .given .1)
-
-groups-returns-8 :
-    (t : ℕ) → groups-lts.Need-returns-8 (groups-below t, groups.Post) (groups-at t) groups.Post
-groups-returns-8 t c = let g = c .before .before in rw (step-of t g, c .enum-told2 .given .1)
+groups-returns-7 t c =
+    let g = c .before in
+    kept (getD (g .before .before .before .before .before .before .args .s .now) (g .before .before .before .before .before .before .args .at) 0) (g .groups .result) (c .match .keys2) ∙ sym (step-of t g)
 
 pub +groups-spec : {M : Type 1} → statement M
 +groups-spec =
@@ -174,8 +177,5 @@ pub +groups-spec : {M : Type 1} → statement M
     (groups-mul-t17 t)
     (groups-add-t18 t)
     (groups-add-t19 t)
-    (groups-enum-told t)
-    (groups-enum-told-2 t)
     (groups-returns-6 t)
     (groups-returns-7 t)
-    (groups-returns-8 t)

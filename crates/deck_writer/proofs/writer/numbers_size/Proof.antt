@@ -1,6 +1,6 @@
 -- Each number takes at most five bytes.
 use native.Mathlib.Omega.{arith}
-use Rattle.packed.proofs.Sizes.{size-most}
+use Rattle.packed_lists.proofs.Sizes.{size-most}
 use Rattle.deck_writer.specs.Writing.{bytesOf}
 use borrow.Author.Needs.{needs}
 use Rattle.deck_writer.proofs.writer.numbers_size.Statement.{statement}

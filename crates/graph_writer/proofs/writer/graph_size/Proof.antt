@@ -4,7 +4,7 @@ use native.Mathlib.Omega.{arith}
 use mathlib.Core.Path.{_∙_}
 use lib.ListN.{length}
 use Rattle.packed.proofs.Numbers.{packed-size}
-use Rattle.packed.proofs.Sizes.{size-most}
+use Rattle.packed_lists.proofs.Sizes.{size-most}
 use Rattle.graph_writer.proofs.Writing.{size-graph}
 use borrow.Author.Needs.{needs}
 use Rattle.graph_writer.proofs.writer.graph_size.Statement.{statement}

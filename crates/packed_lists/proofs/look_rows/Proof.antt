@@ -1,9 +1,9 @@
 -- A row is three numbers.
 use mathlib.Core.Path.{_∙_}
-use Rattle.packed.proofs.Looking.{rows-numbers}
+use Rattle.packed_lists.proofs.Looking.{rows-numbers}
 use borrow.Author.Needs.{needs}
-use Rattle.packed.proofs.look_rows.Statement.{statement}
-use Rattle.packed.proofs.look_rows.Tie as tie
+use Rattle.packed_lists.proofs.look_rows.Statement.{statement}
+use Rattle.packed_lists.proofs.look_rows.Tie as tie
 
 mul-look-numbers : tie.Need-mul-look-numbers
 mul-look-numbers c = search needs

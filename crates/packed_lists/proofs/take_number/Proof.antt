@@ -2,8 +2,8 @@
 use mathlib.Core.Path.{refl, sym, _∙_}
 use Rattle.timing.specs.Looks.{valueAt, nextAt}
 use borrow.Author.Needs.{needs}
-use Rattle.packed.proofs.take_number.Statement.{statement}
-use Rattle.packed.proofs.take_number.Tie as tie
+use Rattle.packed_lists.proofs.take_number.Statement.{statement}
+use Rattle.packed_lists.proofs.take_number.Tie as tie
 
 read-number-requires : tie.Need-read-number-requires
 read-number-requires c κs = search needs

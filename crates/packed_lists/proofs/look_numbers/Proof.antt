@@ -5,9 +5,9 @@ use mathlib.Core.Path.{_≡_, sym, _∙_}
 use borrow.Author.Needs.{needs}
 use Rattle.timing.specs.Parsing.{number, repeated}
 use Rattle.timing.specs.Looks.{looked}
-use Rattle.packed.proofs.Looking.{numbers-turn, numbers-stop, numbers-all, numbers-end}
-use Rattle.packed.proofs.look_numbers.Statement.{statement}
-use Rattle.packed.proofs.look_numbers.Tie as tie
+use Rattle.packed_lists.proofs.Looking.{numbers-turn, numbers-stop, numbers-all, numbers-end}
+use Rattle.packed_lists.proofs.look_numbers.Statement.{statement}
+use Rattle.packed_lists.proofs.look_numbers.Tie as tie
 
 abbrev Inv-loop : tie.InvT-loop
 Inv-loop s at k here₀ n₀ here n = (n ≤ k) × (looked (repeated (k - n) (number s) here) ≡ looked (repeated k (number s) at))

@@ -3,8 +3,8 @@ use native.Mathlib.Omega.{arith}
 use mir.Syntax.{w32}
 use mir.Facts.{toZ-ofZ}
 use Rattle.timing.proofs.Ints.{Negative, negative, Positive, positive, minus-next, next-fits, minus-next-fits}
-use Rattle.packed.proofs.pack_delay.Statement.{statement}
-use Rattle.packed.proofs.pack_delay.Tie as tie
+use Rattle.packed_delays.proofs.pack_delay.Statement.{statement}
+use Rattle.packed_delays.proofs.pack_delay.Tie as tie
 
 below : (c : tie.Then1) → Negative w32 (c .before .args .d)
 below c = negative w32 (c .before .args .d) (c .before .fits .d) (c .if1 .taken)

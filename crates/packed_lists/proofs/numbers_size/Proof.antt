@@ -6,10 +6,10 @@ use mathlib.Core.List.{flatMap}
 use lib.ListN.{length, getD, drop}
 use borrow.Author.Needs.{needs}
 use Rattle.timing.specs.Numbers.{packed}
 use Rattle.packed.proofs.Numbers.{packed-size}
-use Rattle.packed.proofs.Sizes.{size-drop, size-done}
-use Rattle.packed.proofs.numbers_size.Statement.{statement}
-use Rattle.packed.proofs.numbers_size.Tie as tie
+use Rattle.packed_lists.proofs.Sizes.{size-drop, size-done}
+use Rattle.packed_lists.proofs.numbers_size.Statement.{statement}
+use Rattle.packed_lists.proofs.numbers_size.Tie as tie
 
 abbrev Inv-loop : tie.InvT-loop
 Inv-loop s total₀ i₀ total i = (i ≤ length s) × (total ≤ 5 * i) × (total + length (flatMap packed (drop i s)) ≡ length (flatMap packed s))

@@ -9,8 +9,8 @@ use mir.Val.{SFits, toZ}
 use mir.Facts.{toZ-ofZ, toZ-pos}
 use Rattle.timing.proofs.Ints.{sub-parts, eq-parts, neg-nat}
 use borrow.Author.Needs.{needs}
-use Rattle.packed.proofs.unpack_delay.Statement.{statement}
-use Rattle.packed.proofs.unpack_delay.Tie as tie
+use Rattle.packed_delays.proofs.unpack_delay.Statement.{statement}
+use Rattle.packed_delays.proofs.unpack_delay.Tie as tie
 
 half : (x : ℕ) → x < 4294967296 → toZ w32 (x / 2) ≡ pos (x / 2)
 half x l = toZ-pos w32 (omega arith)

@@ -1,0 +1,2 @@
+-- The laws of packed delays.
+pub mod Delays

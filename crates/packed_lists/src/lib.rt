@@ -1,0 +1,66 @@
+// Packed numbers one after the other: how many bytes they take, and how far a reader gets.
+ghost use mathlib.Core.Path.{_≡_};
+ghost use Prim.Native.Nat.{ℕ};
+ghost use lib.ListN.{length};
+ghost use mathlib.Core.List.{flatMap};
+ghost use Rattle.timing.specs.Numbers.{packed};
+ghost use Rattle.timing.specs.Parsing.{number, repeated, row};
+ghost use Rattle.timing.specs.Looks.{looked, valueAt, nextAt};
+use packed::number_size;
+use packed::read_number;
+use timing::Looked;
+use timing::NumberRead;
+use timing::Taken;
+
+// How many bytes the numbers of a slice take.
+pub fn numbers_size(s: &[u32]) -> usize
+    ensures { λ r. ⌜ r ≡ length (flatMap packed (now (s .entry))) ⌝ }
+{
+    let mut total: usize = 0;
+    let mut i = 0;
+    while i < s.len() {
+        total += number_size(s[i]);
+        i += 1;
+    }
+    total
+}
+
+// k numbers, one after the other.
+pub fn look_numbers(s: &[u8], at: usize, k: usize) -> Looked
+    ensures { λ r. ⌜ r ≡ looked (repeated k (number (now (s .entry))) at) ⌝ }
+{
+    let mut here = at;
+    let mut n = 0;
+    while n < k {
+        let r = read_number(s, here);
+        match r {
+            NumberRead::Value { value: _, next } => {
+                here = next;
+                n += 1;
+            }
+            NumberRead::Refused(e) => {
+                return Looked::Refused(e);
+            }
+        }
+    }
+    Looked::At(here)
+}
+
+// m times three numbers.
+pub fn look_rows(s: &[u8], at: usize, m: u32) -> Looked
+    ensures { λ r. ⌜ r ≡ looked (repeated m (row (now (s .entry))) at) ⌝ }
+{
+    let rows = m as usize;
+    look_numbers(s, at, 3 * rows)
+}
+
+// The number at a place, where a look has passed over it.
+pub fn take_number(s: &[u8], at: usize) -> Taken
+    ensures { λ r. ⌜ (r .value ≡ valueAt (now (s .entry)) at) × (r .next ≡ nextAt (now (s .entry)) at) ⌝ }
+{
+    let r = read_number(s, at);
+    match r {
+        NumberRead::Value { value, next } => Taken { value, next },
+        NumberRead::Refused(_) => Taken { value: 0, next: at },
+    }
+}
