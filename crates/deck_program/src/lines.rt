@@ -1,4 +1,5 @@
 // The lines of the deck program.
+use crate::text::Text;
 use crate::text::end_line;
 use crate::text::put_number;
 use crate::text::put_text;
@@ -7,23 +8,23 @@ use timing::Refusal;
 use timing::number_at;
 
 // A word and a number.
-fn put_named(buf: &mut [u8], at: usize, word: &[u8], n: u64) -> usize {
+fn put_named(buf: &mut Text, at: usize, word: &[u8], n: u64) -> usize {
     let next = put_text(buf, at, word);
     put_number(buf, next, n)
 }
 
-fn put_two(buf: &mut [u8], at: usize, word: &[u8], n: u64, other: &[u8], m: u64) -> usize {
+fn put_two(buf: &mut Text, at: usize, word: &[u8], n: u64, other: &[u8], m: u64) -> usize {
     let next = put_named(buf, at, word, n);
     put_named(buf, next, other, m)
 }
 
 // A line of two words, each with a number.
-fn put_pair(buf: &mut [u8], at: usize, word: &[u8], n: u64, other: &[u8], m: u64) -> usize {
+fn put_pair(buf: &mut Text, at: usize, word: &[u8], n: u64, other: &[u8], m: u64) -> usize {
     let next = put_two(buf, at, word, n, other, m);
     end_line(buf, next)
 }
 
-pub(crate) fn put_refused(buf: &mut [u8], at: usize, r: Refusal) -> usize {
+pub(crate) fn put_refused(buf: &mut Text, at: usize, r: Refusal) -> usize {
     put_pair(
         buf,
         at,
@@ -34,19 +35,19 @@ pub(crate) fn put_refused(buf: &mut [u8], at: usize, r: Refusal) -> usize {
     )
 }
 
-fn put_counts(buf: &mut [u8], at: usize, copies: usize, edges: usize) -> usize {
+fn put_counts(buf: &mut Text, at: usize, copies: usize, edges: usize) -> usize {
     put_pair(buf, at, b"copies ", copies as u64, b" edges ", edges as u64)
 }
 
 // A word and a time.
-fn put_named_time(buf: &mut [u8], at: usize, word: &[u8], t: i64) -> usize {
+fn put_named_time(buf: &mut Text, at: usize, word: &[u8], t: i64) -> usize {
     let next = put_text(buf, at, word);
     put_time(buf, next, t)
 }
 
 // The end of a line: two times, each behind a word, and then a third.
 fn put_times(
-    buf: &mut [u8],
+    buf: &mut Text,
     at: usize,
     before_a: &[u8],
     a: i64,
@@ -61,7 +62,7 @@ fn put_times(
     end_line(buf, z)
 }
 
-fn put_copy(buf: &mut [u8], at: usize, copy: usize, node: u32, a: i64, r: i64, s: i64) -> usize {
+fn put_copy(buf: &mut Text, at: usize, copy: usize, node: u32, a: i64, r: i64, s: i64) -> usize {
     let next = put_two(buf, at, b"copy ", copy as u64, b" node ", node as u64);
     put_times(buf, next, b" arrival ", a, b" required ", r, b" slack ", s)
 }
@@ -71,7 +72,7 @@ fn time_at(s: &[i64], i: usize) -> i64 {
 }
 
 fn put_copies(
-    buf: &mut [u8],
+    buf: &mut Text,
     at: usize,
     nodes: &[u32],
     arrivals: &[i64],
@@ -95,13 +96,13 @@ fn put_copies(
     next
 }
 
-fn put_edge(buf: &mut [u8], at: usize, from: u32, to: u32, via: u32) -> usize {
+fn put_edge(buf: &mut Text, at: usize, from: u32, to: u32, via: u32) -> usize {
     let next = put_two(buf, at, b"edge ", from as u64, b" ", to as u64);
     let next = put_named(buf, next, b" ", via as u64);
     end_line(buf, next)
 }
 
-fn put_edges(buf: &mut [u8], at: usize, from: &[u32], to: &[u32], via: &[u32]) -> usize {
+fn put_edges(buf: &mut Text, at: usize, from: &[u32], to: &[u32], via: &[u32]) -> usize {
     let mut next = at;
     let mut k = 0;
     while k < from.len() {
@@ -119,7 +120,7 @@ fn put_edges(buf: &mut [u8], at: usize, from: &[u32], to: &[u32], via: &[u32]) -
 
 // The counts, and all copies and edges.
 pub(crate) fn put_graph(
-    buf: &mut [u8],
+    buf: &mut Text,
     nodes: &[u32],
     arrivals: &[i64],
     requireds: &[i64],
@@ -133,7 +134,7 @@ pub(crate) fn put_graph(
     put_edges(buf, b, from, to, via)
 }
 
-fn put_node(buf: &mut [u8], at: usize, node: usize, known: u32, a: i64, r: i64, s: i64) -> usize {
+fn put_node(buf: &mut Text, at: usize, node: usize, known: u32, a: i64, r: i64, s: i64) -> usize {
     let next = put_named(buf, at, b"node ", node as u64);
     if known == 0 {
         let next = put_text(buf, next, b" none");
@@ -143,7 +144,7 @@ fn put_node(buf: &mut [u8], at: usize, node: usize, known: u32, a: i64, r: i64, 
 }
 
 pub(crate) fn put_nodes(
-    buf: &mut [u8],
+    buf: &mut Text,
     at: usize,
     known: &[u32],
     na: &[i64],

@@ -8,6 +8,7 @@ use libc::STDIN_FILENO;
 use lines::put_graph;
 use lines::put_nodes;
 use lines::put_refused;
+use text::Text;
 use text::flush;
 use timing::DeckRead;
 use timing::GraphMade;
@@ -31,7 +32,7 @@ fn front_delays<'a>(s: &'a [i32], count: usize) -> &'a [i32] {
 }
 
 fn put_records(
-    buf: &mut [u8],
+    buf: &mut Text,
     at: usize,
     v: Verdict,
     known: &[u32],
@@ -47,7 +48,7 @@ fn put_records(
 
 // The records of all nodes, in slices with one place for each.
 fn say_records(
-    buf: &mut [u8],
+    buf: &mut Text,
     at: usize,
     n: u32,
     nodes: &[u32],
@@ -64,7 +65,7 @@ fn say_records(
 }
 
 fn say_nodes(
-    buf: &mut [u8],
+    buf: &mut Text,
     at: usize,
     n: u32,
     nodes: &[u32],
@@ -94,7 +95,7 @@ fn say_nodes(
 
 // What was found of a graph: all of it with its times, or the refusal.
 fn say_found(
-    buf: &mut [u8],
+    buf: &mut Text,
     v: Verdict,
     n: u32,
     nodes: &[u32],
@@ -116,7 +117,7 @@ fn say_found(
 
 // The graph with all times, in slices with one place for each copy.
 fn say_times(
-    buf: &mut [u8],
+    buf: &mut Text,
     n: u32,
     starts: &[u32],
     ends: &[u32],
@@ -148,7 +149,7 @@ fn say_times(
 }
 
 fn say_graph(
-    buf: &mut [u8],
+    buf: &mut Text,
     n: u32,
     starts: &[u32],
     ends: &[u32],
@@ -181,7 +182,7 @@ fn say_graph(
 }
 
 fn say_made(
-    buf: &mut [u8],
+    buf: &mut Text,
     made: GraphMade,
     n: u32,
     starts: &[u32],
@@ -212,7 +213,7 @@ fn say_made(
 
 // Removes the listed paths, and says what is left.
 fn say_removal(
-    buf: &mut [u8],
+    buf: &mut Text,
     n: u32,
     starts: &[u32],
     ends: &[u32],
@@ -256,7 +257,7 @@ fn say_removal(
 
 // Tests a deck, and says its true graph or the refusal. 25 is tested before 31.
 fn say_deck(
-    buf: &mut [u8],
+    buf: &mut Text,
     n: u32,
     starts: &[u32],
     ends: &[u32],
@@ -273,7 +274,7 @@ fn say_deck(
 }
 
 fn say_read(
-    buf: &mut [u8],
+    buf: &mut Text,
     read: DeckRead,
     starts: &[u32],
     ends: &[u32],
@@ -303,7 +304,7 @@ fn say_read(
 }
 
 // Reads a deck into the tables, and says what is made of it.
-fn say(buf: &mut [u8], deck: &[u8]) -> usize {
+fn say(buf: &mut Text, deck: &[u8]) -> usize {
     let mut starts = [0; 1024];
     let mut ends = [0; 1024];
     let mut delays = [0; 1024];
@@ -327,7 +328,7 @@ fn more_bytes() -> bool {
 }
 
 // 4 is tested before all.
-fn run(buf: &mut [u8], deck: &[u8]) -> usize {
+fn run(buf: &mut Text, deck: &[u8]) -> usize {
     if deck.len() == MAX_DECK_BYTES {
         if more_bytes() {
             return put_refused(buf, 0, refuse(4, MAX_DECK_BYTES));
