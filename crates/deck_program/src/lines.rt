@@ -45,7 +45,7 @@ fn put_named_time(buf: &mut Text, at: usize, word: &[u8], t: i64) -> usize {
     put_time(buf, next, t)
 }
 
-// The end of a line: two times, each behind a word, and then a third.
+// Three times, each behind a word, and the end of the line.
 fn put_times(
     buf: &mut Text,
     at: usize,
