@@ -1,5 +1,8 @@
 // Decks: read into tables, and written to a room.
+use super::fronts::front;
+use super::fronts::front_delays;
 use super::say;
+use cases::Slice;
 use cases::fill;
 use cases::least;
 use cases::unpack;
@@ -54,9 +57,15 @@ fn say_deck(
     lengths: &[u32],
 ) {
     let mut codes = [0u32; 16400];
-    let len = least(delays.len(), 16400);
     pack(delays, &mut codes);
-    say_tables(c, starts, ends, &codes[..len], listed, lengths);
+    say_tables(
+        c,
+        starts,
+        ends,
+        front(&codes, delays.len()),
+        listed,
+        lengths,
+    );
 }
 
 fn say_number(x: u64) {
@@ -95,20 +104,6 @@ fn say_answer(answer: DeckRead) -> Counts {
             }
         }
     }
-}
-
-fn read(
-    s: &[u8],
-    starts: &mut [u32],
-    ends: &mut [u32],
-    delays: &mut [i32],
-    listed: &mut [u32],
-    lengths: &mut [u32],
-) -> DeckRead {
-    let r = deck_reader::read_deck(s, starts, ends, delays, listed, lengths);
-    let c = say_answer(r);
-    say_deck(c, starts, ends, delays, listed, lengths);
-    r
 }
 
 // Writes a deck, and prints the answer.
@@ -170,19 +165,14 @@ fn write_answer(
             paths,
             allowed,
         } => {
-            let a = least(edges, starts.len());
-            let b = least(edges, ends.len());
-            let c = least(edges, delays.len());
-            let d = least(count, listed.len());
-            let e = least(paths, lengths.len());
             write_again(
                 nodes,
                 allowed,
-                &starts[..a],
-                &ends[..b],
-                &delays[..c],
-                &listed[..d],
-                &lengths[..e],
+                front(starts, edges),
+                front(ends, edges),
+                front_delays(delays, edges),
+                front(listed, count),
+                front(lengths, paths),
                 size,
             );
         }
@@ -190,27 +180,45 @@ fn write_answer(
     }
 }
 
-// Reads, and writes what was read.
-fn read_and_write(
+// Prints what was read from so many bytes, and where it is asked for writes it again.
+fn say_read(
+    r: DeckRead,
+    again: bool,
+    size: usize,
+    starts: &[u32],
+    ends: &[u32],
+    delays: &[i32],
+    listed: &[u32],
+    lengths: &[u32],
+) {
+    let c = say_answer(r);
+    say_deck(c, starts, ends, delays, listed, lengths);
+    if again {
+        write_answer(r, starts, ends, delays, listed, lengths, size);
+    }
+}
+
+fn read(
     s: &[u8],
+    again: bool,
     starts: &mut [u32],
     ends: &mut [u32],
     delays: &mut [i32],
     listed: &mut [u32],
     lengths: &mut [u32],
 ) {
-    let r = read(s, starts, ends, delays, listed, lengths);
-    write_answer(r, starts, ends, delays, listed, lengths, s.len());
+    let r = deck_reader::read_deck(s, starts, ends, delays, listed, lengths);
+    say_read(r, again, s.len(), starts, ends, delays, listed, lengths);
 }
 
 // The lengths of the tables, how many bytes there are, and the place of the first.
 struct Sizes {
-    starts: u32,
-    ends: u32,
-    delays: u32,
-    listed: u32,
-    lengths: u32,
-    bytes: u32,
+    starts: usize,
+    ends: usize,
+    delays: usize,
+    listed: usize,
+    lengths: usize,
+    bytes: usize,
     next: usize,
 }
 
@@ -222,29 +230,31 @@ fn read_sizes(s: &[u8], at: usize) -> Sizes {
     let e = take_number(s, d.next);
     let f = take_number(s, e.next);
     Sizes {
-        starts: a.value,
-        ends: b.value,
-        delays: c.value,
-        listed: d.value,
-        lengths: e.value,
-        bytes: f.value,
+        starts: a.value as usize,
+        ends: b.value as usize,
+        delays: c.value as usize,
+        listed: d.value as usize,
+        lengths: e.value as usize,
+        bytes: f.value as usize,
         next: f.next,
     }
 }
 
-fn read_sized(s: &[u8], q: Sizes) {
+// Reads into tables of these lengths.
+fn read_sized(s: &[u8], again: bool, q: Sizes) {
     let mut starts = [say::WORD; 16400];
     let mut ends = [say::WORD; 16400];
     let mut delays = [say::DELAY; 16400];
     let mut listed = [say::WORD; 8200];
     let mut lengths = [say::WORD; 1040];
-    let a = least(q.starts as usize, 16400);
-    let b = least(q.ends as usize, 16400);
-    let c = least(q.delays as usize, 16400);
-    let d = least(q.listed as usize, 8200);
-    let e = least(q.lengths as usize, 1040);
-    read_and_write(
+    let a = least(q.starts, 16400);
+    let b = least(q.ends, 16400);
+    let c = least(q.delays, 16400);
+    let d = least(q.listed, 8200);
+    let e = least(q.lengths, 1040);
+    read(
         s,
+        again,
         &mut starts[..a],
         &mut ends[..b],
         &mut delays[..c],
@@ -256,30 +266,24 @@ fn read_sized(s: &[u8], q: Sizes) {
 pub(crate) fn read_case(s: &[u8], at: usize) -> usize {
     let q = read_sizes(s, at);
     let from = least(q.next, s.len());
-    let len = least(q.bytes as usize, s.len() - from);
+    let len = least(q.bytes, s.len() - from);
     let to = from + len;
-    read_sized(&s[from..to], q);
+    read_sized(&s[from..to], true, q);
     to
 }
 
 // Reads what was written, into tables as long as the deck.
 fn read_back(s: &[u8], edges: usize, count: usize, paths: usize) {
-    let mut starts = [say::WORD; 16400];
-    let mut ends = [say::WORD; 16400];
-    let mut delays = [say::DELAY; 16400];
-    let mut listed = [say::WORD; 8200];
-    let mut lengths = [say::WORD; 1040];
-    let m = least(edges, 16400);
-    let d = least(count, 8200);
-    let e = least(paths, 1040);
-    read(
-        s,
-        &mut starts[..m],
-        &mut ends[..m],
-        &mut delays[..m],
-        &mut listed[..d],
-        &mut lengths[..e],
-    );
+    let q = Sizes {
+        starts: edges,
+        ends: edges,
+        delays: edges,
+        listed: count,
+        lengths: paths,
+        bytes: s.len(),
+        next: 0,
+    };
+    read_sized(s, false, q);
 }
 
 fn write_and_read(
@@ -344,32 +348,33 @@ fn write_sized(
     );
 }
 
+// Delays from their packed numbers.
+fn fill_delays(s: &[u8], at: usize, delays: &mut [i32]) -> Slice {
+    let mut codes = [0u32; 16400];
+    let c = fill(s, at, &mut codes);
+    unpack(front(&codes, c.len), delays);
+    c
+}
+
 pub(crate) fn write_case(s: &[u8], at: usize) -> usize {
     let q = read_asked(s, at);
     let mut starts = [0u32; 16400];
     let mut ends = [0u32; 16400];
-    let mut codes = [0u32; 16400];
     let mut delays = [0i32; 16400];
     let mut listed = [0u32; 8200];
     let mut lengths = [0u32; 1040];
     let a = fill(s, q.next, &mut starts);
     let b = fill(s, a.next, &mut ends);
-    let c = fill(s, b.next, &mut codes);
+    let c = fill_delays(s, b.next, &mut delays);
     let d = fill(s, c.next, &mut listed);
     let e = fill(s, d.next, &mut lengths);
-    let starts_len = a.len;
-    let ends_len = b.len;
-    let delays_len = c.len;
-    let listed_len = d.len;
-    let lengths_len = e.len;
-    unpack(&codes[..delays_len], &mut delays);
     write_sized(
         q,
-        &starts[..starts_len],
-        &ends[..ends_len],
-        &delays[..delays_len],
-        &listed[..listed_len],
-        &lengths[..lengths_len],
+        front(&starts, a.len),
+        front(&ends, b.len),
+        front_delays(&delays, c.len),
+        front(&listed, d.len),
+        front(&lengths, e.len),
     );
     e.next
 }

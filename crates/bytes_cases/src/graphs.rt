@@ -1,4 +1,5 @@
 // Graphs: read into a room, and written to one.
+use super::fronts::front;
 use super::say;
 use cases::fill;
 use cases::least;
@@ -43,13 +44,6 @@ fn say_graph(c: Counts, nodes: &[u32], gs: &[u32], ge: &[u32], gn: &[u32]) {
     say::kept(k);
 }
 
-fn read(s: &[u8], nodes: &mut [u32], gs: &mut [u32], ge: &mut [u32], gn: &mut [u32]) -> GraphMade {
-    let r = graph_reader::read_graph(s, nodes, gs, ge, gn);
-    let c = say_answer(r);
-    say_graph(c, nodes, gs, ge, gn);
-    r
-}
-
 // Writes a graph, and prints the answer.
 fn write(nodes: &[u32], gs: &[u32], ge: &[u32], gn: &[u32], room: &mut [u8]) -> Written {
     let w = graph_writer::write_graph(nodes, gs, ge, gn, room);
@@ -68,29 +62,47 @@ fn write_again(nodes: &[u32], gs: &[u32], ge: &[u32], gn: &[u32], size: usize) {
 fn write_answer(r: GraphMade, nodes: &[u32], gs: &[u32], ge: &[u32], gn: &[u32], size: usize) {
     match r {
         GraphMade::Counts { copies, edges } => {
-            let a = least(copies, nodes.len());
-            let b = least(edges, gs.len());
-            let c = least(edges, ge.len());
-            let d = least(edges, gn.len());
-            write_again(&nodes[..a], &gs[..b], &ge[..c], &gn[..d], size);
+            write_again(
+                front(nodes, copies),
+                front(gs, edges),
+                front(ge, edges),
+                front(gn, edges),
+                size,
+            );
         }
         GraphMade::Refused(_) => {}
     }
 }
 
-// Reads, and writes what was read.
-fn read_and_write(s: &[u8], nodes: &mut [u32], gs: &mut [u32], ge: &mut [u32], gn: &mut [u32]) {
-    let r = read(s, nodes, gs, ge, gn);
-    write_answer(r, nodes, gs, ge, gn, s.len());
+// Prints what was read from so many bytes, and where it is asked for writes it again.
+fn say_read(
+    r: GraphMade,
+    again: bool,
+    size: usize,
+    nodes: &[u32],
+    gs: &[u32],
+    ge: &[u32],
+    gn: &[u32],
+) {
+    let c = say_answer(r);
+    say_graph(c, nodes, gs, ge, gn);
+    if again {
+        write_answer(r, nodes, gs, ge, gn, size);
+    }
+}
+
+fn read(s: &[u8], again: bool, nodes: &mut [u32], gs: &mut [u32], ge: &mut [u32], gn: &mut [u32]) {
+    let r = graph_reader::read_graph(s, nodes, gs, ge, gn);
+    say_read(r, again, s.len(), nodes, gs, ge, gn);
 }
 
 // The lengths of the room's slices, how many bytes there are, and the place of the first.
 struct Sizes {
-    nodes: u32,
-    gs: u32,
-    ge: u32,
-    gn: u32,
-    bytes: u32,
+    nodes: usize,
+    gs: usize,
+    ge: usize,
+    gn: usize,
+    bytes: usize,
     next: usize,
 }
 
@@ -101,45 +113,55 @@ fn read_sizes(s: &[u8], at: usize) -> Sizes {
     let d = take_number(s, c.next);
     let e = take_number(s, d.next);
     Sizes {
-        nodes: a.value,
-        gs: b.value,
-        ge: c.value,
-        gn: d.value,
-        bytes: e.value,
+        nodes: a.value as usize,
+        gs: b.value as usize,
+        ge: c.value as usize,
+        gn: d.value as usize,
+        bytes: e.value as usize,
         next: e.next,
     }
 }
 
-fn read_sized(s: &[u8], q: Sizes) {
+// Reads into a room of these lengths.
+fn read_sized(s: &[u8], again: bool, q: Sizes) {
     let mut nodes = [say::WORD; 16400];
     let mut gs = say::edge_table();
     let mut ge = say::edge_table();
     let mut gn = say::edge_table();
-    let a = least(q.nodes as usize, 16400);
-    let b = least(q.gs as usize, 65600);
-    let c = least(q.ge as usize, 65600);
-    let d = least(q.gn as usize, 65600);
-    read_and_write(s, &mut nodes[..a], &mut gs[..b], &mut ge[..c], &mut gn[..d]);
+    let a = least(q.nodes, 16400);
+    let b = least(q.gs, 65600);
+    let c = least(q.ge, 65600);
+    let d = least(q.gn, 65600);
+    read(
+        s,
+        again,
+        &mut nodes[..a],
+        &mut gs[..b],
+        &mut ge[..c],
+        &mut gn[..d],
+    );
 }
 
 pub(crate) fn read_case(s: &[u8], at: usize) -> usize {
     let q = read_sizes(s, at);
     let from = least(q.next, s.len());
-    let len = least(q.bytes as usize, s.len() - from);
+    let len = least(q.bytes, s.len() - from);
     let to = from + len;
-    read_sized(&s[from..to], q);
+    read_sized(&s[from..to], true, q);
     to
 }
 
 // Reads what was written, into a room as long as the graph.
 fn read_back(s: &[u8], copies: usize, edges: usize) {
-    let mut nodes = [say::WORD; 16400];
-    let mut gs = say::edge_table();
-    let mut ge = say::edge_table();
-    let mut gn = say::edge_table();
-    let a = least(copies, 16400);
-    let m = least(edges, 65600);
-    read(s, &mut nodes[..a], &mut gs[..m], &mut ge[..m], &mut gn[..m]);
+    let q = Sizes {
+        nodes: copies,
+        gs: edges,
+        ge: edges,
+        gn: edges,
+        bytes: s.len(),
+        next: 0,
+    };
+    read_sized(s, false, q);
 }
 
 fn write_and_read(nodes: &[u32], gs: &[u32], ge: &[u32], gn: &[u32], room: &mut [u8]) {
@@ -159,25 +181,6 @@ fn write_sized(size: u32, nodes: &[u32], gs: &[u32], ge: &[u32], gn: &[u32]) {
     write_and_read(nodes, gs, ge, gn, &mut room[..len]);
 }
 
-// The same, of the fronts of the slices.
-fn write_fronts(
-    size: u32,
-    nodes: &[u32],
-    copies: usize,
-    gs: &[u32],
-    starts: usize,
-    ge: &[u32],
-    ends: usize,
-    gn: &[u32],
-    names: usize,
-) {
-    let a = least(copies, nodes.len());
-    let b = least(starts, gs.len());
-    let c = least(ends, ge.len());
-    let d = least(names, gn.len());
-    write_sized(size, &nodes[..a], &gs[..b], &ge[..c], &gn[..d]);
-}
-
 // Writes the graph at a place to a room of a size, and answers the place behind the graph.
 fn write_at(s: &[u8], at: usize, size: u32) -> usize {
     let mut nodes = [0u32; 16400];
@@ -188,7 +191,13 @@ fn write_at(s: &[u8], at: usize, size: u32) -> usize {
     let b = fill(s, a.next, &mut gs);
     let c = fill(s, b.next, &mut ge);
     let d = fill(s, c.next, &mut gn);
-    write_fronts(size, &nodes, a.len, &gs, b.len, &ge, c.len, &gn, d.len);
+    write_sized(
+        size,
+        front(&nodes, a.len),
+        front(&gs, b.len),
+        front(&ge, c.len),
+        front(&gn, d.len),
+    );
     d.next
 }
 

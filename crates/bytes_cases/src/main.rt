@@ -11,6 +11,7 @@ use libc::STDIN_FILENO;
 use packed_lists::take_number;
 
 mod decks;
+mod fronts;
 mod graphs;
 mod say;
 

@@ -1,74 +1,108 @@
 // The lines of the deck program.
+use crate::text::Text;
 use crate::text::end_line;
 use crate::text::put_number;
 use crate::text::put_text;
 use crate::text::put_time;
-use cases::least;
 use timing::Refusal;
 use timing::number_at;
 
 // A word and a number.
-fn put_named(buf: &mut [u8], at: usize, word: &[u8], n: u64) -> usize {
+fn put_named(buf: &mut Text, at: usize, word: &[u8], n: u64) -> usize {
     let next = put_text(buf, at, word);
     put_number(buf, next, n)
 }
 
+fn put_two(buf: &mut Text, at: usize, word: &[u8], n: u64, other: &[u8], m: u64) -> usize {
+    let next = put_named(buf, at, word, n);
+    put_named(buf, next, other, m)
+}
+
+// A line of two words, each with a number.
+fn put_pair(buf: &mut Text, at: usize, word: &[u8], n: u64, other: &[u8], m: u64) -> usize {
+    let next = put_two(buf, at, word, n, other, m);
+    end_line(buf, next)
+}
+
+pub(crate) fn put_refused(buf: &mut Text, at: usize, r: Refusal) -> usize {
+    put_pair(
+        buf,
+        at,
+        b"refused ",
+        r.number as u64,
+        b" at ",
+        r.place as u64,
+    )
+}
+
+fn put_counts(buf: &mut Text, at: usize, copies: usize, edges: usize) -> usize {
+    put_pair(buf, at, b"copies ", copies as u64, b" edges ", edges as u64)
+}
+
 // A word and a time.
-fn put_named_time(buf: &mut [u8], at: usize, word: &[u8], t: i64) -> usize {
+fn put_named_time(buf: &mut Text, at: usize, word: &[u8], t: i64) -> usize {
     let next = put_text(buf, at, word);
     put_time(buf, next, t)
 }
 
-pub(crate) fn put_refused(buf: &mut [u8], at: usize, r: Refusal) -> usize {
-    let a = put_named(buf, at, b"refused ", r.number as u64);
-    let b = put_named(buf, a, b" at ", r.place as u64);
-    end_line(buf, b)
+// Three times, each behind a word, and the end of the line.
+fn put_times(
+    buf: &mut Text,
+    at: usize,
+    before_a: &[u8],
+    a: i64,
+    before_r: &[u8],
+    r: i64,
+    before_s: &[u8],
+    s: i64,
+) -> usize {
+    let x = put_named_time(buf, at, before_a, a);
+    let y = put_named_time(buf, x, before_r, r);
+    let z = put_named_time(buf, y, before_s, s);
+    end_line(buf, z)
 }
 
-pub(crate) fn put_counts(buf: &mut [u8], at: usize, copies: usize, edges: usize) -> usize {
-    let a = put_named(buf, at, b"copies ", copies as u64);
-    let b = put_named(buf, a, b" edges ", edges as u64);
-    end_line(buf, b)
+fn put_copy(buf: &mut Text, at: usize, copy: usize, node: u32, a: i64, r: i64, s: i64) -> usize {
+    let next = put_two(buf, at, b"copy ", copy as u64, b" node ", node as u64);
+    put_times(buf, next, b" arrival ", a, b" required ", r, b" slack ", s)
 }
 
-fn put_copy(buf: &mut [u8], at: usize, copy: usize, node: u32, a: i64, r: i64, s: i64) -> usize {
-    let x = put_named(buf, at, b"copy ", copy as u64);
-    let y = put_named(buf, x, b" node ", node as u64);
-    let z = put_named_time(buf, y, b" arrival ", a);
-    let u = put_named_time(buf, z, b" required ", r);
-    let v = put_named_time(buf, u, b" slack ", s);
-    end_line(buf, v)
+fn time_at(s: &[i64], i: usize) -> i64 {
+    if s.len() <= i { 0 } else { s[i] }
 }
 
-pub(crate) fn put_copies(
-    buf: &mut [u8],
+fn put_copies(
+    buf: &mut Text,
     at: usize,
     nodes: &[u32],
     arrivals: &[i64],
     requireds: &[i64],
     slacks: &[i64],
 ) -> usize {
-    let len = least(
-        least(nodes.len(), arrivals.len()),
-        least(requireds.len(), slacks.len()),
-    );
     let mut next = at;
     let mut c = 0;
-    while c < len {
-        next = put_copy(buf, next, c, nodes[c], arrivals[c], requireds[c], slacks[c]);
+    while c < nodes.len() {
+        next = put_copy(
+            buf,
+            next,
+            c,
+            number_at(nodes, c),
+            time_at(arrivals, c),
+            time_at(requireds, c),
+            time_at(slacks, c),
+        );
         c += 1;
     }
     next
 }
 
-fn put_edge(buf: &mut [u8], at: usize, from: u32, to: u32, via: u32) -> usize {
-    let x = put_named(buf, at, b"edge ", from as u64);
-    let y = put_named(buf, x, b" ", to as u64);
-    let z = put_named(buf, y, b" ", via as u64);
-    end_line(buf, z)
+fn put_edge(buf: &mut Text, at: usize, from: u32, to: u32, via: u32) -> usize {
+    let next = put_two(buf, at, b"edge ", from as u64, b" ", to as u64);
+    let next = put_named(buf, next, b" ", via as u64);
+    end_line(buf, next)
 }
 
-pub(crate) fn put_edges(buf: &mut [u8], at: usize, from: &[u32], to: &[u32], via: &[u32]) -> usize {
+fn put_edges(buf: &mut Text, at: usize, from: &[u32], to: &[u32], via: &[u32]) -> usize {
     let mut next = at;
     let mut k = 0;
     while k < from.len() {
@@ -84,31 +118,51 @@ pub(crate) fn put_edges(buf: &mut [u8], at: usize, from: &[u32], to: &[u32], via
     next
 }
 
-fn put_node(buf: &mut [u8], at: usize, node: usize, known: u32, a: i64, r: i64, s: i64) -> usize {
-    let x = put_named(buf, at, b"node ", node as u64);
+// The counts, and all copies and edges.
+pub(crate) fn put_graph(
+    buf: &mut Text,
+    nodes: &[u32],
+    arrivals: &[i64],
+    requireds: &[i64],
+    slacks: &[i64],
+    from: &[u32],
+    to: &[u32],
+    via: &[u32],
+) -> usize {
+    let a = put_counts(buf, 0, nodes.len(), from.len());
+    let b = put_copies(buf, a, nodes, arrivals, requireds, slacks);
+    put_edges(buf, b, from, to, via)
+}
+
+fn put_node(buf: &mut Text, at: usize, node: usize, known: u32, a: i64, r: i64, s: i64) -> usize {
+    let next = put_named(buf, at, b"node ", node as u64);
     if known == 0 {
-        let y = put_text(buf, x, b" none");
-        return end_line(buf, y);
+        let next = put_text(buf, next, b" none");
+        return end_line(buf, next);
     }
-    let y = put_named_time(buf, x, b" ", a);
-    let z = put_named_time(buf, y, b" ", r);
-    let u = put_named_time(buf, z, b" ", s);
-    end_line(buf, u)
+    put_times(buf, next, b" ", a, b" ", r, b" ", s)
 }
 
 pub(crate) fn put_nodes(
-    buf: &mut [u8],
+    buf: &mut Text,
     at: usize,
     known: &[u32],
     na: &[i64],
     nr: &[i64],
     ns: &[i64],
 ) -> usize {
-    let len = least(least(known.len(), na.len()), least(nr.len(), ns.len()));
     let mut next = at;
     let mut v = 0;
-    while v < len {
-        next = put_node(buf, next, v, known[v], na[v], nr[v], ns[v]);
+    while v < known.len() {
+        next = put_node(
+            buf,
+            next,
+            v,
+            number_at(known, v),
+            time_at(na, v),
+            time_at(nr, v),
+            time_at(ns, v),
+        );
         v += 1;
     }
     next

@@ -5,11 +5,10 @@ mod text;
 
 use cases::least;
 use libc::STDIN_FILENO;
-use lines::put_copies;
-use lines::put_counts;
-use lines::put_edges;
+use lines::put_graph;
 use lines::put_nodes;
 use lines::put_refused;
+use text::Text;
 use text::flush;
 use timing::DeckRead;
 use timing::GraphMade;
@@ -17,9 +16,39 @@ use timing::MAX_DECK_BYTES;
 use timing::Verdict;
 use timing::refuse;
 
+// The first numbers of a slice, as many as the count says.
+fn front<'a>(s: &'a [u32], count: usize) -> &'a [u32] {
+    if count <= s.len() {
+        return &s[..count];
+    }
+    s
+}
+
+fn front_delays<'a>(s: &'a [i32], count: usize) -> &'a [i32] {
+    if count <= s.len() {
+        return &s[..count];
+    }
+    s
+}
+
+fn put_records(
+    buf: &mut Text,
+    at: usize,
+    v: Verdict,
+    known: &[u32],
+    na: &[i64],
+    nr: &[i64],
+    ns: &[i64],
+) -> usize {
+    match v {
+        Verdict::Passed => put_nodes(buf, at, known, na, nr, ns),
+        Verdict::Refused(r) => put_refused(buf, at, r),
+    }
+}
+
 // The records of all nodes, in slices with one place for each.
 fn say_records(
-    buf: &mut [u8],
+    buf: &mut Text,
     at: usize,
     n: u32,
     nodes: &[u32],
@@ -32,14 +61,11 @@ fn say_records(
     ns: &mut [i64],
 ) -> usize {
     let v = times::node_records(n, nodes, arrivals, requireds, slacks, known, na, nr, ns);
-    match v {
-        Verdict::Passed => put_nodes(buf, at, known, na, nr, ns),
-        Verdict::Refused(r) => put_refused(buf, at, r),
-    }
+    put_records(buf, at, v, known, na, nr, ns)
 }
 
 fn say_nodes(
-    buf: &mut [u8],
+    buf: &mut Text,
     at: usize,
     n: u32,
     nodes: &[u32],
@@ -67,10 +93,31 @@ fn say_nodes(
     )
 }
 
+// What was found of a graph: all of it with its times, or the refusal.
+fn say_found(
+    buf: &mut Text,
+    v: Verdict,
+    n: u32,
+    nodes: &[u32],
+    from: &[u32],
+    to: &[u32],
+    via: &[u32],
+    arrivals: &[i64],
+    requireds: &[i64],
+    slacks: &[i64],
+) -> usize {
+    match v {
+        Verdict::Passed => {
+            let at = put_graph(buf, nodes, arrivals, requireds, slacks, from, to, via);
+            say_nodes(buf, at, n, nodes, arrivals, requireds, slacks)
+        }
+        Verdict::Refused(r) => put_refused(buf, 0, r),
+    }
+}
+
 // The graph with all times, in slices with one place for each copy.
 fn say_times(
-    buf: &mut [u8],
-    at: usize,
+    buf: &mut Text,
     n: u32,
     starts: &[u32],
     ends: &[u32],
@@ -98,20 +145,11 @@ fn say_times(
         requireds,
         slacks,
     );
-    match v {
-        Verdict::Passed => {
-            let a = put_counts(buf, at, nodes.len(), from.len());
-            let b = put_copies(buf, a, nodes, arrivals, requireds, slacks);
-            let c = put_edges(buf, b, from, to, via);
-            say_nodes(buf, c, n, nodes, arrivals, requireds, slacks)
-        }
-        Verdict::Refused(r) => put_refused(buf, at, r),
-    }
+    say_found(buf, v, n, nodes, from, to, via, arrivals, requireds, slacks)
 }
 
 fn say_graph(
-    buf: &mut [u8],
-    at: usize,
+    buf: &mut Text,
     n: u32,
     starts: &[u32],
     ends: &[u32],
@@ -128,7 +166,6 @@ fn say_graph(
     let count = least(nodes.len(), 512);
     say_times(
         buf,
-        at,
         n,
         starts,
         ends,
@@ -144,10 +181,39 @@ fn say_graph(
     )
 }
 
+fn say_made(
+    buf: &mut Text,
+    made: GraphMade,
+    n: u32,
+    starts: &[u32],
+    ends: &[u32],
+    delays: &[i32],
+    t: u32,
+    nodes: &[u32],
+    from: &[u32],
+    to: &[u32],
+    via: &[u32],
+) -> usize {
+    match made {
+        GraphMade::Refused(r) => put_refused(buf, 0, r),
+        GraphMade::Counts { copies, edges } => say_graph(
+            buf,
+            n,
+            starts,
+            ends,
+            delays,
+            t,
+            front(nodes, copies),
+            front(from, edges),
+            front(to, edges),
+            front(via, edges),
+        ),
+    }
+}
+
 // Removes the listed paths, and says what is left.
 fn say_removal(
-    buf: &mut [u8],
-    at: usize,
+    buf: &mut Text,
     n: u32,
     starts: &[u32],
     ends: &[u32],
@@ -155,12 +221,12 @@ fn say_removal(
     listed: &[u32],
     lengths: &[u32],
     t: u32,
-    nodes: &mut [u32],
-    from: &mut [u32],
-    to: &mut [u32],
-    via: &mut [u32],
-    scratch: &mut [u32],
 ) -> usize {
+    let mut nodes = [0; 512];
+    let mut from = [0; 2048];
+    let mut to = [0; 2048];
+    let mut via = [0; 2048];
+    let mut scratch = [0; 16384];
     let made = removal::remove_from_design(
         n,
         starts,
@@ -168,38 +234,30 @@ fn say_removal(
         delays,
         listed,
         lengths,
-        nodes,
-        from,
-        to,
-        via,
-        scratch,
+        &mut nodes,
+        &mut from,
+        &mut to,
+        &mut via,
+        &mut scratch,
     );
-    match made {
-        GraphMade::Refused(r) => put_refused(buf, at, r),
-        GraphMade::Counts { copies, edges } => {
-            let c = least(copies, nodes.len());
-            let e = least(least(edges, from.len()), least(to.len(), via.len()));
-            say_graph(
-                buf,
-                at,
-                n,
-                starts,
-                ends,
-                delays,
-                t,
-                &nodes[..c],
-                &from[..e],
-                &to[..e],
-                &via[..e],
-            )
-        }
-    }
+    say_made(
+        buf,
+        made,
+        n,
+        starts,
+        ends,
+        delays,
+        t,
+        &nodes,
+        &from,
+        &to,
+        &via,
+    )
 }
 
 // Tests a deck, and says its true graph or the refusal. 25 is tested before 31.
 fn say_deck(
-    buf: &mut [u8],
-    at: usize,
+    buf: &mut Text,
     n: u32,
     starts: &[u32],
     ends: &[u32],
@@ -210,86 +268,57 @@ fn say_deck(
 ) -> usize {
     let verdict = unfit::test_deck(n, starts, ends, delays, listed, lengths, t);
     if let Verdict::Refused(r) = verdict {
-        return put_refused(buf, at, r);
+        return put_refused(buf, 0, r);
     }
-    let mut nodes = [0; 512];
-    let mut from = [0; 2048];
-    let mut to = [0; 2048];
-    let mut via = [0; 2048];
-    let mut scratch = [0; 16384];
-    say_removal(
-        buf,
-        at,
-        n,
-        starts,
-        ends,
-        delays,
-        listed,
-        lengths,
-        t,
-        &mut nodes,
-        &mut from,
-        &mut to,
-        &mut via,
-        &mut scratch,
-    )
+    say_removal(buf, n, starts, ends, delays, listed, lengths, t)
 }
 
-// Reads a deck into the tables, and says what is made of it.
 fn say_read(
-    buf: &mut [u8],
-    at: usize,
-    deck: &[u8],
-    starts: &mut [u32],
-    ends: &mut [u32],
-    delays: &mut [i32],
-    listed: &mut [u32],
-    lengths: &mut [u32],
+    buf: &mut Text,
+    read: DeckRead,
+    starts: &[u32],
+    ends: &[u32],
+    delays: &[i32],
+    listed: &[u32],
+    lengths: &[u32],
 ) -> usize {
-    let read = deck_reader::read_deck(deck, starts, ends, delays, listed, lengths);
     match read {
-        DeckRead::Refused(r) => put_refused(buf, at, r),
+        DeckRead::Refused(r) => put_refused(buf, 0, r),
         DeckRead::Deck {
             nodes,
             edges,
             listed: count,
             paths,
             allowed,
-        } => {
-            let m = least(least(edges, starts.len()), least(ends.len(), delays.len()));
-            let k = least(count, listed.len());
-            let p = least(paths, lengths.len());
-            say_deck(
-                buf,
-                at,
-                nodes,
-                &starts[..m],
-                &ends[..m],
-                &delays[..m],
-                &listed[..k],
-                &lengths[..p],
-                allowed,
-            )
-        }
+        } => say_deck(
+            buf,
+            nodes,
+            front(starts, edges),
+            front(ends, edges),
+            front_delays(delays, edges),
+            front(listed, count),
+            front(lengths, paths),
+            allowed,
+        ),
     }
 }
 
-fn say(buf: &mut [u8], deck: &[u8]) -> usize {
+// Reads a deck into the tables, and says what is made of it.
+fn say(buf: &mut Text, deck: &[u8]) -> usize {
     let mut starts = [0; 1024];
     let mut ends = [0; 1024];
     let mut delays = [0; 1024];
     let mut listed = [0; 1024];
     let mut lengths = [0; 256];
-    say_read(
-        buf,
-        0,
+    let read = deck_reader::read_deck(
         deck,
         &mut starts,
         &mut ends,
         &mut delays,
         &mut listed,
         &mut lengths,
-    )
+    );
+    say_read(buf, read, &starts, &ends, &delays, &listed, &lengths)
 }
 
 // Whether a further byte stands on standard input.
@@ -299,7 +328,7 @@ fn more_bytes() -> bool {
 }
 
 // 4 is tested before all.
-fn run(buf: &mut [u8], deck: &[u8]) -> usize {
+fn run(buf: &mut Text, deck: &[u8]) -> usize {
     if deck.len() == MAX_DECK_BYTES {
         if more_bytes() {
             return put_refused(buf, 0, refuse(4, MAX_DECK_BYTES));

@@ -1,16 +1,14 @@
 // Text made in a lent buffer, and written to standard output a block at a time.
-ghost use mathlib.Core.Path.{_≡_};
-ghost use lib.ListN.{length};
 use cases::least;
 use libc::STDOUT_FILENO;
+
+pub(crate) type Text = [u8; 65536];
 
 // No line is longer.
 const LINE: usize = 200;
 
 // A byte at a place, if there is room. Gives the next place.
-fn put_byte(buf: &mut [u8], at: usize, b: u8) -> usize
-    ensures { λ r. ⌜ length (now (buf .exit)) ≡ length (now (buf .entry)) ⌝ }
-{
+fn put_byte(buf: &mut Text, at: usize, b: u8) -> usize {
     if at < buf.len() {
         buf[at] = b;
         return at + 1;
@@ -18,7 +16,7 @@ fn put_byte(buf: &mut [u8], at: usize, b: u8) -> usize
     at
 }
 
-pub(crate) fn put_text(buf: &mut [u8], at: usize, s: &[u8]) -> usize {
+pub(crate) fn put_text(buf: &mut Text, at: usize, s: &[u8]) -> usize {
     let mut next = at;
     let mut i = 0;
     while i < s.len() {
@@ -43,7 +41,7 @@ fn digit(n: u64) -> u8 {
 }
 
 // A number, in decimal digits.
-pub(crate) fn put_number(buf: &mut [u8], at: usize, n: u64) -> usize {
+pub(crate) fn put_number(buf: &mut Text, at: usize, n: u64) -> usize {
     let mut unit = unit_of(n);
     let mut next = at;
     while 0 < unit {
@@ -63,26 +61,30 @@ fn magnitude(t: i64) -> u64 {
     t as u64
 }
 
-fn put_sign(buf: &mut [u8], at: usize, t: i64) -> usize {
+fn put_sign(buf: &mut Text, at: usize, t: i64) -> usize {
     if t < 0 {
         return put_byte(buf, at, 45);
     }
     at
 }
 
-pub(crate) fn put_time(buf: &mut [u8], at: usize, t: i64) -> usize {
+pub(crate) fn put_time(buf: &mut Text, at: usize, t: i64) -> usize {
     let next = put_sign(buf, at, t);
     put_number(buf, next, magnitude(t))
 }
 
+fn write_front(s: &[u8], count: usize) {
+    let len = least(count, s.len());
+    io::write_all(STDOUT_FILENO, &s[..len]);
+}
+
 // Writes what the buffer holds before a place.
-pub(crate) fn flush(buf: &[u8], at: usize) {
-    let len = least(at, buf.len());
-    io::write_all(STDOUT_FILENO, &buf[..len]);
+pub(crate) fn flush(buf: &Text, at: usize) {
+    write_front(buf, at);
 }
 
 // Ends a line, and writes the block where a further line might not fit.
-pub(crate) fn end_line(buf: &mut [u8], at: usize) -> usize {
+pub(crate) fn end_line(buf: &mut Text, at: usize) -> usize {
     let next = put_byte(buf, at, 10);
     let len = least(next, buf.len());
     if len + LINE <= buf.len() {

@@ -4,8 +4,6 @@
 // starts, ends, delays, the nodes of the copies, start copies, end copies, design edges.
 // A slice is how many numbers follow, how many more there are, by how much each of these is above the
 // one before, and the numbers. So slices need not belong together, and a chain takes few bytes.
-ghost use Prim.Native.Nat.{_+_, _≤_};
-ghost use lib.ListN.{length};
 use cases::Slice;
 use cases::least;
 use cases::unpack;
@@ -26,9 +24,7 @@ fn above(value: u32, rise: u32) -> u32 {
     }
 }
 
-fn fill(s: &[u8], at: usize, table: &mut [u32]) -> Slice
-    ensures { λ r. ⌜ r .len ≤ length (now (table .entry)) ⌝ }
-{
+fn fill(s: &[u8], at: usize, table: &mut [u32]) -> Slice {
     let stored = take_number(s, at);
     let more = take_number(s, stored.next);
     let rise = take_number(s, more.next);
@@ -49,6 +45,29 @@ fn fill(s: &[u8], at: usize, table: &mut [u32]) -> Slice
         k += 1;
     }
     Slice { len, next }
+}
+
+// The first numbers of a slice, as many as a count says.
+fn front<'a>(s: &'a [u32], count: usize) -> &'a [u32] {
+    if count <= s.len() {
+        return &s[..count];
+    }
+    s
+}
+
+fn front_delays<'a>(s: &'a [i32], count: usize) -> &'a [i32] {
+    if count <= s.len() {
+        return &s[..count];
+    }
+    s
+}
+
+// Delays from their packed numbers.
+fn fill_delays(s: &[u8], at: usize, delays: &mut [i32]) -> Slice {
+    let mut codes = [0u32; 4200];
+    let c = fill(s, at, &mut codes);
+    unpack(front(&codes, c.len), delays);
+    c
 }
 
 // What a case asks besides its slices.
@@ -244,6 +263,21 @@ fn ask_records(
     );
 }
 
+// Says the times that were found, and asks for the records of the nodes.
+fn say_all(
+    v: Verdict,
+    q: Question,
+    p: Places,
+    nodes: &[u32],
+    arrivals: &[i64],
+    requireds: &[i64],
+    slacks: &[i64],
+) {
+    say_found(v, arrivals, requireds, slacks);
+    say_answer(times::node_record(q.nodes, nodes, arrivals, requireds, slacks, q.node));
+    ask_records(q.nodes, p, nodes, arrivals, requireds, slacks);
+}
+
 // Asks for the times of a graph and for the records of its nodes, and says them.
 fn ask_and_say(
     q: Question,
@@ -273,9 +307,7 @@ fn ask_and_say(
         requireds,
         slacks,
     );
-    say_found(v, arrivals, requireds, slacks);
-    say_answer(times::node_record(q.nodes, nodes, arrivals, requireds, slacks, q.node));
-    ask_records(q.nodes, p, nodes, arrivals, requireds, slacks);
+    say_all(v, q, p, nodes, arrivals, requireds, slacks);
 }
 
 // The same, with slices for times as long as the case says.
@@ -330,20 +362,16 @@ fn graph_of(
     let b = fill(s, a.next, &mut gs);
     let c = fill(s, b.next, &mut ge);
     let d = fill(s, c.next, &mut gn);
-    let nodes_len = a.len;
-    let gs_len = b.len;
-    let ge_len = c.len;
-    let gn_len = d.len;
     ask(
         q,
         p,
         starts,
         ends,
         delays,
-        &nodes[..nodes_len],
-        &gs[..gs_len],
-        &ge[..ge_len],
-        &gn[..gn_len],
+        front(&nodes, a.len),
+        front(&gs, b.len),
+        front(&ge, c.len),
+        front(&gn, d.len),
     );
     d.next
 }
@@ -354,23 +382,18 @@ fn case(s: &[u8], at: usize) -> usize {
     let p = read_places(s, q.next);
     let mut starts = [0u32; 4200];
     let mut ends = [0u32; 4200];
-    let mut codes = [0u32; 4200];
     let mut delays = [0i32; 4200];
     let a = fill(s, p.next, &mut starts);
     let b = fill(s, a.next, &mut ends);
-    let c = fill(s, b.next, &mut codes);
-    let starts_len = a.len;
-    let ends_len = b.len;
-    let delays_len = c.len;
-    unpack(&codes[..delays_len], &mut delays);
+    let c = fill_delays(s, b.next, &mut delays);
     graph_of(
         s,
         c.next,
         q,
         p,
-        &starts[..starts_len],
-        &ends[..ends_len],
-        &delays[..delays_len],
+        front(&starts, a.len),
+        front(&ends, b.len),
+        front_delays(&delays, c.len),
     )
 }
 

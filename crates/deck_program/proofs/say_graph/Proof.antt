@@ -5,7 +5,7 @@ use Rattle.deck_program.proofs.say_graph.Statement.{statement}
 use Rattle.deck_program.proofs.say_graph.Tie as tie
 
 least-requires : tie.Need-least-requires
-least-requires c κs = search needs
+least-requires c κs = tt
 
 array-borrow-prefix-arrivals : tie.Need-array-borrow-prefix-arrivals
 array-borrow-prefix-arrivals c = search needs
@@ -26,13 +26,10 @@ slice-aggregate-say-times-3 : tie.Need-slice-aggregate-say-times-3
 slice-aggregate-say-times-3 c = simp length-take (omega (arith, c .before .before .before .before .least .ensures .2))
 
 say-times-requires : tie.Need-say-times-requires
-say-times-requires c κs = search needs
-
-same-length : tie.Need-same-length
-same-length c = search needs
+say-times-requires c κs = tt
 
 returns : tie.Need-returns
-returns c = search needs
+returns c = tt
 
 pub say-graph-spec : {M : Type 1} → statement M
 say-graph-spec =
@@ -46,5 +43,4 @@ say-graph-spec =
     array-borrow-prefix-slacks
     slice-aggregate-say-times-3
     say-times-requires
-    same-length
     returns)

@@ -5,7 +5,7 @@ use Rattle.deck_program.proofs.say_nodes.Statement.{statement}
 use Rattle.deck_program.proofs.say_nodes.Tie as tie
 
 least-requires : tie.Need-least-requires
-least-requires c κs = search needs
+least-requires c κs = tt
 
 array-borrow-prefix-known : tie.Need-array-borrow-prefix-known
 array-borrow-prefix-known c = search needs
@@ -32,13 +32,10 @@ slice-aggregate-say-records-4 : tie.Need-slice-aggregate-say-records-4
 slice-aggregate-say-records-4 c = simp length-take (omega (arith, c .before .before .before .before .before .least .ensures .2))
 
 say-records-requires : tie.Need-say-records-requires
-say-records-requires c κs = search needs
-
-same-length : tie.Need-same-length
-same-length c = search needs
+say-records-requires c κs = tt
 
 returns : tie.Need-returns
-returns c = search needs
+returns c = tt
 
 pub say-nodes-spec : {M : Type 1} → statement M
 say-nodes-spec =
@@ -54,5 +51,4 @@ say-nodes-spec =
     array-borrow-prefix-ns
     slice-aggregate-say-records-4
     say-records-requires
-    same-length
     returns)

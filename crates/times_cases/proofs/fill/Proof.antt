@@ -14,13 +14,13 @@ abbrev μ-loop : tie.MeasureT-loop
 μ-loop s at table₀ rise count len next₀ value₀ k₀ table next value k = len - k
 
 take-number-requires : tie.Need-take-number-requires Inv-loop μ-loop
-take-number-requires c κs = search needs
+take-number-requires c κs = tt
 
 take-number-requires-2 : tie.Need-take-number-requires-2 Inv-loop μ-loop
-take-number-requires-2 c κs = search needs
+take-number-requires-2 c κs = tt
 
 take-number-requires-3 : tie.Need-take-number-requires-3 Inv-loop μ-loop
-take-number-requires-3 c κs = search needs
+take-number-requires-3 c κs = tt
 
 cast-count : tie.Need-cast-count Inv-loop μ-loop
 cast-count c = search needs
@@ -32,16 +32,16 @@ add-least : tie.Need-add-least Inv-loop μ-loop
 add-least c = omega arith
 
 least-requires : tie.Need-least-requires Inv-loop μ-loop
-least-requires c κs = search needs
+least-requires c κs = tt
 
 loop-holds : tie.Need-loop-holds Inv-loop μ-loop
 loop-holds c = (omega arith, omega arith, refl)
 
 take-number-requires-4 : tie.Need-take-number-requires-4 Inv-loop μ-loop
-take-number-requires-4 c κs = search needs
+take-number-requires-4 c κs = tt
 
 above-requires : tie.Need-above-requires Inv-loop μ-loop
-above-requires c κs = search needs
+above-requires c κs = tt
 
 mul-table : tie.Need-mul-table Inv-loop μ-loop
 mul-table c = omega arith
@@ -62,7 +62,7 @@ same-length : tie.Need-same-length Inv-loop μ-loop
 same-length c = c .before .loop .inv .2
 
 returns : tie.Need-returns Inv-loop μ-loop
-returns c = omega arith
+returns c = tt
 
 pub fill-spec : {M : Type 1} → statement M
 fill-spec =

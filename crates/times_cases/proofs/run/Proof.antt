@@ -1,6 +1,5 @@
 use Prim.Native.Nat.{_-_, _≤_}
 use native.Mathlib.Omega.{arith}
-use borrow.Author.Needs.{needs}
 use Rattle.times_cases.proofs.run.Statement.{statement}
 use Rattle.times_cases.proofs.run.Tie as tie
 
@@ -11,13 +10,13 @@ abbrev μ-loop : tie.MeasureT-loop
 μ-loop s count at₀ i₀ at i = count .value - i
 
 take-number-requires : tie.Need-take-number-requires Inv-loop μ-loop
-take-number-requires c κs = search needs
+take-number-requires c κs = tt
 
 loop-holds : tie.Need-loop-holds Inv-loop μ-loop
 loop-holds c = omega arith
 
 case-requires : tie.Need-case-requires Inv-loop μ-loop
-case-requires c κs = search needs
+case-requires c κs = tt
 
 add-i : tie.Need-add-i Inv-loop μ-loop
 add-i c = omega arith
@@ -29,7 +28,7 @@ loop-again : tie.Need-loop-again Inv-loop μ-loop
 loop-again c = omega arith
 
 returns : tie.Need-returns Inv-loop μ-loop
-returns c = search needs
+returns c = tt
 
 pub run-spec : {M : Type 1} → statement M
 run-spec =

@@ -5,13 +5,13 @@ use Rattle.times_cases.proofs.run_block.Statement.{statement}
 use Rattle.times_cases.proofs.run_block.Tie as tie
 
 large-buffer-requires : tie.Need-large-buffer-requires
-large-buffer-requires c κs = search needs
+large-buffer-requires c κs = tt
 
 slice-aggregate-read-full : tie.Need-slice-aggregate-read-full
 slice-aggregate-read-full c = search needs
 
 read-full-requires : tie.Need-read-full-requires
-read-full-requires c κs = search needs
+read-full-requires c κs = tt
 
 array-share-prefix-input : tie.Need-array-share-prefix-input
 array-share-prefix-input c = search needs
@@ -20,10 +20,10 @@ slice-aggregate-run : tie.Need-slice-aggregate-run
 slice-aggregate-run c = simp length-take (omega arith)
 
 run-requires : tie.Need-run-requires
-run-requires c κs = search needs
+run-requires c κs = tt
 
 returns : tie.Need-returns
-returns c = search needs
+returns c = tt
 
 pub run-block-spec : {M : Type 1} → statement M
 run-block-spec =

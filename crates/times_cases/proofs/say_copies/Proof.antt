@@ -1,7 +1,6 @@
 use Prim.Native.Nat.{_-_, _≤_}
 use native.Mathlib.Omega.{arith}
 use lib.ListN.{length}
-use borrow.Author.Needs.{needs}
 use Rattle.times_cases.proofs.say_copies.Statement.{statement}
 use Rattle.times_cases.proofs.say_copies.Tie as tie
 
@@ -12,10 +11,10 @@ abbrev μ-loop : tie.MeasureT-loop
 μ-loop arrivals requireds slacks len k₀ k = len - k
 
 least-requires : tie.Need-least-requires Inv-loop μ-loop
-least-requires c κs = search needs
+least-requires c κs = tt
 
 least-requires-2 : tie.Need-least-requires-2 Inv-loop μ-loop
-least-requires-2 c κs = search needs
+least-requires-2 c κs = tt
 
 loop-holds : tie.Need-loop-holds Inv-loop μ-loop
 loop-holds c = (omega arith, omega arith, omega arith, omega arith)
@@ -39,7 +38,7 @@ shared-slice-copy-out-say-copy-3 : tie.Need-shared-slice-copy-out-say-copy-3 Inv
 shared-slice-copy-out-say-copy-3 c = omega arith
 
 say-copy-requires : tie.Need-say-copy-requires Inv-loop μ-loop
-say-copy-requires c κs = search needs
+say-copy-requires c κs = tt
 
 add-k : tie.Need-add-k Inv-loop μ-loop
 add-k c = omega arith
@@ -51,7 +50,7 @@ loop-again : tie.Need-loop-again Inv-loop μ-loop
 loop-again c = (omega arith, omega arith, omega arith, omega arith)
 
 returns : tie.Need-returns Inv-loop μ-loop
-returns c = search needs
+returns c = tt
 
 pub say-copies-spec : {M : Type 1} → statement M
 say-copies-spec =

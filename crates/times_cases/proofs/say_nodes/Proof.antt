@@ -1,7 +1,6 @@
 use Prim.Native.Nat.{_-_, _≤_}
 use native.Mathlib.Omega.{arith}
 use lib.ListN.{length}
-use borrow.Author.Needs.{needs}
 use Rattle.times_cases.proofs.say_nodes.Statement.{statement}
 use Rattle.times_cases.proofs.say_nodes.Tie as tie
 
@@ -12,13 +11,13 @@ abbrev μ-loop : tie.MeasureT-loop
 μ-loop known na nr ns len v₀ v = len - v
 
 least-requires : tie.Need-least-requires Inv-loop μ-loop
-least-requires c κs = search needs
+least-requires c κs = tt
 
 least-requires-2 : tie.Need-least-requires-2 Inv-loop μ-loop
-least-requires-2 c κs = search needs
+least-requires-2 c κs = tt
 
 least-requires-3 : tie.Need-least-requires-3 Inv-loop μ-loop
-least-requires-3 c κs = search needs
+least-requires-3 c κs = tt
 
 loop-holds : tie.Need-loop-holds Inv-loop μ-loop
 loop-holds c = (omega arith, omega arith, omega arith, omega arith, omega arith)
@@ -48,7 +47,7 @@ shared-slice-copy-out-say-node-3 : tie.Need-shared-slice-copy-out-say-node-3 Inv
 shared-slice-copy-out-say-node-3 c = omega arith
 
 say-node-requires : tie.Need-say-node-requires Inv-loop μ-loop
-say-node-requires c κs = search needs
+say-node-requires c κs = tt
 
 add-v : tie.Need-add-v Inv-loop μ-loop
 add-v c = omega arith
@@ -60,7 +59,7 @@ loop-again : tie.Need-loop-again Inv-loop μ-loop
 loop-again c = (omega arith, omega arith, omega arith, omega arith, omega arith)
 
 returns : tie.Need-returns Inv-loop μ-loop
-returns c = search needs
+returns c = tt
 
 pub say-nodes-spec : {M : Type 1} → statement M
 say-nodes-spec =

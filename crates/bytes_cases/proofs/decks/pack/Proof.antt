@@ -2,7 +2,6 @@ use Prim.Native.Nat.{_-_, _≤_}
 use native.Mathlib.Omega.{arith}
 use mathlib.Core.Path.{_≡_, refl}
 use lib.ListN.{length, length-set}
-use borrow.Author.Needs.{needs}
 use Rattle.bytes_cases.proofs.decks.pack.Statement.{statement}
 use Rattle.bytes_cases.proofs.decks.pack.Tie as tie
 
@@ -13,7 +12,7 @@ abbrev μ-loop : tie.MeasureT-loop
 μ-loop delays codes₀ len k₀ codes k = len - k
 
 least-requires : tie.Need-least-requires Inv-loop μ-loop
-least-requires c κs = search needs
+least-requires c κs = tt
 
 loop-holds : tie.Need-loop-holds Inv-loop μ-loop
 loop-holds c = (omega arith, omega arith, omega arith, refl)
@@ -25,7 +24,7 @@ shared-slice-copy-out-pack-delay : tie.Need-shared-slice-copy-out-pack-delay Inv
 shared-slice-copy-out-pack-delay c = omega arith
 
 pack-delay-requires : tie.Need-pack-delay-requires Inv-loop μ-loop
-pack-delay-requires c κs = search needs
+pack-delay-requires c κs = tt
 
 mul-codes : tie.Need-mul-codes Inv-loop μ-loop
 mul-codes c = omega arith
@@ -46,7 +45,7 @@ same-length : tie.Need-same-length Inv-loop μ-loop
 same-length c = c .before .loop .inv .3
 
 returns : tie.Need-returns Inv-loop μ-loop
-returns c = search needs
+returns c = tt
 
 pub pack-spec : {M : Type 1} → statement M
 pack-spec =

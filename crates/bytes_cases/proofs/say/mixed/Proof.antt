@@ -7,7 +7,7 @@ mul-result : tie.Need-mul-result
 mul-result c = search needs
 
 wide-requires : tie.Need-wide-requires
-wide-requires c κs = search needs
+wide-requires c κs = tt
 
 add-result : tie.Need-add-result
 add-result c = omega arith

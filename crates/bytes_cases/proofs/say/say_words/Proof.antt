@@ -1,7 +1,6 @@
 use Prim.Native.Nat.{_-_, _≤_}
 use native.Mathlib.Omega.{arith}
 use lib.ListN.{length}
-use borrow.Author.Needs.{needs}
 use Rattle.bytes_cases.proofs.say.say_words.Statement.{statement}
 use Rattle.bytes_cases.proofs.say.say_words.Tie as tie
 
@@ -12,13 +11,13 @@ abbrev μ-loop : tie.MeasureT-loop
 μ-loop s k₀ k = length s - k
 
 words-sum-requires : tie.Need-words-sum-requires Inv-loop μ-loop
-words-sum-requires c κs = search needs
+words-sum-requires c κs = tt
 
 say-sum-requires : tie.Need-say-sum-requires Inv-loop μ-loop
-say-sum-requires c κs = search needs
+say-sum-requires c κs = tt
 
 returns : tie.Need-returns Inv-loop μ-loop
-returns c = search needs
+returns c = tt
 
 loop-holds : tie.Need-loop-holds Inv-loop μ-loop
 loop-holds c = omega arith
@@ -30,7 +29,7 @@ shared-slice-read-say-word : tie.Need-shared-slice-read-say-word Inv-loop μ-loo
 shared-slice-read-say-word c = omega arith
 
 say-word-requires : tie.Need-say-word-requires Inv-loop μ-loop
-say-word-requires c κs = search needs
+say-word-requires c κs = tt
 
 add-k : tie.Need-add-k Inv-loop μ-loop
 add-k c = omega arith

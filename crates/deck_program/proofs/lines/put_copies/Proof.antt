@@ -1,53 +1,29 @@
--- Invariant: the buffer keeps its length.
-use Prim.Native.Nat.{_-_, _≤_}
-use mathlib.Core.Path.{_≡_, refl, _∙_}
+use Prim.Native.Nat.{_-_}
 use lib.ListN.{length}
 use native.Mathlib.Omega.{arith}
-use borrow.Author.Needs.{needs}
 use Rattle.deck_program.proofs.lines.put_copies.Statement.{statement}
 use Rattle.deck_program.proofs.lines.put_copies.Tie as tie
 
 abbrev Inv-loop : tie.InvT-loop
-Inv-loop buf₀ at nodes arrivals requireds slacks len next₀ c₀ buf next c = (c ≤ len) × (length buf ≡ length buf₀)
+Inv-loop buf₀ at nodes arrivals requireds slacks next₀ c₀ buf next c = Unit {0}
 
 abbrev μ-loop : tie.MeasureT-loop
-μ-loop buf₀ at nodes arrivals requireds slacks len next₀ c₀ buf next c = len - c
-
-least-requires : tie.Need-least-requires Inv-loop μ-loop
-least-requires c κs = tt
-
-least-requires-2 : tie.Need-least-requires-2 Inv-loop μ-loop
-least-requires-2 c κs = tt
-
-least-requires-3 : tie.Need-least-requires-3 Inv-loop μ-loop
-least-requires-3 c κs = tt
+μ-loop buf₀ at nodes arrivals requireds slacks next₀ c₀ buf next c = length nodes - c
 
 loop-holds : tie.Need-loop-holds Inv-loop μ-loop
-loop-holds c = (omega arith, refl)
+loop-holds c = tt
 
-mul-put-copy : tie.Need-mul-put-copy Inv-loop μ-loop
-mul-put-copy c = search needs
+number-at-requires : tie.Need-number-at-requires Inv-loop μ-loop
+number-at-requires c κs = tt
 
-shared-slice-read-put-copy : tie.Need-shared-slice-read-put-copy Inv-loop μ-loop
-shared-slice-read-put-copy c = search needs
+time-at-requires : tie.Need-time-at-requires Inv-loop μ-loop
+time-at-requires c κs = tt
 
-mul-put-copy-2 : tie.Need-mul-put-copy-2 Inv-loop μ-loop
-mul-put-copy-2 c = search needs
+time-at-requires-2 : tie.Need-time-at-requires-2 Inv-loop μ-loop
+time-at-requires-2 c κs = tt
 
-shared-slice-copy-out-put-copy : tie.Need-shared-slice-copy-out-put-copy Inv-loop μ-loop
-shared-slice-copy-out-put-copy c = search needs
-
-mul-put-copy-3 : tie.Need-mul-put-copy-3 Inv-loop μ-loop
-mul-put-copy-3 c = search needs
-
-shared-slice-copy-out-put-copy-2 : tie.Need-shared-slice-copy-out-put-copy-2 Inv-loop μ-loop
-shared-slice-copy-out-put-copy-2 c = search needs
-
-mul-put-copy-4 : tie.Need-mul-put-copy-4 Inv-loop μ-loop
-mul-put-copy-4 c = search needs
-
-shared-slice-copy-out-put-copy-3 : tie.Need-shared-slice-copy-out-put-copy-3 Inv-loop μ-loop
-shared-slice-copy-out-put-copy-3 c = search needs
+time-at-requires-3 : tie.Need-time-at-requires-3 Inv-loop μ-loop
+time-at-requires-3 c κs = tt
 
 put-copy-requires : tie.Need-put-copy-requires Inv-loop μ-loop
 put-copy-requires c κs = tt
@@ -59,10 +35,7 @@ loop-less : tie.Need-loop-less Inv-loop μ-loop
 loop-less c = omega arith
 
 loop-again : tie.Need-loop-again Inv-loop μ-loop
-loop-again c = (omega arith, search needs)
-
-same-length : tie.Need-same-length Inv-loop μ-loop
-same-length c = c .before .loop .inv .1
+loop-again c = tt
 
 returns : tie.Need-returns Inv-loop μ-loop
 returns c = tt
@@ -73,21 +46,13 @@ put-copies-spec =
     (tie.spec
     Inv-loop
     μ-loop
-    least-requires
-    least-requires-2
-    least-requires-3
     loop-holds
-    mul-put-copy
-    shared-slice-read-put-copy
-    mul-put-copy-2
-    shared-slice-copy-out-put-copy
-    mul-put-copy-3
-    shared-slice-copy-out-put-copy-2
-    mul-put-copy-4
-    shared-slice-copy-out-put-copy-3
+    number-at-requires
+    time-at-requires
+    time-at-requires-2
+    time-at-requires-3
     put-copy-requires
     add-c
     loop-less
     loop-again
-    same-length
     returns)

