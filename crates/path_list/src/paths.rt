@@ -24,12 +24,6 @@ fn path_end(size: usize, from: usize, k: u32) -> usize
     if k <= size - from { from + k } else { size }
 }
 
-fn is_empty(path: &[u32]) -> bool
-    ensures { λ r. ⌜ r ≡ isNil (now (path .entry)) ⌝ }
-{
-    path.len() == 0
-}
-
 // 22: a path is empty.
 pub fn and_filled(before: Verdict, listed: &[u32], lengths: &[u32]) -> Verdict
     ensures { λ r. ⌜ r ≡ (before then firstBad 22 isNil 0 (pathsOf (pathList (now (listed .entry)) (now (lengths .entry))))) ⌝ }
@@ -41,7 +35,7 @@ pub fn and_filled(before: Verdict, listed: &[u32], lengths: &[u32]) -> Verdict
     let mut from = 0;
     while p < lengths.len() {
         let to = path_end(listed.len(), from, lengths[p]);
-        if is_empty(&listed[from..to]) {
+        if to == from {
             return Verdict::Refused(refuse(22, p));
         }
         from = to;

@@ -10,9 +10,9 @@ use borrow.Author.Needs.{needs}
 use Rattle.timing.specs.declared.Verdict.the-variants.{Refused}
 use Rattle.timing.specs.Refusals.{firstBad}
 use Rattle.timing.specs.Marks.{cut}
-use Rattle.design.proofs.Laws.{no-path-left, bad-path, good-path}
-use Rattle.design.proofs.paths.and_named.Statement.{statement}
-use Rattle.design.proofs.paths.and_named.Tie as tie
+use Rattle.path_list.proofs.Laws.{no-path-left, bad-path, good-path}
+use Rattle.path_list.proofs.paths.and_named.Statement.{statement}
+use Rattle.path_list.proofs.paths.and_named.Tie as tie
 
 abbrev Inv-loop : tie.InvT-loop
 Inv-loop m listed lengths p₀ from₀ p from =

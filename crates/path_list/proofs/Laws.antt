@@ -10,7 +10,7 @@ use lib.ListN.{length, getD, take, drop, length-take, length-drop, drop-of-lengt
 use lib.Seq.{take-all, drop-cons, drop-drop}
 use borrow.Author.Tests.{leb-true, leb-false}
 use Rattle.timing.specs.declared.Verdict.the-variants.{Passed, Refused}
-use Rattle.timing.specs.Lists.{sum}
+use Rattle.timing.specs.Lists.{isNil, sum}
 use Rattle.timing.specs.Refusals.{refusal, firstBad}
 use Rattle.timing.specs.Marks.{cut}
 
@@ -65,6 +65,19 @@ module _ (number : ℕ) (bad : List ℕ → Bool) (flat lengths : List ℕ) (p f
 -- what a part of the flat list holds
 pub part-length : (flat : List ℕ) (from to : ℕ) → to ≤ length flat → length (take (to - from) (drop from flat)) ≡ to - from
 part-length flat from to h = simp (length-take, length-drop) (omega arith)
+
+-- it is empty exactly where it ends at its start
+pub part-empty : (flat : List ℕ) (from to : ℕ) → to ≡ from → isNil (take (to - from) (drop from flat)) ≡ true
+part-empty flat from to e =
+    let d : to - from ≡ 0 = omega arith in
+    rw d
+
+pub part-filled : (flat : List ℕ) (from to : ℕ) → from < to → to ≤ length flat → isNil (take (to - from) (drop from flat)) ≡ false
+part-filled flat from to h b = go (take (to - from) (drop from flat)) (omega (arith, part-length flat from to b))
+  where
+    go : (l : List ℕ) → 0 < length l → isNil l ≡ false
+    go [] h = absurd (omega arith)
+    go (x ∷ l) h = refl
 
 -- Where path i of the flat list starts, and what it and the paths after it are.
 abbrev pub offset : List ℕ → ℕ → ℕ

@@ -8,9 +8,9 @@ use borrow.Author.Needs.{needs}
 use Rattle.timing.specs.declared.Verdict.the-variants.{Refused}
 use Rattle.timing.specs.Refusals.{firstBad}
 use Rattle.timing.specs.Marks.{cut}
-use Rattle.design.proofs.Laws.{no-path-left, bad-path, good-path}
-use Rattle.design.proofs.paths.and_filled.Statement.{statement}
-use Rattle.design.proofs.paths.and_filled.Tie as tie
+use Rattle.path_list.proofs.Laws.{part-empty, part-filled, no-path-left, bad-path, good-path}
+use Rattle.path_list.proofs.paths.and_filled.Statement.{statement}
+use Rattle.path_list.proofs.paths.and_filled.Tie as tie
 
 abbrev Inv-loop : tie.InvT-loop
 Inv-loop listed lengths p₀ from₀ p from =
@@ -42,35 +42,19 @@ shared-slice-read-path-end c = omega arith
 path-end-requires : tie.Need-path-end-requires Inv-loop μ-loop
 path-end-requires c κs = omega arith
 
-mul-is-empty : tie.Need-mul-is-empty Inv-loop μ-loop
-mul-is-empty c = omega arith
-
-sub-is-empty : tie.Need-sub-is-empty Inv-loop μ-loop
-sub-is-empty c = omega arith
-
-part-is-empty-start : tie.Need-part-is-empty-start Inv-loop μ-loop
-part-is-empty-start c = omega arith
-
-part-is-empty-end : tie.Need-part-is-empty-end Inv-loop μ-loop
-part-is-empty-end c = omega arith
-
-is-empty-requires : tie.Need-is-empty-requires Inv-loop μ-loop
-is-empty-requires c κs = search needs
-
 refuse-requires : tie.Need-refuse-requires Inv-loop μ-loop
 refuse-requires c κs = search needs
 
 returns-2 : tie.Need-returns-2 Inv-loop μ-loop
 returns-2 c =
-    let u = c .before .before in
-    let e = u .before .before in
+    let e = c .before .before in
     let i = e .before .before in
     let l = i .before in
     let a = l .before .before .before .before .before .args in
     rw (l .before .enum-told .given .1)
     (ap Refused (c .refuse .ensures)
     ∙ sym (bad-path 22 isNil (a .listed .now) (a .lengths .now) (l .loop .p) (l .loop .from) (e .path-end .result) (i .loop-test .taken) (l .loop .inv .1) (e .path-end .ensures)
-    (sym (u .is-empty .ensures) ∙ c .before .if1 .taken))
+    (part-empty (a .listed .now) (l .loop .from) (e .path-end .result) (omega arith)))
     ∙ l .loop .inv .2)
 
 add-p : tie.Need-add-p Inv-loop μ-loop
@@ -81,15 +65,14 @@ loop-less c = omega arith
 
 loop-again : tie.Need-loop-again Inv-loop μ-loop
 loop-again c =
-    let u = c .before in
-    let e = u .before .before in
+    let e = c .before in
     let i = e .before .before in
     let l = i .before in
     let a = l .before .before .before .before .before .args in (
       omega arith,
       omega arith,
       good-path 22 isNil (a .listed .now) (a .lengths .now) (l .loop .p) (l .loop .from) (e .path-end .result) (i .loop-test .taken) (l .loop .inv .1) (e .path-end .ensures)
-          (sym (u .is-empty .ensures) ∙ c .if1 .left)
+          (part-filled (a .listed .now) (l .loop .from) (e .path-end .result) (omega arith) (omega arith))
           ∙ l .loop .inv .2,
     )
 
@@ -112,11 +95,6 @@ and-filled-spec =
     mul-path-end
     shared-slice-read-path-end
     path-end-requires
-    mul-is-empty
-    sub-is-empty
-    part-is-empty-start
-    part-is-empty-end
-    is-empty-requires
     refuse-requires
     returns-2
     add-p

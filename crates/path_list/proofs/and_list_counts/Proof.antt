@@ -1,9 +1,9 @@
 use lib.Dec.{leb}
 use Rattle.timing.specs.Refusals.{unless}
-use Rattle.design.proofs.Chains.{chain-two}
+use Rattle.timing.proofs.Verdicts.{chain-two}
 use borrow.Author.Needs.{needs}
-use Rattle.design.proofs.and_list_counts.Statement.{statement}
-use Rattle.design.proofs.and_list_counts.Tie as tie
+use Rattle.path_list.proofs.and_list_counts.Statement.{statement}
+use Rattle.path_list.proofs.and_list_counts.Tie as tie
 
 and-unless-requires : tie.Need-and-unless-requires
 and-unless-requires c κs = search needs

@@ -1,6 +1,6 @@
 use borrow.Author.Needs.{needs}
-use Rattle.design.proofs.paths.joins.Statement.{statement}
-use Rattle.design.proofs.paths.joins.Tie as tie
+use Rattle.path_list.proofs.paths.joins.Statement.{statement}
+use Rattle.path_list.proofs.paths.joins.Tie as tie
 
 number-at-requires : tie.Need-number-at-requires
 number-at-requires c κs = search needs

@@ -8,17 +8,16 @@ use mathlib.Core.List.{List, []}
 use mathlib.Core.Logic.{⊎-elim}
 use lib.ListN.{length, take, drop}
 use borrow.Author.Needs.{needs}
-use borrow.Author.Tests.{not-true, not-false}
 use Rattle.timing.specs.declared.Verdict.the-variants.{Refused}
 use Rattle.timing.specs.Lists.{eachNext}
 use Rattle.timing.specs.Refusals.{refusal, firstBad}
 use Rattle.timing.specs.Graphs.{design}
 use Rattle.timing.specs.Marks.{cut}
 use Rattle.timing.specs.Tests.{meets}
-use Rattle.design.proofs.Loops.{next-fails, next-holds, no-next}
-use Rattle.design.proofs.Laws.{part-length, no-path-left, bad-path, good-path}
-use Rattle.design.proofs.paths.and_joined.Statement.{statement}
-use Rattle.design.proofs.paths.and_joined.Tie as tie
+use Rattle.path_list.proofs.Loops.{ends-whole, stops-broken, goes-on}
+use Rattle.path_list.proofs.Laws.{part-length, no-path-left, bad-path, good-path}
+use Rattle.path_list.proofs.paths.and_joined.Statement.{statement}
+use Rattle.path_list.proofs.paths.and_joined.Tie as tie
 
 abbrev broken : List ℕ → List ℕ → List ℕ → Bool
 broken starts ends p = not (eachNext (meets (design 0 starts ends [])) p)
@@ -63,9 +62,8 @@ hit c =
     let l = i .before in
     let a = l .before .before .before .before .before .before .before .args in
     bad-path 24 (broken (a .starts .now) (a .ends .now)) (a .listed .now) (a .lengths .now) (l .paths .p) (l .paths .from) (e .path-end .result) (i .paths-test .taken) (l .paths .inv .1) (e .path-end .ensures)
-    (ap not (sym (n .loop .inv .1)
-    ∙ next-fails (meets (design 0 (a .starts .now) (a .ends .now) [])) (take (e .path-end .result - l .paths .from) (drop (l .paths .from) (a .listed .now))) (n .loop .i)
-    (c .before .before .loop-test .taken) (sym (c .before .joins .ensures) ∙ not-true _ (c .if1 .taken))))
+    (stops-broken (meets (design 0 (a .starts .now) (a .ends .now) [])) (take (e .path-end .result - l .paths .from) (drop (l .paths .from) (a .listed .now))) (n .loop .i) (n .loop .inv .1)
+    (c .before .joins .result) (c .before .before .loop-test .taken) (c .before .joins .ensures) (c .if1 .taken))
 
 -- where the inner loop ends, it is not
 miss : (c : tie.After-loop Inv-loop μ-loop Inv-paths μ-paths) →
@@ -78,9 +76,7 @@ miss c =
     let e = n .before .before in
     let l = e .before .before .before in
     let a = l .before .before .before .before .before .before .before .args in
-    ap not (sym (n .loop .inv .1)
-    ∙ no-next (meets (design 0 (a .starts .now) (a .ends .now) [])) (take (e .path-end .result - l .paths .from) (drop (l .paths .from) (a .listed .now))) (n .loop .i)
-    (c .loop-test .left))
+    ends-whole (meets (design 0 (a .starts .now) (a .ends .now) [])) (take (e .path-end .result - l .paths .from) (drop (l .paths .from) (a .listed .now))) (n .loop .i) (n .loop .inv .1) (c .loop-test .left)
 
 enum-told : tie.Need-enum-told Inv-loop μ-loop Inv-paths μ-paths
 enum-told c = search needs
@@ -137,9 +133,8 @@ loop-again c =
     let l = e .before .before .before in
     let a = l .before .before .before .before .before .before .before .args in (
       omega arith,
-      next-holds (meets (design 0 (a .starts .now) (a .ends .now) [])) (take (e .path-end .result - l .paths .from) (drop (l .paths .from) (a .listed .now))) (n .loop .i)
-          (c .before .before .loop-test .taken) (sym (c .before .joins .ensures) ∙ not-false _ (c .if1 .left))
-          ∙ n .loop .inv .1,
+      goes-on (meets (design 0 (a .starts .now) (a .ends .now) [])) (take (e .path-end .result - l .paths .from) (drop (l .paths .from) (a .listed .now))) (n .loop .i) (n .loop .inv .1)
+          (c .before .joins .result) (c .before .before .loop-test .taken) (c .before .joins .ensures) (c .if1 .left),
     )
 
 add-p : tie.Need-add-p Inv-loop μ-loop Inv-paths μ-paths

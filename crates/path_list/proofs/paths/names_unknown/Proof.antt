@@ -7,9 +7,9 @@ use lib.Dec.{ltb}
 use lib.ListN.{length, drop}
 use borrow.Author.Tests.{lt-ltb, le-ltb}
 use Rattle.timing.specs.Lists.{anyOf}
-use Rattle.design.proofs.Loops.{any-here, any-later, any-nowhere}
-use Rattle.design.proofs.paths.names_unknown.Statement.{statement}
-use Rattle.design.proofs.paths.names_unknown.Tie as tie
+use Rattle.path_list.proofs.Loops.{any-here, any-later, any-nowhere}
+use Rattle.path_list.proofs.paths.names_unknown.Statement.{statement}
+use Rattle.path_list.proofs.paths.names_unknown.Tie as tie
 
 abbrev Inv-loop : tie.InvT-loop
 Inv-loop path m j₀ j = (j ≤ length path) × (anyOf (λ k. not (ltb k m)) (drop j path) ≡ anyOf (λ k. not (ltb k m)) path)

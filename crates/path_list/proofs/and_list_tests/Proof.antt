@@ -6,10 +6,10 @@ use Rattle.timing.specs.Refusals.{firstBad}
 use Rattle.timing.specs.Graphs.{design}
 use Rattle.timing.specs.Marks.{pathList, pathsOf}
 use Rattle.timing.specs.Tests.{listCounts, meets, listTests}
-use Rattle.design.proofs.Chains.{chain-four}
+use Rattle.timing.proofs.Verdicts.{chain-four}
 use borrow.Author.Needs.{needs}
-use Rattle.design.proofs.and_list_tests.Statement.{statement}
-use Rattle.design.proofs.and_list_tests.Tie as tie
+use Rattle.path_list.proofs.and_list_tests.Statement.{statement}
+use Rattle.path_list.proofs.and_list_tests.Tie as tie
 
 and-list-counts-requires : tie.Need-and-list-counts-requires
 and-list-counts-requires c κs = search needs
