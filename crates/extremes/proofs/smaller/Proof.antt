@@ -2,8 +2,8 @@
 use mir.Syntax.{w64}
 use mir.Facts.{toZ-ofZ}
 use Rattle.timing.proofs.Ints.{test-back}
-use Rattle.times.proofs.smaller.Statement.{statement}
-use Rattle.times.proofs.smaller.Tie as tie
+use Rattle.extremes.proofs.smaller.Statement.{statement}
+use Rattle.extremes.proofs.smaller.Tie as tie
 
 returns : tie.Need-returns
 returns c = let p = c .before in rw (toZ-ofZ (p .fits .b), test-back w64 (p .args .b) (p .args .a) (p .fits .b) (p .fits .a) (c .if1 .taken))

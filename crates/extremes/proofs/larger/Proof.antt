@@ -2,8 +2,8 @@
 use mir.Syntax.{w64}
 use mir.Facts.{toZ-ofZ}
 use Rattle.timing.proofs.Ints.{test-back}
-use Rattle.times.proofs.larger.Statement.{statement}
-use Rattle.times.proofs.larger.Tie as tie
+use Rattle.extremes.proofs.larger.Statement.{statement}
+use Rattle.extremes.proofs.larger.Tie as tie
 
 returns : tie.Need-returns
 returns c = let p = c .before in rw (toZ-ofZ (p .fits .b), test-back w64 (p .args .a) (p .args .b) (p .fits .a) (p .fits .b) (c .if1 .taken))

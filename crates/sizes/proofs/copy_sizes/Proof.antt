@@ -1,7 +1,7 @@
 -- One test after the other.
 use borrow.Author.Needs.{needs}
-use Rattle.times.proofs.copy_sizes.Statement.{statement}
-use Rattle.times.proofs.copy_sizes.Tie as tie
+use Rattle.sizes.proofs.copy_sizes.Statement.{statement}
+use Rattle.sizes.proofs.copy_sizes.Tie as tie
 
 same-sizes-requires : tie.Need-same-sizes-requires
 same-sizes-requires c κs = search needs
