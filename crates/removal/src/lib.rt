@@ -16,8 +16,8 @@ ghost use Rattle.timing.specs.Calls.{graphSlices, graphOf, lentRemoval, removeF
 ghost use Rattle.removal.specs.Numbered.{Numberable, DesignRemoved};
 use crate::remove::remove;
 use design::and_design_tests;
-use design::and_list_tests;
 use graph::and_graph_test;
+use path_list::and_list_tests;
 use sizes::and_list_sizes;
 use sizes::design_sizes;
 use timing::GraphMade;

@@ -4,9 +4,10 @@ ghost use Prim.Native.Nat.{ℕ};
 ghost use Rattle.timing.specs.Refusals.{_then_};
 ghost use Rattle.timing.specs.Graphs.{design};
 ghost use Rattle.timing.specs.Marks.{pathList};
-ghost use Rattle.timing.specs.Tests.{designSizes, listSizes};
+ghost use Rattle.timing.specs.Tests.{sameSizes, designSizes, listSizes};
 use timing::Verdict;
 use timing::same_sizes;
+use timing::then;
 use timing::unless;
 
 // 30 for the three slices of a design.
@@ -14,6 +15,15 @@ pub fn design_sizes(starts: &[u32], ends: &[u32], delays: &[i32]) -> Verdict
     ensures { λ r. ⌜ ((n : ℕ) → r ≡ designSizes (design n (now (starts .entry)) (now (ends .entry)) (now (delays .entry)))) ⌝ }
 {
     same_sizes(starts.len(), ends.len(), delays.len())
+}
+
+// 30 for the slices that hold what is known of each copy.
+pub fn copy_sizes(copies: usize, arrivals: usize, requireds: usize, slacks: usize) -> Verdict
+    ensures { λ r. ⌜ r ≡ (sameSizes copies arrivals requireds then sameSizes copies copies slacks) ⌝ }
+{
+    let sizes = same_sizes(copies, arrivals, requireds);
+    let more = same_sizes(copies, copies, slacks);
+    then(sizes, more)
 }
 
 // 30 for a list of paths: its lengths do not add up to the flat list. What is left of the flat list

@@ -1,7 +1,7 @@
 -- Where the tests of `times` pass, the passes have what they ask; and what the slices then hold.
 use Prim.Native.Nat.{ℕ, _≤_}
 use native.Mathlib.Omega.{arith}
-use mathlib.Core.Path.{_≡_, refl, sym, ap}
+use mathlib.Core.Path.{_≡_, refl, sym, _∙_, ap}
 use mathlib.Core.Logic.{⊎-elim}
 use mathlib.Core.Bool.{Bool, _&&_}
 use mathlib.Core.List.{List, [], _∷_}
@@ -106,3 +106,7 @@ called-tests n starts ends delays S t a r s =
     let D = design n starts ends delays in
     rw (no-delays n starts ends delays (graphOf S))
     (chain (designSizes D) (graphSizes S) (sameSizes (length (S .nodes)) a r) (sameSizes (length (S .nodes)) (length (S .nodes)) s) (designTests D) (allowedTest t) (nodeCount n) (graphTest D (graphOf S)) (tests-count D))
+
+-- what was made from one verdict is what an equal one makes
+pub after-told : (A : Type 0) (after : A) (f : Verdict → A) (u v : Verdict) → u ≡ v → after ≡ f u → after ≡ f v
+after-told A after f u v e h = h ∙ ap f e

@@ -1,5 +1,5 @@
 -- The pass over the copies: one more copy, and what it is in the end.
-use Prim.Native.Nat.{ℕ, suc, _+_, _≤_}
+use Prim.Native.Nat.{ℕ, suc, _+_, _≤_, _<_, _^_}
 use native.Mathlib.Omega.{arith}
 use native.Mathlib.Numerals.{add-one}
 use mathlib.Core.Path.{_≡_, refl, sym, _∙_, ap, ap₂}
@@ -8,6 +8,9 @@ use mathlib.Core.List.{List, [], _∷_, _++_, map}
 use lib.Dec.{eqb}
 use lib.IntN.{ℤ, pos}
 use lib.ListN.{length, getD, set}
+use lib.Signed.{mag}
+use mir.Syntax.{w64}
+use mir.Val.{hbits, toZ, ofZ}
 use borrow.Author.Tests.{lt-ltb, le-ltb, eq-eqb, ne-eqb}
 use Rattle.timing.specs.declared.Refusal.{Refusal}
 use Rattle.timing.specs.declared.Verdict.{Verdict}
@@ -22,7 +25,7 @@ use Rattle.timing.specs.Calls.{testRecords, hasTimes, arrivalOf, requiredOf, sl
 use Rattle.timing.proofs.Verdicts.{then-passed}
 use Rattle.theorems.proofs.Extremes.{larges, smalls}
 use Rattle.times.specs.Records.{withCopy, gathered, timesOf, nodeSoFar, firstOr, bettered}
-use Rattle.times.proofs.Elements.{at-each, set-place, each-same}
+use Rattle.times.proofs.Elements.{read-back, size-each, at-each, set-place, each-same}
 use Rattle.times.proofs.Passed.{same-passed}
 use Rattle.times.proofs.Lists.{upto-next, keep-yes, keep-no, best-snoc}
 
@@ -83,7 +86,7 @@ module _ (nodes : List ℕ) (ats rts sts : List ℤ) where
   met-other c v f =
       ap (λ (b : Bool). cond b (counted (soFar c v) c) (soFar c v)) (sym (ne-eqb (getD nodes c 0) v (λ q. f (sym q)))) ∙ copy-next nodes ats rts sts v c
 
-  pub known-next : (n c : ℕ) → set (map (λ v. hasTimes (soFar c v)) (upto n 0)) (getD nodes c 0) 1 ≡ map (λ v. hasTimes (soFar (c + 1) v)) (upto n 0)
+  known-next : (n c : ℕ) → set (map (λ v. hasTimes (soFar c v)) (upto n 0)) (getD nodes c 0) 1 ≡ map (λ v. hasTimes (soFar (c + 1) v)) (upto n 0)
   known-next n c =
       set-place 0 (λ v. hasTimes (soFar c v)) (λ v. hasTimes (soFar (c + 1) v)) n (getD nodes c 0) 1
       (λ h. has (soFar c (getD nodes c 0)) ∙ ap hasTimes (met-here c)) (λ v h q. ap hasTimes (met-other c v q))
@@ -106,7 +109,7 @@ module _ (nodes : List ℕ) (ats rts sts : List ℤ) where
       ∙ ap part (met-here c))
       (λ v h q. ap part (met-other c v q))
 
-  pub arrival-next : (n c : ℕ)
+  arrival-next : (n c : ℕ)
       → bettered larger (map (λ v. hasTimes (soFar c v)) (upto n 0)) (map (λ v. arrivalOf (soFar c v)) (upto n 0)) (getD nodes c 0) (getD ats c (pos 0))
       ≡ map (λ v. arrivalOf (soFar (c + 1) v)) (upto n 0)
   arrival-next n c = better-next larger arrivalOf n c (getD ats c (pos 0)) one
@@ -115,7 +118,7 @@ module _ (nodes : List ℕ) (ats rts sts : List ℤ) where
       one (Times a r s) = refl
       one None = refl
 
-  pub required-next : (n c : ℕ)
+  required-next : (n c : ℕ)
       → bettered smaller (map (λ v. hasTimes (soFar c v)) (upto n 0)) (map (λ v. requiredOf (soFar c v)) (upto n 0)) (getD nodes c 0) (getD rts c (pos 0))
       ≡ map (λ v. requiredOf (soFar (c + 1) v)) (upto n 0)
   required-next n c = better-next smaller requiredOf n c (getD rts c (pos 0)) one
@@ -124,7 +127,7 @@ module _ (nodes : List ℕ) (ats rts sts : List ℤ) where
       one (Times a r s) = refl
       one None = refl
 
-  pub slack-next : (n c : ℕ)
+  slack-next : (n c : ℕ)
       → bettered smaller (map (λ v. hasTimes (soFar c v)) (upto n 0)) (map (λ v. slackOf (soFar c v)) (upto n 0)) (getD nodes c 0) (getD sts c (pos 0))
       ≡ map (λ v. slackOf (soFar (c + 1) v)) (upto n 0)
   slack-next n c = better-next smaller slackOf n c (getD sts c (pos 0)) one
@@ -133,13 +136,69 @@ module _ (nodes : List ℕ) (ats rts sts : List ℤ) where
       one (Times a r s) = refl
       one None = refl
 
+  -- each node's place tells its times over the copies below c
+  pub record Gathered (n c : ℕ) (known : List ℕ) (na nr ns : List ℤ) : Type 0 where
+    pub flags : known ≡ map (λ v. hasTimes (soFar c v)) (upto n 0)
+    pub arrivals : na ≡ map (λ v. arrivalOf (soFar c v)) (upto n 0)
+    pub requireds : nr ≡ map (λ v. requiredOf (soFar c v)) (upto n 0)
+    pub slacks : ns ≡ map (λ v. slackOf (soFar c v)) (upto n 0)
+
+  -- before the first copy, where `lent` is what each slice has places
+  pub gathered-none : (lent : ℕ) (known : List ℕ) (na nr ns : List ℤ) → known ≡ map (λ v. 0) (upto lent 0)
+      → na ≡ map (λ v. pos 0) (upto lent 0) → nr ≡ map (λ v. pos 0) (upto lent 0) → ns ≡ map (λ v. pos 0) (upto lent 0)
+      → Gathered (length known) 0 known na nr ns
+  gathered-none lent known na nr ns k a r s =
+      let e : lent ≡ length known = sym (ap length k ∙ size-each (λ v. 0) lent) in
+      let zeros : map (λ v. pos 0) (upto lent 0) ≡ map (λ v. pos 0) (upto (length known) 0) = ap (λ (i : ℕ). map (λ v. pos 0) (upto i 0)) e in
+      record { flags = k ∙ ap (λ (i : ℕ). map (λ v. 0) (upto i 0)) e; arrivals = a ∙ zeros; requireds = r ∙ zeros; slacks = s ∙ zeros }
+
+  -- after one more
+  module _ (n c : ℕ) (known known′ : List ℕ) (na nr ns na′ nr′ ns′ : List ℤ) where
+    pub gathered-next : Gathered n c known na nr ns → known′ ≡ set known (getD nodes c 0) 1
+        → na′ ≡ bettered larger known na (getD nodes c 0) (getD ats c (pos 0))
+        → nr′ ≡ bettered smaller known nr (getD nodes c 0) (getD rts c (pos 0))
+        → ns′ ≡ bettered smaller known ns (getD nodes c 0) (getD sts c (pos 0))
+        → Gathered n (c + 1) known′ na′ nr′ ns′
+    gathered-next g k a r s = record {
+      flags = k ∙ ap (λ (l : List ℕ). set l (getD nodes c 0) 1) (g .flags) ∙ known-next n c;
+      arrivals = a ∙ ap₂ (λ (l : List ℕ) (old : List ℤ). bettered larger l old (getD nodes c 0) (getD ats c (pos 0))) (g .flags) (g .arrivals) ∙ arrival-next n c;
+      requireds = r ∙ ap₂ (λ (l : List ℕ) (old : List ℤ). bettered smaller l old (getD nodes c 0) (getD rts c (pos 0))) (g .flags) (g .requireds) ∙ required-next n c;
+      slacks = s ∙ ap₂ (λ (l : List ℕ) (old : List ℤ). bettered smaller l old (getD nodes c 0) (getD sts c (pos 0))) (g .flags) (g .slacks) ∙ slack-next n c;
+    }
+
+  -- after the last, with n written as m
+  module _ (n m c : ℕ) (known : List ℕ) (na nr ns : List ℤ) (g : Gathered n c known na nr ns) (e : n ≡ m) where
+    pub gathered-sizes : (length known ≡ m) × (length na ≡ m) × (length nr ≡ m) × (length ns ≡ m)
+    gathered-sizes = (
+      ap length (g .flags) ∙ size-each (λ v. hasTimes (soFar c v)) n ∙ e,
+      ap length (g .arrivals) ∙ size-each (λ v. arrivalOf (soFar c v)) n ∙ e,
+      ap length (g .requireds) ∙ size-each (λ v. requiredOf (soFar c v)) n ∙ e,
+      ap length (g .slacks) ∙ size-each (λ v. slackOf (soFar c v)) n ∙ e,
+    )
+
+    pub gathered-all : c ≡ length nodes
+        → (known ≡ map (λ v. hasTimes (soFar (length nodes) v)) (upto m 0))
+        × ((na ≡ map (λ v. arrivalOf (soFar (length nodes) v)) (upto m 0))
+        × ((nr ≡ map (λ v. requiredOf (soFar (length nodes) v)) (upto m 0)) × (ns ≡ map (λ v. slackOf (soFar (length nodes) v)) (upto m 0))))
+    gathered-all f = (
+      g .flags ∙ ap₂ (λ (i k : ℕ). map (λ v. hasTimes (soFar i v)) (upto k 0)) f e,
+      (
+        g .arrivals ∙ ap₂ (λ (i k : ℕ). map (λ v. arrivalOf (soFar i v)) (upto k 0)) f e,
+        (
+          g .requireds ∙ ap₂ (λ (i k : ℕ). map (λ v. requiredOf (soFar i v)) (upto k 0)) f e,
+          g .slacks ∙ ap₂ (λ (i k : ℕ). map (λ v. slackOf (soFar i v)) (upto k 0)) f e,
+        ),
+      ),
+    )
+
   -- after the last copy, and after a refusal
   module _ {A : Type 0} (z : A) (f : NodeTimes → A) (n : ℕ) (room : List A) where
-    pub records-filled : (m : ℕ) (tested : Verdict) → m ≡ n → tested ≡ Passed
-        → map (λ v. f (soFar (length nodes) v)) (upto m 0) ≡ recordsAfter f n nodes ats rts sts tested room
+    pub records-filled : (m : ℕ) (tested : Verdict) (after : List A) → m ≡ n → tested ≡ Passed
+        → after ≡ map (λ v. f (soFar (length nodes) v)) (upto m 0) → after ≡ recordsAfter f n nodes ats rts sts tested room
     unfolding recordsAfter
-    records-filled m tested e told =
-        ap (λ (k : ℕ). map (λ v. f (soFar (length nodes) v)) (upto k 0)) e
+    records-filled m tested after e told h =
+        h
+        ∙ ap (λ (k : ℕ). map (λ v. f (soFar (length nodes) v)) (upto k 0)) e
         ∙ each-same z (λ v. f (soFar (length nodes) v)) (λ v. f (nodeTimes n nodes ats rts sts v)) n (λ v h. ap f (node-is nodes ats rts sts v n h))
         ∙ ap (λ (v : Verdict). recordsAfter f n nodes ats rts sts v room) (sym told)
 
@@ -161,3 +220,8 @@ module _ (nodes : List ℕ) (ats rts sts : List ℤ) where
       let p = same-passed n k a (e₃ .0) in
       let q = same-passed n r s (e₄ .0) in
       (p .0, p .1, q .0, q .1)
+
+-- a slice of times with one more copy, whose node and time were read
+pub better-read : (pick : ℤ → ℤ → ℤ) (known : List ℕ) (old new : List ℤ) (v v′ : ℕ) (z t : ℤ) → mag z < 2 ^ hbits w64
+    → new ≡ bettered pick known old v (toZ w64 (ofZ w64 z)) → v ≡ v′ → z ≡ t → new ≡ bettered pick known old v′ t
+better-read pick known old new v v′ z t h e p q = e ∙ ap₂ (λ (x : ℕ) (y : ℤ). bettered pick known old x y) p (read-back z h ∙ q)

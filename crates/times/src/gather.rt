@@ -11,9 +11,9 @@ ghost use Rattle.timing.specs.Times.{larger as largerTime, smaller as smallerTi
 ghost use Rattle.timing.specs.Calls.{hasTimes, arrivalOf, requiredOf, slackOf};
 ghost use Rattle.times.specs.Records.{firstOr, bettered, nodeSoFar};
 use super::fill;
-use super::larger;
-use super::smaller;
 use super::time_at;
+use extremes::larger;
+use extremes::smaller;
 use timing::number_at;
 
 fn no_copy_met(known: &mut [u32])

@@ -12,7 +12,6 @@ ghost use Rattle.timing.specs.Lists.{keep, upto};
 ghost use Rattle.timing.specs.Refusals.{_then_};
 ghost use Rattle.timing.specs.Tests.{sameSizes, designSizes, nodeCount};
 ghost use Rattle.timing.specs.Times.{arrivalAt, requiredAt, slackAt, nodeTimes};
-ghost use Rattle.timing.specs.Times.{larger as largerTime, smaller as smallerTime};
 ghost use Rattle.timing.specs.Graphs.{design};
 ghost use Rattle.timing.specs.Calls.{graphSlices, graphOf, testTimes, arrivalsAfter, requiredsAfter, slacksAfter, recordOf, testRecords, hasTimes, arrivalOf, requiredOf, slackOf, recordsAfter};
 ghost use Rattle.times.specs.Passes.{noArrival, noRequired, timeOr, Step, raised, lowered, delayOf, Fit, Small};
@@ -20,6 +19,9 @@ ghost use Rattle.times.specs.Records.{withCopy, gathered, timesOf};
 
 mod gather;
 
+use extremes::larger;
+use extremes::smaller;
+use sizes::copy_sizes;
 use timing::NodeAnswer;
 use timing::NodeRecord;
 use timing::NodeTimes;
@@ -50,18 +52,6 @@ fn time_or(t: i64, none: i64, first: i64) -> i64
         return t;
     }
     if none < t { t } else { first }
-}
-
-fn larger(a: i64, b: i64) -> i64
-    ensures { λ r. ⌜ r ≡ largerTime a b ⌝ }
-{
-    if a < b { b } else { a }
-}
-
-fn smaller(a: i64, b: i64) -> i64
-    ensures { λ r. ⌜ r ≡ smallerTime a b ⌝ }
-{
-    if b < a { b } else { a }
 }
 
 fn sum(a: i64, b: i64) -> i64
@@ -457,15 +447,6 @@ fn over_copies(
         c += 1;
     }
     t
-}
-
-// 30 for the slices that hold what is known of each copy.
-fn copy_sizes(copies: usize, arrivals: usize, requireds: usize, slacks: usize) -> Verdict
-    ensures { λ r. ⌜ r ≡ (sameSizes copies arrivals requireds then sameSizes copies copies slacks) ⌝ }
-{
-    let sizes = timing::same_sizes(copies, arrivals, requireds);
-    let more = timing::same_sizes(copies, copies, slacks);
-    then(sizes, more)
 }
 
 fn record_tests(n: u32, copies: usize, arrivals: usize, requireds: usize, slacks: usize) -> Verdict

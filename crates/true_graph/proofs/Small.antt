@@ -19,7 +19,7 @@ use Rattle.timing.specs.Tests.{sameSizes, designSizes, listSizes, nodeCount, de
 use Rattle.timing.specs.Calls.{GraphSlices, graphOf, graphSizes, Outcome, outcome, Removal, removalTests, removeFromDesign, removeFromGraph, graphAnswer, testTimes}
 use Rattle.theorems.proofs.Lists.{holds, length-upto}
 use Rattle.timing.proofs.Verdicts.{then-passed, unless-passed}
-use Rattle.design.proofs.Laws.{length-cut}
+use Rattle.path_list.proofs.Laws.{length-cut}
 use Rattle.true_graph.specs.Small.{SmallRefusal, SmallGraph, Small}
 
 pub small-then : (v w : Verdict) → Small v → (v ≡ Passed → Small w) → Small (v then w)

@@ -4,7 +4,7 @@ ghost use Rattle.timing.specs.Graphs.{design};
 ghost use Rattle.timing.specs.Marks.{pathList};
 ghost use Rattle.timing.specs.Calls.{testDesign, testList, testDeck};
 use design::and_design_tests;
-use design::and_list_tests;
+use path_list::and_list_tests;
 use sizes::and_list_sizes;
 use sizes::design_sizes;
 use timing::MAX_ALLOWED_TIME;

@@ -1,6 +1,6 @@
 use lib.Dec.{leb}
 use Rattle.timing.specs.Refusals.{unless}
-use Rattle.design.proofs.Chains.{chain-two}
+use Rattle.timing.proofs.Verdicts.{chain-two}
 use borrow.Author.Needs.{needs}
 use Rattle.design.proofs.and_design_counts.Statement.{statement}
 use Rattle.design.proofs.and_design_counts.Tie as tie

@@ -3,7 +3,7 @@ use Rattle.timing.specs.Lists.{upto}
 use Rattle.timing.specs.Refusals.{firstBad}
 use Rattle.timing.specs.Graphs.{design}
 use Rattle.timing.specs.Tests.{designCounts, strays, falls, tooSlow, designTests}
-use Rattle.design.proofs.Chains.{chain-four}
+use Rattle.timing.proofs.Verdicts.{chain-four}
 use borrow.Author.Needs.{needs}
 use Rattle.design.proofs.and_design_tests.Statement.{statement}
 use Rattle.design.proofs.and_design_tests.Tie as tie

@@ -1,7 +1,12 @@
 -- The tests, and what follows from their answer.
-use mathlib.Core.Path.{_∙_, ap}
+use mathlib.Core.Path.{_≡_}
+use Prim.Native.Nat.{ℕ}
+use mathlib.Core.List.{List}
+use lib.IntN.{ℤ}
+use lib.ListN.{length}
 use Rattle.timing.specs.declared.Verdict.{Verdict}
 use Rattle.timing.specs.Calls.{testRecords, hasTimes, arrivalOf, requiredOf, slackOf, recordsAfter}
+use Rattle.times.proofs.Passed.{after-told}
 use borrow.Author.Needs.{needs}
 use Rattle.times.proofs.node_records.Statement.{statement}
 use Rattle.times.proofs.node_records.Tie as tie
@@ -31,16 +36,19 @@ returns c =
     let w = c .before .before .before .before .before in
     let p = w .before .before .before .before .before in
     let a = p .before .before .before .args in
-    let t = p .records-tests .ensures in
-    let e = w .records-where .ensures in (
-      e .0 ∙ t,
+    let u = p .records-tests .result in
+    let v = testRecords (a .n) (a .nodes .now) (a .arrivals .now) (a .requireds .now) (a .slacks .now) (length (a .known .now)) (length (a .na .now)) (length (a .nr .now)) (length (a .ns .now)) in
+    let t : u ≡ v = p .records-tests .ensures in
+    let e = w .records-where .ensures in
+    let m = w .records-where .last .1 .1 .1 .1 .1 .1 in (
+      after-told Verdict (w .records-where .result) (λ (x : Verdict). x) u v t (e .0),
       (
-        e .1 .0 ∙ ap (λ (v : Verdict). recordsAfter hasTimes (a .n) (a .nodes .now) (a .arrivals .now) (a .requireds .now) (a .slacks .now) v (a .known .now)) t,
+        after-told (List ℕ) (m .0) (λ (x : Verdict). recordsAfter hasTimes (a .n) (a .nodes .now) (a .arrivals .now) (a .requireds .now) (a .slacks .now) x (a .known .now)) u v t (e .1 .0),
         (
-          e .1 .1 .0 ∙ ap (λ (v : Verdict). recordsAfter arrivalOf (a .n) (a .nodes .now) (a .arrivals .now) (a .requireds .now) (a .slacks .now) v (a .na .now)) t,
+          after-told (List ℤ) (m .1 .0) (λ (x : Verdict). recordsAfter arrivalOf (a .n) (a .nodes .now) (a .arrivals .now) (a .requireds .now) (a .slacks .now) x (a .na .now)) u v t (e .1 .1 .0),
           (
-            e .1 .1 .1 .0 ∙ ap (λ (v : Verdict). recordsAfter requiredOf (a .n) (a .nodes .now) (a .arrivals .now) (a .requireds .now) (a .slacks .now) v (a .nr .now)) t,
-            e .1 .1 .1 .1 ∙ ap (λ (v : Verdict). recordsAfter slackOf (a .n) (a .nodes .now) (a .arrivals .now) (a .requireds .now) (a .slacks .now) v (a .ns .now)) t,
+            after-told (List ℤ) (m .1 .1 .0) (λ (x : Verdict). recordsAfter requiredOf (a .n) (a .nodes .now) (a .arrivals .now) (a .requireds .now) (a .slacks .now) x (a .nr .now)) u v t (e .1 .1 .1 .0),
+            after-told (List ℤ) (m .1 .1 .1 .0) (λ (x : Verdict). recordsAfter slackOf (a .n) (a .nodes .now) (a .arrivals .now) (a .requireds .now) (a .slacks .now) x (a .ns .now)) u v t (e .1 .1 .1 .1),
           ),
         ),
       ),

@@ -39,15 +39,16 @@ returns c =
     let a = p .args in
     let told = c .before .before .before .before .before .before .before .before .before .before .enum-told .given .1 in
     let n = records-sizes (a .nodes .now) (a .arrivals .now) (a .requireds .now) (a .slacks .now) (a .n) (length (a .known .now)) (length (a .na .now)) (length (a .nr .now)) (length (a .ns .now)) (sym (p .pre) ∙ told) .0 in
-    let f = c .before .before .before .before .before .fill-records .ensures in (
+    let f = c .before .before .before .before .before .fill-records .ensures in
+    let m = c .before .before .before .before .before .fill-records .last .1 .1 .1 .1 in (
       sym told,
       (
-        f .0 ∙ records-filled (a .nodes .now) (a .arrivals .now) (a .requireds .now) (a .slacks .now) 0 hasTimes (a .n) (a .known .now) (length (a .known .now)) (a .tested) n told,
+        records-filled (a .nodes .now) (a .arrivals .now) (a .requireds .now) (a .slacks .now) 0 hasTimes (a .n) (a .known .now) (length (a .known .now)) (a .tested) (m .0) n told (f .0),
         (
-          f .1 .0 ∙ records-filled (a .nodes .now) (a .arrivals .now) (a .requireds .now) (a .slacks .now) (pos 0) arrivalOf (a .n) (a .na .now) (length (a .known .now)) (a .tested) n told,
+          records-filled (a .nodes .now) (a .arrivals .now) (a .requireds .now) (a .slacks .now) (pos 0) arrivalOf (a .n) (a .na .now) (length (a .known .now)) (a .tested) (m .1 .0) n told (f .1 .0),
           (
-            f .1 .1 .0 ∙ records-filled (a .nodes .now) (a .arrivals .now) (a .requireds .now) (a .slacks .now) (pos 0) requiredOf (a .n) (a .nr .now) (length (a .known .now)) (a .tested) n told,
-            f .1 .1 .1 ∙ records-filled (a .nodes .now) (a .arrivals .now) (a .requireds .now) (a .slacks .now) (pos 0) slackOf (a .n) (a .ns .now) (length (a .known .now)) (a .tested) n told,
+            records-filled (a .nodes .now) (a .arrivals .now) (a .requireds .now) (a .slacks .now) (pos 0) requiredOf (a .n) (a .nr .now) (length (a .known .now)) (a .tested) (m .1 .1 .0) n told (f .1 .1 .0),
+            records-filled (a .nodes .now) (a .arrivals .now) (a .requireds .now) (a .slacks .now) (pos 0) slackOf (a .n) (a .ns .now) (length (a .known .now)) (a .tested) (m .1 .1 .1 .0) n told (f .1 .1 .1),
           ),
         ),
       ),

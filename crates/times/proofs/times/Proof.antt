@@ -1,9 +1,13 @@
 -- The tests, and what follows from their answer.
-use mathlib.Core.Path.{_∙_, ap}
+use mathlib.Core.Path.{_≡_}
+use mathlib.Core.List.{List}
+use lib.IntN.{ℤ}
+use lib.ListN.{length}
+use Rattle.times.proofs.Passed.{after-told}
 use borrow.Author.Needs.{needs}
 use Rattle.timing.specs.declared.Verdict.{Verdict}
 use Rattle.timing.specs.Graphs.{design}
-use Rattle.timing.specs.Calls.{graphSlices, arrivalsAfter, requiredsAfter, slacksAfter}
+use Rattle.timing.specs.Calls.{graphSlices, testTimes, arrivalsAfter, requiredsAfter, slacksAfter}
 use Rattle.times.proofs.times.Statement.{statement}
 use Rattle.times.proofs.times.Tie as tie
 
@@ -29,9 +33,20 @@ returns c =
     let a = p .before .before .before .before .before .before .before .args in
     let D = (design (a .n) (a .starts .now) (a .ends .now) (a .delays .now)) in
     let S = (graphSlices (a .nodes .now) (a .gs .now) (a .ge .now) (a .gn .now)) in
-    let t = p .times-tests .ensures in
+    let u = p .times-tests .result in
+    let v = testTimes D S (a .allowed) (length (a .arrivals .now)) (length (a .requireds .now)) (length (a .slacks .now)) in
+    let t : u ≡ v = p .times-tests .ensures in
     let e = w .times-where .ensures in
-    (e .0 ∙ t, (e .1 .0 ∙ ap (λ (v : Verdict). arrivalsAfter D S (a .allowed) v (a .arrivals .now)) t, (e .1 .1 .0 ∙ ap (λ (v : Verdict). requiredsAfter D S (a .allowed) v (a .requireds .now)) t, e .1 .1 .1 ∙ ap (λ (v : Verdict). slacksAfter D S (a .allowed) v (a .slacks .now)) t)))
+    let m = w .times-where .last .1 .1 .1 .1 .1 .1 .1 .1 .1 .1 in (
+      after-told Verdict (w .times-where .result) (λ (x : Verdict). x) u v t (e .0),
+      (
+        after-told (List ℤ) (m .0) (λ (x : Verdict). arrivalsAfter D S (a .allowed) x (a .arrivals .now)) u v t (e .1 .0),
+        (
+          after-told (List ℤ) (m .1 .0) (λ (x : Verdict). requiredsAfter D S (a .allowed) x (a .requireds .now)) u v t (e .1 .1 .0),
+          after-told (List ℤ) (m .1 .1 .0) (λ (x : Verdict). slacksAfter D S (a .allowed) x (a .slacks .now)) u v t (e .1 .1 .1),
+        ),
+      ),
+    )
 
 pub times-spec : {M : Type 1} → statement M
 times-spec =

@@ -1,9 +1,12 @@
 -- Where the tests passed, the passes have what they ask (`passed-ready`); a refusal stores nothing.
 use mathlib.Core.Path.{sym, _∙_, ap}
+use mathlib.Core.List.{List}
+use lib.IntN.{ℤ}
 use Rattle.timing.specs.declared.Verdict.{Verdict}
+use Rattle.timing.specs.declared.Verdict.the-variants.{Passed}
 use Rattle.timing.specs.Graphs.{design}
 use Rattle.timing.specs.Calls.{graphSlices, arrivalsAfter, requiredsAfter, slacksAfter}
-use Rattle.times.proofs.Passed.{passed-ready}
+use Rattle.times.proofs.Passed.{passed-ready, after-told}
 use borrow.Author.Needs.{needs}
 use Rattle.times.proofs.times_where.Statement.{statement}
 use Rattle.times.proofs.times_where.Tie as tie
@@ -38,7 +41,16 @@ returns c =
     let S = (graphSlices (a .nodes .now) (a .gs .now) (a .ge .now) (a .gn .now)) in
     let told = c .before .before .before .before .before .before .before .enum-told .given .1 in
     let f = c .before .before .before .fill-times .ensures in
-    (sym told, (f .0 ∙ ap (λ (v : Verdict). arrivalsAfter D S (a .allowed) v (a .arrivals .now)) (sym told), (f .1 .0 ∙ ap (λ (v : Verdict). requiredsAfter D S (a .allowed) v (a .requireds .now)) (sym told), f .1 .1 ∙ ap (λ (v : Verdict). slacksAfter D S (a .allowed) v (a .slacks .now)) (sym told))))
+    let m = c .before .before .before .fill-times .last .1 .1 .1 .1 .1 .1 in (
+      sym told,
+      (
+        after-told (List ℤ) (m .0) (λ (v : Verdict). arrivalsAfter D S (a .allowed) v (a .arrivals .now)) Passed (a .tested) (sym told) (f .0),
+        (
+          after-told (List ℤ) (m .1 .0) (λ (v : Verdict). requiredsAfter D S (a .allowed) v (a .requireds .now)) Passed (a .tested) (sym told) (f .1 .0),
+          after-told (List ℤ) (m .1 .1 .0) (λ (v : Verdict). slacksAfter D S (a .allowed) v (a .slacks .now)) Passed (a .tested) (sym told) (f .1 .1),
+        ),
+      ),
+    )
 
 returns-2 : tie.Need-returns-2
 unfolding arrivalsAfter requiredsAfter slacksAfter

@@ -2,7 +2,7 @@ use Rattle.timing.specs.Graphs.{design}
 use Rattle.timing.specs.Marks.{pathList}
 use Rattle.timing.specs.Tests.{designSizes, listSizes, designTests, listTests, allowedTest}
 use Rattle.timing.specs.Calls.{testList, testDeck}
-use Rattle.design.proofs.Chains.{after-four}
+use Rattle.timing.proofs.Verdicts.{after-four}
 use borrow.Author.Needs.{needs}
 use Rattle.unfit.proofs.test_deck.Statement.{statement}
 use Rattle.unfit.proofs.test_deck.Tie as tie

@@ -4,7 +4,7 @@ use Rattle.timing.specs.Refusals.{_then_}
 use Rattle.timing.specs.Tests.{designSizes, listSizes, designTests, listTests}
 use Rattle.timing.specs.Calls.{testList}
 use mathlib.Core.Path.{_∙_, ap}
-use Rattle.design.proofs.Chains.{chain-three}
+use Rattle.timing.proofs.Verdicts.{chain-three}
 use borrow.Author.Needs.{needs}
 use Rattle.unfit.proofs.test_list.Statement.{statement}
 use Rattle.unfit.proofs.test_list.Tie as tie

@@ -1,5 +1,10 @@
 -- The calls one after the other; the flag is set last, so that each of them finds it as it was.
-use Rattle.times.proofs.Elements.{read-back}
+use Prim.Native.Nat.{ℕ}
+use mathlib.Core.Path.{_∙_, ap}
+use lib.IntN.{pos}
+use lib.ListN.{getD, set}
+use Rattle.timing.specs.Times.{larger, smaller}
+use Rattle.times.proofs.Records.{better-read}
 use borrow.Author.Needs.{needs}
 use Rattle.times.proofs.gather.count_copy.Statement.{statement}
 use Rattle.times.proofs.gather.count_copy.Tie as tie
@@ -48,13 +53,20 @@ returns c =
     let s = c .before .before .before .before .before in
     let r = s .before .before .before .before .before in
     let a = r .before .before .before .before .before in
-    let v = a .before .before .before .before .number-at .ensures in (
-      rw (c .before .before .copy-met .ensures, v),
+    let m = a .before .before .before .before in
+    let g = m .before .before .before .args in
+    let i = m .number-at .result in
+    let v = getD (g .nodes .now) (g .c) 0 in
+    let e = m .number-at .ensures in (
+      c .before .before .copy-met .ensures ∙ ap (λ (x : ℕ). set (g .known .now) x 1) e,
       (
-        rw (a .raise-node .ensures, v, read-back (a .before .time-at .result) (a .before .time-at .ok), a .before .time-at .ensures),
+        better-read larger (g .known .now) (g .na .now) (a .raise-node .last .1 .0) i v (a .before .time-at .result) (getD (g .arrivals .now) (g .c) (pos 0))
+            (a .before .time-at .ok) (a .raise-node .ensures) e (a .before .time-at .ensures),
         (
-          rw (r .lower-node .ensures, v, read-back (r .before .time-at2 .result) (r .before .time-at2 .ok), r .before .time-at2 .ensures),
-          rw (s .lower-node2 .ensures, v, read-back (s .before .time-at3 .result) (s .before .time-at3 .ok), s .before .time-at3 .ensures),
+          better-read smaller (g .known .now) (g .nr .now) (r .lower-node .last .1 .0) i v (r .before .time-at2 .result) (getD (g .requireds .now) (g .c) (pos 0))
+              (r .before .time-at2 .ok) (r .lower-node .ensures) e (r .before .time-at2 .ensures),
+          better-read smaller (g .known .now) (g .ns .now) (s .lower-node2 .last .1 .0) i v (s .before .time-at3 .result) (getD (g .slacks .now) (g .c) (pos 0))
+              (s .before .time-at3 .ok) (s .lower-node2 .ensures) e (s .before .time-at3 .ensures),
         ),
       ),
     )

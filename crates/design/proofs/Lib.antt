@@ -1,4 +1,0 @@
--- Laws that several proofs cite; those of the flat list are for later crates too.
-pub mod Chains
-pub mod Loops
-pub mod Laws

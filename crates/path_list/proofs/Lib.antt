@@ -1,0 +1,3 @@
+-- Laws that several proofs cite; those of the flat list are for later crates too.
+pub mod Loops
+pub mod Laws
