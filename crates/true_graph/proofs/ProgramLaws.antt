@@ -25,12 +25,6 @@ pub program-short : (s : List ℕ) → length s ≤ 65536 → program s ≡ prog
 unfolding program
 program-short s h = rw (le-leb (length s) 65536 h)
 
--- the reader is lent the program's tables
-pub lent-read : (s : List ℕ)
-    → deckRead s (length (zeros 1024)) (length (zeros 1024)) (length (replicate 1024 (pos 0))) (length (zeros 1024)) (length (zeros 256)) ≡ parsed (readDeck s programTables)
-unfolding deckRead
-lent-read s = rw (length-replicate {A = ℕ} 1024 0, length-replicate 1024 (pos 0), length-replicate {A = ℕ} 256 0)
-
 -- the five tables
 pub record Lent : Type 0 where
   pub starts : List ℕ
@@ -45,6 +39,17 @@ lent starts ends delays listed lengths = record { starts = starts; ends = ends; 
 abbrev pub lentAfter : Outcome Deck → Lent → Lent
 lentAfter o K =
     lent (filled (λ d. d .design .starts) o (K .starts)) (filled (λ d. d .design .ends) o (K .ends)) (filled (λ d. d .design .delays) o (K .delays)) (filled (λ d. d .list .edges) o (K .listed)) (filled (λ d. d .list .lengths) o (K .lengths))
+
+-- the program's, and what the reader makes of them
+abbrev pub tables : Lent
+tables = lent (zeros 1024) (zeros 1024) (replicate 1024 (pos 0)) (zeros 1024) (zeros 256)
+
+abbrev pub tablesRead : List ℕ → Outcome Deck
+tablesRead s = deckRead s (length (tables .starts)) (length (tables .ends)) (length (tables .delays)) (length (tables .listed)) (length (tables .lengths))
+
+program-tables : (s : List ℕ) → tablesRead s ≡ parsed (readDeck s programTables)
+unfolding deckRead
+program-tables s = rw (length-replicate {A = ℕ} 1024 0, length-replicate 1024 (pos 0), length-replicate {A = ℕ} 256 0)
 
 abbrev LentFits : DeckRead → Lent → Type 0
 LentFits r K = ReadFits r (K .starts) (K .ends) (K .delays) (K .listed) (K .lengths)
@@ -73,13 +78,18 @@ after-removal (made d) e K =
 after-removal (refused x) e K = refl
 
 -- the same of what the reader answers and leaves behind
-module _ (s : List ℕ) (r : DeckRead) (K K′ : Lent) (e : r ≡ deckAnswer (parsed (readDeck s programTables))) (q : K′ ≡ lentAfter (parsed (readDeck s programTables)) K) where
-  pub read-fits : LentFits r K′
-  read-fits =
-      let o = parsed (readDeck s programTables) in
-      subst (λ (x : DeckRead). LentFits x K′) (sym e) (subst (LentFits (deckAnswer o)) (sym q) (after-fits o (even-read s programTables) K))
+module _ (s : List ℕ) (r : DeckRead) (K : Lent) (e : r ≡ deckAnswer (tablesRead s)) (q : K ≡ lentAfter (tablesRead s) tables) where
+  abbrev o : Outcome Deck
+  o = parsed (readDeck s programTables)
 
-  pub read-program : length s ≤ 65536 → lentRemoval r K′ ≡ program s
-  read-program h =
-      let o = parsed (readDeck s programTables) in
-      (λ i. lentRemoval (e i) (q i)) ∙ after-removal o (even-read s programTables) K ∙ sym (program-short s h)
+  answer : r ≡ deckAnswer o
+  answer = e ∙ ap deckAnswer (program-tables s)
+
+  after : K ≡ lentAfter o tables
+  after = q ∙ ap (λ (x : Outcome Deck). lentAfter x tables) (program-tables s)
+
+  pub read-fits : LentFits r K
+  read-fits = subst (λ (x : DeckRead). LentFits x K) (sym answer) (subst (LentFits (deckAnswer o)) (sym after) (after-fits o (even-read s programTables) tables))
+
+  pub read-program : length s ≤ 65536 → lentRemoval r K ≡ program s
+  read-program h = (λ i. lentRemoval (answer i) (after i)) ∙ after-removal o (even-read s programTables) tables ∙ sym (program-short s h)

@@ -1,5 +1,7 @@
 -- What the removal answers fits its room, and packed it is the graph that was made.
-use mathlib.Core.Path.{_≡_, ap}
+use Prim.Native.Nat.{ℕ}
+use mathlib.Core.Path.{_≡_, sym, ap}
+use lib.ListN.{length-replicate}
 use Rattle.timing.specs.Graphs.{Design, design, Graph}
 use Rattle.timing.specs.Marks.{pathList}
 use Rattle.timing.specs.Calls.{GraphSlices, graphSlices, Outcome, Removal, removal, lentRemoval, removeFromDesign, programRoom}
@@ -41,22 +43,22 @@ answered w =
     record { answer = e .0; nodes = e .1 .0; starts = e .1 .1 .0; ends = e .1 .1 .1 .0; names = e .1 .1 .1 .1 .0 }
 
 slice-aggregate-remove-from-design : tie.Need-slice-aggregate-remove-from-design
-slice-aggregate-remove-from-design c = search needs
+slice-aggregate-remove-from-design c = sym (length-replicate {A = ℕ} 512 0)
 
 slice-aggregate-remove-from-design-2 : tie.Need-slice-aggregate-remove-from-design-2
-slice-aggregate-remove-from-design-2 c = search needs
+slice-aggregate-remove-from-design-2 c = sym (length-replicate {A = ℕ} 2048 0)
 
 slice-aggregate-remove-from-design-3 : tie.Need-slice-aggregate-remove-from-design-3
-slice-aggregate-remove-from-design-3 c = search needs
+slice-aggregate-remove-from-design-3 c = sym (length-replicate {A = ℕ} 2048 0)
 
 slice-aggregate-remove-from-design-4 : tie.Need-slice-aggregate-remove-from-design-4
-slice-aggregate-remove-from-design-4 c = search needs
+slice-aggregate-remove-from-design-4 c = sym (length-replicate {A = ℕ} 2048 0)
 
 slice-aggregate-remove-from-design-5 : tie.Need-slice-aggregate-remove-from-design-5
-slice-aggregate-remove-from-design-5 c = search needs
+slice-aggregate-remove-from-design-5 c = sym (length-replicate {A = ℕ} 16384 0)
 
 remove-from-design-requires : tie.Need-remove-from-design-requires
-remove-from-design-requires c κs = search needs
+remove-from-design-requires c κs = tt
 
 slice-aggregate-write-made : tie.Need-slice-aggregate-write-made
 slice-aggregate-write-made c = search needs

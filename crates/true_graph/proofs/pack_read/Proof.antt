@@ -54,7 +54,7 @@ slice-aggregate-pack-tested-5 c =
     length-front (k .before .read2 .given .0 .1 .1 .1 .0) (start k .args .lengths .now) (fits k .4)
 
 pack-tested-requires : tie.Need-pack-tested-requires
-pack-tested-requires c κs = search needs
+pack-tested-requires c κs = tt
 
 returns : tie.Need-returns
 returns c =
