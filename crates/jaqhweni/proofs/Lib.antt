@@ -1,2 +1,3 @@
--- The number that the call on a deck answers.
+-- The numbers that the calls answer.
+pub mod Answers
 pub mod SmallProgram

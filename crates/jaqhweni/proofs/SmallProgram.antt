@@ -1,7 +1,7 @@
 -- What the C call answers fits 64 bits, whatever the deck and the room are.
 use Prim.Native.Nat.{ℕ, _+_, _≤_, _<_, min}
 use native.Mathlib.Omega.{arith}
-use mathlib.Core.Path.{_≡_, refl, sym, ap, _∙_, subst}
+use mathlib.Core.Path.{_≡_, refl, sym, subst}
 use mathlib.Core.Bool.{Bool, true, false, cond}
 use mathlib.Core.List.{List}
 use lib.Dec.{leb}
@@ -9,7 +9,6 @@ use lib.ListN.{length}
 use borrow.Author.Tests.{leb-true, leb-false}
 use Rattle.timing.specs.declared.Verdict.{Verdict}
 use Rattle.timing.specs.declared.Verdict.the-variants.{Passed, Refused}
-use Rattle.timing.specs.declared.Written.{Written}
 use Rattle.timing.specs.declared.Written.the-variants.{End}
 use Rattle.timing.specs.declared.Written.the-variants.{Refused as NotWritten}
 use Rattle.timing.specs.Graphs.{Design, Graph, designGraph}
@@ -17,12 +16,12 @@ use Rattle.timing.specs.Marks.{PathList, pathsOf}
 use Rattle.timing.specs.TrueGraphs.{trueGraph}
 use Rattle.timing.specs.Numbers.{writeAnswer}
 use Rattle.timing.specs.Refusals.{refusal, unless, _then_}
-use Rattle.timing.specs.Tests.{designSizes, listSizes, designTests, listTests, allowedTest, scratchTest, Room, roomTests}
+use Rattle.timing.specs.Tests.{designSizes, listSizes, designTests, listTests, scratchTest, Room, roomTests}
 use Rattle.timing.specs.Parsing.{Parsed, found, stopped}
 use Rattle.timing.specs.Decks.{Deck, readDeck}
 use Rattle.timing.specs.GraphBytes.{packedGraph}
 use Rattle.timing.specs.Calls.{Outcome, outcome, removal, removalTests, testDeck, parsed, programTables, programRoom, programRemoval, programFrom, program, cWritten, cNumber, cCall, roomAfterC, cRoom}
-use Rattle.true_graph.specs.Small.{SmallRefusal, SmallWritten, Small}
+use Rattle.true_graph.specs.Small.{SmallWritten, Small}
 use Rattle.true_graph.proofs.Small.{small-then, small-unless, small-sizes, small-list-sizes, small-design, small-list, small-scratch}
 use Rattle.true_graph.proofs.ReadLaws.{Within, within-deck}
 use Rattle.true_graph.proofs.ProgramLaws.{program-long, program-short}

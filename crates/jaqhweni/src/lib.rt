@@ -1,7 +1,7 @@
 // The C interface. Each function answers one signed 64-bit number; a refusal is minus its number and
 // 256 times its place. A slice is a pointer and a length (include/jaqhweni.h).
 ghost use mathlib.Core.Path.{_≡_};
-ghost use Prim.Native.Nat.{_≤_, _<_};
+ghost use Prim.Native.Nat.{_<_};
 ghost use lib.IntN.{pos, negℤ};
 ghost use lib.ListN.{length};
 ghost use Rattle.timing.specs.Graphs.{design};

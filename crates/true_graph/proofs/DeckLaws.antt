@@ -1,175 +1,126 @@
--- The removal that a deck asks for, and its graph packed: from the tests one after the other to `program` of `timing`.
-use Prim.Native.Nat.{ℕ, _+_, _≤_}
+-- The removal that a deck asks for, and its graph packed.
+use Prim.Native.Nat.{ℕ, _≤_}
 use native.Mathlib.Omega.{arith}
 use mathlib.Core.Path.{_≡_, refl, sym, ap, _∙_, subst}
-use mathlib.Core.Bool.{Bool, true, false, cond, _&&_}
-use mathlib.Core.List.{List, _++_, map}
-use lib.Dec.{T, eqb, leb, eqb-refl}
-use lib.ListN.{length, take, drop, length-append, length-map}
-use lib.Seq.{take-append-seam}
+use mathlib.Core.Bool.{_&&_}
+use mathlib.Core.List.{List, map}
+use lib.Dec.{leb}
+use lib.ListN.{length, take, drop, replicate, length-append, length-map, length-take, length-replicate}
+use borrow.Author.Tests.{le-leb}
 use Rattle.timing.specs.declared.Refusal.{Refusal}
 use Rattle.timing.specs.declared.Verdict.{Verdict}
 use Rattle.timing.specs.declared.Verdict.the-variants.{Passed, Refused}
 use Rattle.timing.specs.declared.Written.{Written}
 use Rattle.timing.specs.declared.GraphMade.{GraphMade}
-use Rattle.timing.specs.declared.GraphMade.the-variants.{Counts}
-use Rattle.timing.specs.declared.GraphMade.the-variants.{Refused as NoGraph}
 use Rattle.timing.specs.Lists.{placed}
 use Rattle.timing.specs.Graphs.{Design, Graph, Edge, designGraph}
-use Rattle.timing.specs.Marks.{PathList, pathsOf}
+use Rattle.timing.specs.Marks.{PathList, pathList, pathsOf}
 use Rattle.timing.specs.TrueGraphs.{trueGraph}
-use Rattle.timing.specs.WellFormed.{fewEnough}
 use Rattle.timing.specs.Refusals.{unless, _then_}
-use Rattle.timing.specs.Tests.{sameSizes, designSizes, listSizes, designTests, listTests, allowedTest, graphCounts, roomSizes}
+use Rattle.timing.specs.Tests.{designSizes, listSizes, designTests, listTests, allowedTest, graphCounts, roomSizes}
 use Rattle.timing.specs.GraphBytes.{packedGraph}
-use Rattle.timing.specs.Calls.{GraphSlices, graphSlices, graphOf, slicesOf, graphSizes, Outcome, made, refused, outcome, Removal, removalTests, removeFromDesign, testDeck, graphAnswer, nodesAfter, startsAfter, endsAfter, namesAfter, writing, roomAfterWriting, graphWriteTests, cWritten, roomAfterC}
-use Rattle.timing.proofs.Verdicts.{then-passed, unless-passed}
-use Rattle.theorems.proofs.Series.{graph-slices, slices-sizes, removal-few, outcome-made}
+use Rattle.timing.specs.Calls.{GraphSlices, graphSlices, graphOf, slicesOf, graphSizes, Outcome, made, refused, outcome, Removal, removal, lentRemoval, removalTests, removeFromDesign, testDeck, graphAnswer, nodesAfter, startsAfter, endsAfter, namesAfter, writing, roomAfterWriting, graphWriteTests, programRoom, programRemoval, cWritten, roomAfterC}
+use Rattle.timing.proofs.Verdicts.{then-passed}
+use Rattle.theorems.proofs.Series.{graph-slices, slices-sizes}
 use Rattle.theorems.proofs.Records.{front-made}
 use Rattle.removal.specs.Remove.{Answered}
-use Rattle.true_graph.specs.Deck.{deckRemoval}
+use Rattle.true_graph.specs.Small.{SmallGraph}
+use Rattle.true_graph.specs.Deck.{deckOf, MadeFits, madeWritten, madeRoom}
 
 passed-on : (v w : Verdict) → v ≡ Passed → (v then w) ≡ w
 passed-on v w e = ap (λ (y : Verdict). y then w) e
 
-pub same-passes : (a b c : ℕ) → b ≡ a → c ≡ a → sameSizes a b c ≡ Passed
-same-passes a b c p q = rw (p, q) (go (eqb a a) (eqb-refl a))
-  where
-    go : (b : Bool) → T b → unless 30 (b && b) ≡ Passed
-    go true t = refl
-    go false t = absurd t
-
 -- where the tests of a deck pass, removal from the design makes the same
-module _ (D : Design) (t : ℕ) (r : Removal) where
+module _ (D : Design) (L : PathList) (t : ℕ) where
   abbrev H : Graph
-  H = trueGraph (designGraph D) (pathsOf (r .list))
+  H = trueGraph (designGraph D) (pathsOf L)
 
-  pub deck-refused : (x : Refusal) → testDeck D (r .list) t ≡ Refused x → deckRemoval D t r ≡ refused x
-  unfolding deckRemoval
+  abbrev r : Removal
+  r = removal L programRoom 16384
+
+  pub deck-refused : (x : Refusal) → testDeck D L t ≡ Refused x → programRemoval (deckOf D L t) ≡ refused x
+  unfolding programRemoval
   deck-refused x e = ap (λ (v : Verdict). outcome (v then removalTests D (designGraph D) r) H) e
 
-  pub deck-passed : testDeck D (r .list) t ≡ Passed → roomSizes (r .room) ≡ Passed → removeFromDesign D r ≡ deckRemoval D t r
-  unfolding deckRemoval testDeck removeFromDesign
-  deck-passed e o =
+  pub deck-passed : testDeck D L t ≡ Passed → removeFromDesign D r ≡ programRemoval (deckOf D L t)
+  unfolding programRemoval testDeck removeFromDesign
+  deck-passed e =
       let w : Verdict = removalTests D (designGraph D) r in
-      let t₁ = then-passed (designSizes D) (listSizes (r .list) then (designTests D then (listTests D (r .list) then allowedTest t))) e in
-      let t₂ = then-passed (listSizes (r .list)) (designTests D then (listTests D (r .list) then allowedTest t)) (t₁ .1) in
-      let t₃ = then-passed (designTests D) (listTests D (r .list) then allowedTest t) (t₂ .1) in
-      let t₄ = then-passed (listTests D (r .list)) (allowedTest t) (t₃ .1) in
+      let t₁ = then-passed (designSizes D) (listSizes L then (designTests D then (listTests D L then allowedTest t))) e in
+      let t₂ = then-passed (listSizes L) (designTests D then (listTests D L then allowedTest t)) (t₁ .1) in
+      let t₃ = then-passed (designTests D) (listTests D L then allowedTest t) (t₂ .1) in
+      let t₄ = then-passed (listTests D L) (allowedTest t) (t₃ .1) in
       ap (λ (v : Verdict). outcome v H)
-      (passed-on (designSizes D) (listSizes (r .list) then (roomSizes (r .room) then (designTests D then (listTests D (r .list) then w)))) (t₁ .0)
-      ∙ passed-on (listSizes (r .list)) (roomSizes (r .room) then (designTests D then (listTests D (r .list) then w))) (t₂ .0)
-      ∙ passed-on (roomSizes (r .room)) (designTests D then (listTests D (r .list) then w)) o
-      ∙ passed-on (designTests D) (listTests D (r .list) then w) (t₃ .0)
-      ∙ passed-on (listTests D (r .list)) w (t₄ .0)
-      ∙ sym (passed-on (designSizes D then (listSizes (r .list) then (designTests D then (listTests D (r .list) then allowedTest t)))) w e))
+      (passed-on (designSizes D) (listSizes L then (roomSizes programRoom then (designTests D then (listTests D L then w)))) (t₁ .0)
+      ∙ passed-on (listSizes L) (roomSizes programRoom then (designTests D then (listTests D L then w))) (t₂ .0)
+      ∙ passed-on (designTests D) (listTests D L then w) (t₃ .0)
+      ∙ passed-on (listTests D L) w (t₄ .0)
+      ∙ sym (passed-on (designSizes D then (listSizes L then (designTests D then (listTests D L then allowedTest t)))) w e))
 
-  -- what is made is small enough for the writer
-  pub made-few : (G : Graph) → deckRemoval D t r ≡ made G → T (fewEnough G)
-  unfolding deckRemoval
-  made-few G e =
-      let m = outcome-made (testDeck D (r .list) t then removalTests D (designGraph D) r) H G e in
-      subst (λ (K : Graph). T (fewEnough K)) (m .1)
-      (removal-few D (designGraph D) r (then-passed (testDeck D (r .list) t) (removalTests D (designGraph D) r) (m .0) .1))
+-- the room of a removal, afterwards
+abbrev pub roomsAfter : Outcome Graph → GraphSlices → GraphSlices
+roomsAfter o S = graphSlices (nodesAfter o (S .nodes)) (startsAfter o (S .starts)) (endsAfter o (S .ends)) (namesAfter o (S .names))
 
-pub answered-refused : (o : Outcome Graph) (x : Refusal) (nodes from to via : List ℕ) → o ≡ refused x → Answered o (NoGraph x) nodes from to via nodes from to via
-answered-refused o x nodes from to via e =
-    subst (λ (y : Outcome Graph). Answered y (NoGraph x) nodes from to via nodes from to via) (sym e)
-    (record { answer = refl; nodes = refl; starts = refl; ends = refl; names = refl })
+-- a front that is as long as was asked for
+pub length-front : {A : Type 0} (k : ℕ) (xs : List A) → k ≤ length xs → k ≡ length (take k xs)
+length-front k xs h = omega (arith, h, length-take k xs)
 
--- the graph that counts are of
-abbrev copiesOf : GraphMade → ℕ
-copiesOf (Counts c e) = c
-copiesOf (NoGraph r) = 0
+pub length-placed : {A : Type 0} (xs room : List A) (k : ℕ) → k ≡ length xs → k ≤ length (placed xs room)
+length-placed xs room k e = omega (arith, e, length-append xs (drop (length xs) room))
 
-abbrev edgesIn : GraphMade → ℕ
-edgesIn (Counts c e) = e
-edgesIn (NoGraph r) = 0
+edges-placed : (G : Graph) (f : Edge → ℕ) (room : List ℕ) → length (G .edges) ≤ length (placed (map f (G .edges)) room)
+edges-placed G f room = length-placed (map f (G .edges)) room (length (G .edges)) (sym (length-map (G .edges) f))
 
-abbrev isMade : GraphMade → Type 0
-isMade (Counts c e) = Unit {0}
-isMade (NoGraph r) = ⊥
-
-pub record MadeOf (o : Outcome Graph) (copies edges : ℕ) : Type 0 where
-  pub graph : Graph
-  pub is-made : o ≡ made graph
-  pub copies-are : copies ≡ length (graph .nodes)
-  pub edges-are : edges ≡ length (graph .edges)
-
-pub made-of : (o : Outcome Graph) (copies edges : ℕ) → Counts copies edges ≡ graphAnswer o → MadeOf o copies edges
-made-of (made G) copies edges e = record { graph = G; is-made = refl; copies-are = ap copiesOf e; edges-are = ap edgesIn e }
-made-of (refused r) copies edges e = absurd (subst isMade e tt)
-
--- and the refusal
-abbrev refusalIn : Refusal → GraphMade → Refusal
-refusalIn d (Counts c e) = d
-refusalIn d (NoGraph r) = r
-
-pub refused-of : (o : Outcome Graph) (x : Refusal) → NoGraph x ≡ graphAnswer o → o ≡ refused x
-refused-of (made G) x e = absurd (subst (λ (g : GraphMade). isMade g) (sym e) tt)
-refused-of (refused r) x e = ap refused (sym (ap (refusalIn x) e))
-
--- what a room that was filled holds in front
-pub record Front {A : Type 0} (xs room : List A) (k : ℕ) : Type 0 where
-  pub fits : k ≤ length room
-  pub is : take k room ≡ xs
-
-pub placed-front : {A : Type 0} (xs room room′ : List A) (k : ℕ) → k ≡ length xs → room′ ≡ placed xs room → Front xs room′ k
-placed-front xs room room′ k p e =
-    record {
-      fits = omega (arith, p, ap length e, length-append xs (drop (length xs) room));
-      is = rw (p, e) (take-append-seam xs (drop (length xs) room));
-    }
-
-module _ (o : Outcome Graph) (copies edges : ℕ) (m : MadeOf o copies edges) (nodes from to via nodes′ from′ to′ via′ : List ℕ) (a : Answered o (Counts copies edges) nodes from to via nodes′ from′ to′ via′) where
-  abbrev M : Graph
-  M = m .graph
-
-  pub nodes-front : Front (slicesOf M .nodes) nodes′ copies
-  nodes-front = placed-front (slicesOf M .nodes) nodes nodes′ copies (m .copies-are) (a .nodes ∙ ap (λ (y : Outcome Graph). nodesAfter y nodes) (m .is-made))
-
-  pub from-front : Front (slicesOf M .starts) from′ edges
-  from-front =
-      placed-front (slicesOf M .starts) from from′ edges (m .edges-are ∙ sym (length-map (M .edges) (λ (e : Edge). e .start)))
-      (a .starts ∙ ap (λ (y : Outcome Graph). startsAfter y from) (m .is-made))
-
-  pub to-front : Front (slicesOf M .ends) to′ edges
-  to-front =
-      placed-front (slicesOf M .ends) to to′ edges (m .edges-are ∙ sym (length-map (M .edges) (λ (e : Edge). e .end)))
-      (a .ends ∙ ap (λ (y : Outcome Graph). endsAfter y to) (m .is-made))
-
-  pub via-front : Front (slicesOf M .names) via′ edges
-  via-front =
-      placed-front (slicesOf M .names) via via′ edges (m .edges-are ∙ sym (length-map (M .edges) (λ (e : Edge). e .name)))
-      (a .names ∙ ap (λ (y : Outcome Graph). namesAfter y via) (m .is-made))
-
-  pub front-slices : graphSlices (take copies nodes′) (take edges from′) (take edges to′) (take edges via′) ≡ slicesOf M
-  front-slices = λ i. graphSlices (nodes-front .is i) (from-front .is i) (to-front .is i) (via-front .is i)
+after-fits : (o : Outcome Graph) (S : GraphSlices) → MadeFits (graphAnswer o) (roomsAfter o S)
+after-fits (made G) S =
+    (length-placed (G .nodes) (S .nodes) (length (G .nodes)) refl, edges-placed G (λ e. e .start) (S .starts), edges-placed G (λ e. e .end) (S .ends), edges-placed G (λ e. e .name) (S .names))
+after-fits (refused x) S = tt
 
 -- the writer passes, and writes the graph that was made
-counts-passed : (G : Graph) → T (fewEnough G) → graphCounts G ≡ Passed
-counts-passed G t = go (fewEnough G) t
-  where
-    go : (b : Bool) → T b → unless 32 b ≡ Passed
-    go true t = refl
-    go false t = absurd t
+few-passed : (a b : ℕ) → a ≤ 16384 → b ≤ 65536 → unless 32 (leb a 16384 && leb b 65536) ≡ Passed
+few-passed a b h k = rw (le-leb a 16384 h, le-leb b 65536 k)
 
-write-passed : (G : Graph) → T (fewEnough G) → graphWriteTests (slicesOf G) ≡ Passed
+write-passed : (G : Graph) → SmallGraph (graphAnswer (made G)) → graphWriteTests (slicesOf G) ≡ Passed
 unfolding graphWriteTests
-write-passed G t =
-    passed-on (graphSizes (slicesOf G)) (graphCounts (graphOf (slicesOf G))) (slices-sizes G) ∙ ap graphCounts (graph-slices G) ∙ counts-passed G t
+write-passed G s =
+    passed-on (graphSizes (slicesOf G)) (graphCounts (graphOf (slicesOf G))) (slices-sizes G)
+    ∙ ap graphCounts (graph-slices G)
+    ∙ few-passed (length (G .nodes)) (length (G .edges)) (s .0) (s .1)
 
-module _ (o : Outcome Graph) (G : Graph) (e : o ≡ made G) (t : T (fewEnough G)) (S : GraphSlices) (q : S ≡ slicesOf G) (room : List ℕ) where
-  pub pack-answer : writing (graphWriteTests S) room (packedGraph (graphOf S)) ≡ cWritten o room
-  pack-answer =
-      ap (λ (x : GraphSlices). writing (graphWriteTests x) room (packedGraph (graphOf x))) q
-      ∙ ap (λ (v : Verdict). writing v room (packedGraph (graphOf (slicesOf G)))) (write-passed G t)
-      ∙ ap (λ (K : Graph). writing Passed room (packedGraph K)) (graph-slices G)
-      ∙ ap (λ (y : Outcome Graph). cWritten y room) (sym e)
+after-written : (o : Outcome Graph) (S : GraphSlices) (room : List ℕ) → SmallGraph (graphAnswer o) → madeWritten (graphAnswer o) (roomsAfter o S) room ≡ cWritten o room
+after-written (made G) S room s =
+    ap (λ (x : GraphSlices). writing (graphWriteTests x) room (packedGraph (graphOf x))) (front-made G S)
+    ∙ ap (λ (v : Verdict). writing v room (packedGraph (graphOf (slicesOf G)))) (write-passed G s)
+    ∙ ap (λ (K : Graph). writing Passed room (packedGraph K)) (graph-slices G)
+after-written (refused x) S room s = refl
 
-  pub pack-room : roomAfterWriting (graphWriteTests S) room (packedGraph (graphOf S)) ≡ roomAfterC o room
-  pack-room =
-      ap (λ (x : GraphSlices). roomAfterWriting (graphWriteTests x) room (packedGraph (graphOf x))) q
-      ∙ ap (λ (v : Verdict). roomAfterWriting v room (packedGraph (graphOf (slicesOf G)))) (write-passed G t)
-      ∙ ap (λ (K : Graph). roomAfterWriting Passed room (packedGraph K)) (graph-slices G)
-      ∙ ap (λ (y : Outcome Graph). roomAfterC y room) (sym e)
+after-room : (o : Outcome Graph) (S : GraphSlices) (room : List ℕ) → SmallGraph (graphAnswer o) → madeRoom (graphAnswer o) (roomsAfter o S) room ≡ roomAfterC o room
+after-room (made G) S room s =
+    ap (λ (x : GraphSlices). roomAfterWriting (graphWriteTests x) room (packedGraph (graphOf x))) (front-made G S)
+    ∙ ap (λ (v : Verdict). roomAfterWriting v room (packedGraph (graphOf (slicesOf G)))) (write-passed G s)
+    ∙ ap (λ (K : Graph). roomAfterWriting Passed room (packedGraph K)) (graph-slices G)
+after-room (refused x) S room s = refl
+
+-- the same of what a removal answers and leaves behind
+module _ (o : Outcome Graph) (r : GraphMade) (S S′ : GraphSlices) (a : Answered o r (S .nodes) (S .starts) (S .ends) (S .names) (S′ .nodes) (S′ .starts) (S′ .ends) (S′ .names)) where
+  after : S′ ≡ roomsAfter o S
+  after = λ i. graphSlices (a .nodes i) (a .starts i) (a .ends i) (a .names i)
+
+  pub made-fits : MadeFits r S′
+  made-fits = subst (λ (x : GraphMade). MadeFits x S′) (sym (a .answer)) (subst (MadeFits (graphAnswer o)) (sym after) (after-fits o S))
+
+  pub made-written : (o′ : Outcome Graph) → o ≡ o′ → SmallGraph (graphAnswer o) → (room : List ℕ) (w : Written) → w ≡ madeWritten r S′ room → w ≡ cWritten o′ room
+  made-written o′ p s room w e = e ∙ (λ i. madeWritten (a .answer i) (after i) room) ∙ after-written o S room s ∙ ap (λ (x : Outcome Graph). cWritten x room) p
+
+  pub made-room : (o′ : Outcome Graph) → o ≡ o′ → SmallGraph (graphAnswer o) → (room room′ : List ℕ) → room′ ≡ madeRoom r S′ room → room′ ≡ roomAfterC o′ room
+  made-room o′ p s room room′ e = e ∙ (λ i. madeRoom (a .answer i) (after i) room) ∙ after-room o S room s ∙ ap (λ (x : Outcome Graph). roomAfterC x room) p
+
+-- a removal in the program's room and scratch
+abbrev pub zeros : ℕ → List ℕ
+zeros n = replicate n 0
+
+pub program-lent : (listed lengths : List ℕ) → lentRemoval listed lengths (zeros 512) (zeros 2048) (zeros 2048) (zeros 2048) (zeros 16384) ≡ removal (pathList listed lengths) programRoom 16384
+program-lent listed lengths = go (zeros 512) (zeros 2048) (zeros 16384) (length-replicate {A = ℕ} 512 0) (length-replicate {A = ℕ} 2048 0) (length-replicate {A = ℕ} 16384 0)
+  where
+    go : (nodes edges scratch : List ℕ) → length nodes ≡ 512 → length edges ≡ 2048 → length scratch ≡ 16384 → lentRemoval listed lengths nodes edges edges edges scratch ≡ removal (pathList listed lengths) programRoom 16384
+    go nodes edges scratch a b c = λ i. removal (pathList listed lengths) (record { nodes = a i; starts = b i; ends = b i; names = b i }) (c i)

@@ -1,29 +1,24 @@
 -- Reading a deck: no place of a refusal is past the bytes, and what is found fits the tables.
-use Prim.Native.Nat.{ℕ, zero, suc, _+_, _≤_, _<_}
+use Prim.Native.Nat.{ℕ, zero, suc, _+_, _≤_}
 use native.Mathlib.Omega.{arith}
-use mathlib.Core.Path.{_≡_, refl, sym, ap, _∙_, subst}
+use mathlib.Core.Path.{_≡_, refl, sym, subst}
 use mathlib.Core.Bool.{Bool, true, false, cond}
-use mathlib.Core.List.{List, [], _∷_, _++_, map}
+use mathlib.Core.List.{List, _∷_}
 use lib.Dec.{leb}
 use lib.ListN.{length, drop, length-drop, length-map}
-use borrow.Author.Tests.{leb-false}
 use Rattle.timing.specs.declared.Verdict.{Verdict}
 use Rattle.timing.specs.declared.Verdict.the-variants.{Passed, Refused}
 use Rattle.timing.specs.declared.Groups.{Groups}
 use Rattle.timing.specs.declared.Groups.the-variants.{Number, Ended, Unfit}
-use Rattle.timing.specs.Graphs.{Design}
-use Rattle.timing.specs.Marks.{PathList, pathList}
 use Rattle.timing.specs.Refusals.{refusal, unless, _then_}
 use Rattle.timing.specs.Numbers.{groupsIn, numberAnswer, readNumber}
 use Rattle.timing.specs.Delays.{delayOf}
 use Rattle.timing.specs.Parsing.{Parsed, found, stopped, Reader, onward, _>>=_, _>>_, return, tested, parsedNumber, number, repeated, Row, row, ended}
-use Rattle.timing.specs.Decks.{Deck, Tables, paths, deckReader, readDeck}
+use Rattle.timing.specs.Decks.{Deck, Tables, paths, readDeck}
 use Rattle.timing.specs.Calls.{Outcome, made, refused, parsed}
 use Rattle.packed.proofs.Numbers.{Inside, number-inside}
 use Rattle.deck_reader.specs.Reading.{deckFrom, edgeCount, edgesPlace, rowsFrom, Fits}
-use Rattle.deck_reader.proofs.Reading.{Is, is-deck, length-rows}
-use Rattle.true_graph.specs.Small.{SmallRefusal, Small}
-use Rattle.true_graph.proofs.Small.{small-then, small-unless}
+use Rattle.deck_reader.proofs.Reading.{Is, is-deck}
 
 -- no place is past the bytes
 abbrev pub Within : {A : Type 0} → List ℕ → Parsed A → Type 0
@@ -105,33 +100,29 @@ within-deck s tables =
     (λ list t r. within-onward s (number s t) _ (within-number s t r)
     (λ allowed x y. within-onward s (ended s x) _ (within-ended s x y) (λ z aa bb. bb))))))))))
 
--- a deck that is read: its three slices of edges are of one length, and it fits the tables
-pub record ReadSizes (d : Deck) (tables : Tables) : Type 0 where
+-- a deck that is read has three slices of edges of one length
+pub record Even (d : Deck) : Type 0 where
   pub ends : length (d .design .ends) ≡ length (d .design .starts)
   pub delays : length (d .design .delays) ≡ length (d .design .starts)
 
-pub read-sizes : (s : List ℕ) (tables : Tables) (d : Deck) → parsed (readDeck s tables) ≡ made d → ReadSizes d tables
+abbrev pub EvenRead : Outcome Deck → Type 0
+EvenRead (made d) = Even d
+EvenRead (refused r) = Unit {0}
+
+pub even-read : (s : List ℕ) (tables : Tables) → EvenRead (parsed (readDeck s tables))
 unfolding deckFrom
-read-sizes s tables d e = go (readDeck s tables) (is-deck s tables) e
+even-read s tables = go (readDeck s tables) (is-deck s tables)
   where
-    of : Outcome Deck → Deck
-    of (made x) = x
-    of (refused r) = d
-
-    isMade : Outcome Deck → Type 0
-    isMade (made x) = Unit {0}
-    isMade (refused r) = ⊥
-
     rows : List Row
     rows = rowsFrom s (edgeCount s 0) (edgesPlace s 0)
 
-    sized : ReadSizes (deckFrom s 0) tables
-    sized =
+    even : Even (deckFrom s 0)
+    even =
         let a = length-map rows (λ (r : Row). r .first) in
         let b = length-map rows (λ (r : Row). r .second) in
         let c = length-map rows (λ (r : Row). delayOf (r .third)) in
         record { ends = omega (arith, a, b); delays = omega (arith, a, c) }
 
-    go : (p : Parsed Deck) → Is (λ x next. (x ≡ deckFrom s 0) × Fits s 0 tables) p → parsed p ≡ made d → ReadSizes d tables
-    go (found x at) h q = subst (λ (y : Deck). ReadSizes y tables) (sym (h .0) ∙ ap of q) sized
-    go (stopped r) h q = absurd (subst isMade (sym q) tt)
+    go : (p : Parsed Deck) → Is (λ x next. (x ≡ deckFrom s 0) × Fits s 0 tables) p → EvenRead (parsed p)
+    go (found x at) h = subst Even (sym (h .0)) even
+    go (stopped r) h = tt

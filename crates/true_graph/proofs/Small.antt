@@ -2,7 +2,7 @@
 -- are looked at, and what is made has passed 33 and 34.
 use Prim.Native.Nat.{ℕ, suc, _+_, _*_, _≤_, min}
 use native.Mathlib.Omega.{arith}
-use mathlib.Core.Path.{_≡_, refl, sym, subst}
+use mathlib.Core.Path.{_≡_, refl, subst}
 use mathlib.Core.Bool.{Bool, true, false, cond, not, _&&_}
 use mathlib.Core.List.{List, [], _∷_}
 use lib.Dec.{eqb, ltb, leb, leb→le}
@@ -11,16 +11,16 @@ use Rattle.timing.specs.declared.Verdict.{Verdict}
 use Rattle.timing.specs.declared.Verdict.the-variants.{Passed, Refused}
 use Rattle.timing.specs.Lists.{isNil, anyOf, eachNext, upto, sum}
 use Rattle.timing.specs.Graphs.{Design, Graph, designGraph}
-use Rattle.timing.specs.Marks.{PathList, pathsOf, cut}
+use Rattle.timing.specs.Marks.{PathList, pathsOf}
 use Rattle.timing.specs.TrueGraphs.{trueGraph}
 use Rattle.timing.specs.WellFormed.{wellFormed}
 use Rattle.timing.specs.Refusals.{refusal, unless, firstBad, _then_}
 use Rattle.timing.specs.Tests.{sameSizes, designSizes, listSizes, nodeCount, designCounts, strays, falls, tooSlow, designTests, listCounts, meets, listTests, allowedTest, graphTest, candidates, scratchTest, Room, roomSizes, roomTests}
-use Rattle.timing.specs.Calls.{GraphSlices, graphOf, graphSizes, Outcome, outcome, Removal, removalTests, removeFromDesign, removeFromGraph, graphAnswer, testTimes}
+use Rattle.timing.specs.Calls.{GraphSlices, graphOf, graphSizes, outcome, Removal, removeFromDesign, removeFromGraph, graphAnswer, testTimes}
 use Rattle.theorems.proofs.Lists.{holds, length-upto}
 use Rattle.timing.proofs.Verdicts.{then-passed, unless-passed}
 use Rattle.path_list.proofs.Laws.{length-cut}
-use Rattle.true_graph.specs.Small.{SmallRefusal, SmallGraph, Small}
+use Rattle.true_graph.specs.Small.{SmallGraph, Small}
 
 pub small-then : (v w : Verdict) → Small v → (v ≡ Passed → Small w) → Small (v then w)
 small-then Passed w a b = b refl

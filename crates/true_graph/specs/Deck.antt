@@ -1,25 +1,50 @@
--- The removal that the deck program and the C call make, and the tables that they make it in.
-use Prim.Native.Nat.{ℕ}
-use mathlib.Core.Path.{_≡_}
-use Rattle.timing.specs.Graphs.{Design, Graph, designGraph}
-use Rattle.timing.specs.Marks.{pathsOf}
-use Rattle.timing.specs.TrueGraphs.{trueGraph}
-use Rattle.timing.specs.Refusals.{_then_}
-use Rattle.timing.specs.Calls.{Outcome, outcome, Removal, testDeck, removalTests}
+-- What is found in front of tables and room that were lent on: the deck that was read, and the graph that was made.
+use Prim.Native.Nat.{ℕ, _≤_}
+use mathlib.Core.List.{List}
+use lib.IntN.{ℤ}
+use lib.ListN.{length, take}
+use Rattle.timing.specs.declared.Written.{Written}
+use Rattle.timing.specs.declared.Written.the-variants.{Refused as NotWritten}
+use Rattle.timing.specs.declared.DeckRead.{DeckRead}
+use Rattle.timing.specs.declared.DeckRead.the-variants.{Deck as DeckFound}
+use Rattle.timing.specs.declared.DeckRead.the-variants.{Refused as NoDeck}
+use Rattle.timing.specs.declared.GraphMade.{GraphMade}
+use Rattle.timing.specs.declared.GraphMade.the-variants.{Counts}
+use Rattle.timing.specs.declared.GraphMade.the-variants.{Refused as NoGraph}
+use Rattle.timing.specs.Graphs.{Design, design, Graph}
+use Rattle.timing.specs.Marks.{PathList, pathList}
+use Rattle.timing.specs.Decks.{Deck}
+use Rattle.timing.specs.GraphBytes.{packedGraph}
+use Rattle.timing.specs.Calls.{GraphSlices, graphSlices, graphOf, Outcome, refused, writing, roomAfterWriting, graphWriteTests, programRemoval}
 
--- `programRemoval` of `timing`, in any room
-unfoldable pub deckRemoval : Design → ℕ → Removal → Outcome Graph
-deckRemoval D T r = outcome (testDeck D (r .list) T then removalTests D (designGraph D) r) (trueGraph (designGraph D) (pathsOf (r .list)))
+abbrev pub deckOf : Design → PathList → ℕ → Deck
+deckOf D L T = record { design = D; list = L; allowed = T }
 
--- the sizes of the program's tables, room and scratch
-pub record Sized (starts ends delays listed lengths nodes from to via scratch : ℕ) : Type 0 where
-  pub starts-are : starts ≡ 1024
-  pub ends-are : ends ≡ 1024
-  pub delays-are : delays ≡ 1024
-  pub listed-are : listed ≡ 1024
-  pub lengths-are : lengths ≡ 256
-  pub nodes-are : nodes ≡ 512
-  pub from-are : from ≡ 2048
-  pub to-are : to ≡ 2048
-  pub via-are : via ≡ 2048
-  pub scratch-are : scratch ≡ 16384
+-- the graph in front of a room
+abbrev pub frontSlices : ℕ → ℕ → GraphSlices → GraphSlices
+frontSlices copies edges S = graphSlices (take copies (S .nodes)) (take edges (S .starts)) (take edges (S .ends)) (take edges (S .names))
+
+abbrev pub MadeFits : GraphMade → GraphSlices → Type 0
+MadeFits (Counts copies edges) S = (copies ≤ length (S .nodes)) × (edges ≤ length (S .starts)) × (edges ≤ length (S .ends)) × (edges ≤ length (S .names))
+MadeFits (NoGraph r) S = Unit {0}
+
+-- and packed
+abbrev pub madeWritten : GraphMade → GraphSlices → List ℕ → Written
+madeWritten (Counts copies edges) S room = writing (graphWriteTests (frontSlices copies edges S)) room (packedGraph (graphOf (frontSlices copies edges S)))
+madeWritten (NoGraph r) S room = NotWritten r
+
+abbrev pub madeRoom : GraphMade → GraphSlices → List ℕ → List ℕ
+madeRoom (Counts copies edges) S room = roomAfterWriting (graphWriteTests (frontSlices copies edges S)) room (packedGraph (graphOf (frontSlices copies edges S)))
+madeRoom (NoGraph r) S room = room
+
+-- the deck in front of tables
+abbrev pub ReadFits : DeckRead → List ℕ → List ℕ → List ℤ → List ℕ → List ℕ → Type 0
+ReadFits (DeckFound n edges count paths t) starts ends delays listed lengths =
+    (edges ≤ length starts) × (edges ≤ length ends) × (edges ≤ length delays) × (count ≤ length listed) × (paths ≤ length lengths)
+ReadFits (NoDeck r) starts ends delays listed lengths = Unit {0}
+
+-- and its true graph
+abbrev pub readRemoval : DeckRead → List ℕ → List ℕ → List ℤ → List ℕ → List ℕ → Outcome Graph
+readRemoval (DeckFound n edges count paths t) starts ends delays listed lengths =
+    programRemoval (deckOf (design n (take edges starts) (take edges ends) (take edges delays)) (pathList (take count listed) (take paths lengths)) t)
+readRemoval (NoDeck r) starts ends delays listed lengths = refused r

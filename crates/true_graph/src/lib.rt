@@ -1,11 +1,9 @@
 // From a packed deck to its packed true graph.
 ghost use mathlib.Core.Path.{_≡_};
-ghost use lib.ListN.{length};
 ghost use Rattle.timing.specs.Graphs.{design};
-ghost use Rattle.timing.specs.Calls.{lentRemoval, program, cWritten, roomAfterC};
-ghost use Rattle.removal.specs.Fill.{SameRooms};
-ghost use Rattle.removal.specs.Remove.{Answered};
-ghost use Rattle.true_graph.specs.Deck.{deckRemoval, Sized};
+ghost use Rattle.timing.specs.Marks.{pathList};
+ghost use Rattle.timing.specs.Calls.{graphSlices, removal, removeFromDesign, programRoom, programRemoval, program, cWritten, roomAfterC};
+ghost use Rattle.true_graph.specs.Deck.{deckOf, MadeFits, madeWritten, madeRoom, ReadFits, readRemoval};
 use deck_reader::read_deck;
 use graph_writer::write_graph;
 use removal::remove_from_design;
@@ -17,77 +15,19 @@ use timing::Written;
 use timing::refuse;
 use unfit::test_deck;
 
-// The true graph of a deck: 25 is tested before 31.
-fn deck_graph(
-    n: u32,
-    starts: &[u32],
-    ends: &[u32],
-    delays: &[i32],
-    listed: &[u32],
-    lengths: &[u32],
-    t: u32,
-    nodes: &mut [u32],
-    from: &mut [u32],
-    to: &mut [u32],
-    via: &mut [u32],
-    scratch: &mut [u32],
-) -> GraphMade
-    requires { ⌜ SameRooms (now from) (now to) (now via) ⌝ }
-    ensures { λ r. ⌜ Answered (deckRemoval (design n (now (starts .entry)) (now (ends .entry)) (now (delays .entry))) t (lentRemoval (now (listed .entry)) (now (lengths .entry)) (now (nodes .entry)) (now (from .entry)) (now (to .entry)) (now (via .entry)) (now (scratch .entry)))) r (now (nodes .entry)) (now (from .entry)) (now (to .entry)) (now (via .entry)) (now (nodes .exit)) (now (from .exit)) (now (to .exit)) (now (via .exit)) ⌝ }
-{
-    let verdict = test_deck(n, starts, ends, delays, listed, lengths, t);
-    if let Verdict::Refused(r) = verdict {
-        return GraphMade::Refused(r);
-    }
-    remove_from_design(
-        n,
-        starts,
-        ends,
-        delays,
-        listed,
-        lengths,
-        nodes,
-        from,
-        to,
-        via,
-        scratch,
-    )
-}
-
-// Packs the true graph of a deck into the room.
-fn pack_graph(
-    n: u32,
-    starts: &[u32],
-    ends: &[u32],
-    delays: &[i32],
-    listed: &[u32],
-    lengths: &[u32],
-    t: u32,
-    nodes: &mut [u32],
-    from: &mut [u32],
-    to: &mut [u32],
-    via: &mut [u32],
-    scratch: &mut [u32],
+// Packs the graph that was made, which stands in front of its four slices, into the room.
+fn write_made(
+    made: GraphMade,
+    nodes: &[u32],
+    from: &[u32],
+    to: &[u32],
+    via: &[u32],
     room: &mut [u8],
 ) -> Written
-    requires { ⌜ SameRooms (now from) (now to) (now via) ⌝ }
-    ensures { λ r. ⌜ r ≡ cWritten (deckRemoval (design n (now (starts .entry)) (now (ends .entry)) (now (delays .entry))) t (lentRemoval (now (listed .entry)) (now (lengths .entry)) (now (nodes .entry)) (now (from .entry)) (now (to .entry)) (now (via .entry)) (now (scratch .entry)))) (now (room .entry)) ⌝ }
-    ensures { λ r. ⌜ now (room .exit) ≡ roomAfterC (deckRemoval (design n (now (starts .entry)) (now (ends .entry)) (now (delays .entry))) t (lentRemoval (now (listed .entry)) (now (lengths .entry)) (now (nodes .entry)) (now (from .entry)) (now (to .entry)) (now (via .entry)) (now (scratch .entry)))) (now (room .entry)) ⌝ }
+    requires { ⌜ MadeFits made (graphSlices (now nodes) (now from) (now to) (now via)) ⌝ }
+    ensures { λ r. ⌜ r ≡ madeWritten made (graphSlices (now (nodes .entry)) (now (from .entry)) (now (to .entry)) (now (via .entry))) (now (room .entry)) ⌝ }
+    ensures { λ r. ⌜ now (room .exit) ≡ madeRoom made (graphSlices (now (nodes .entry)) (now (from .entry)) (now (to .entry)) (now (via .entry))) (now (room .entry)) ⌝ }
 {
-    let made = deck_graph(
-        n,
-        starts,
-        ends,
-        delays,
-        listed,
-        lengths,
-        t,
-        nodes,
-        from,
-        to,
-        via,
-        scratch,
-    );
     match made {
         GraphMade::Refused(r) => Written::Refused(r),
         GraphMade::Counts { copies, edges } => write_graph(
@@ -100,76 +40,26 @@ fn pack_graph(
     }
 }
 
-// Reads a deck and packs its true graph into the room. 4 is tested before all.
-fn pack_deck(
-    deck: &[u8],
-    starts: &mut [u32],
-    ends: &mut [u32],
-    delays: &mut [i32],
-    listed: &mut [u32],
-    lengths: &mut [u32],
-    nodes: &mut [u32],
-    from: &mut [u32],
-    to: &mut [u32],
-    via: &mut [u32],
-    scratch: &mut [u32],
+// Packs the true graph of a design and a list of paths into the room, made in the program's room and scratch.
+fn pack_graph(
+    n: u32,
+    starts: &[u32],
+    ends: &[u32],
+    delays: &[i32],
+    listed: &[u32],
+    lengths: &[u32],
     room: &mut [u8],
 ) -> Written
-    requires { ⌜ Sized (length (now starts)) (length (now ends)) (length (now delays)) (length (now listed)) (length (now lengths)) (length (now nodes)) (length (now from)) (length (now to)) (length (now via)) (length (now scratch)) ⌝ }
-    ensures { λ r. ⌜ r ≡ cWritten (program (now (deck .entry))) (now (room .entry)) ⌝ }
-    ensures { λ r. ⌜ now (room .exit) ≡ roomAfterC (program (now (deck .entry))) (now (room .entry)) ⌝ }
-{
-    if MAX_DECK_BYTES < deck.len() {
-        return Written::Refused(refuse(4, MAX_DECK_BYTES));
-    }
-    let read = read_deck(deck, starts, ends, delays, listed, lengths);
-    match read {
-        DeckRead::Refused(r) => Written::Refused(r),
-        DeckRead::Deck {
-            nodes: n,
-            edges,
-            listed: count,
-            paths,
-            allowed,
-        } => pack_graph(
-            n,
-            &starts[..edges],
-            &ends[..edges],
-            &delays[..edges],
-            &listed[..count],
-            &lengths[..paths],
-            allowed,
-            nodes,
-            from,
-            to,
-            via,
-            scratch,
-            room,
-        ),
-    }
-}
-
-// The same with the program's room and scratch.
-fn pack_in_tables(
-    deck: &[u8],
-    starts: &mut [u32],
-    ends: &mut [u32],
-    delays: &mut [i32],
-    listed: &mut [u32],
-    lengths: &mut [u32],
-    room: &mut [u8],
-) -> Written
-    requires { ⌜ (length (now starts) ≡ 1024) × (length (now ends) ≡ 1024) × (length (now delays) ≡ 1024) × (length (now listed) ≡ 1024) × (length (now lengths) ≡ 256) ⌝ }
-    ensures { λ r. ⌜ r ≡ cWritten (program (now (deck .entry))) (now (room .entry)) ⌝ }
-    ensures { λ r. ⌜ now (room .exit) ≡ roomAfterC (program (now (deck .entry))) (now (room .entry)) ⌝ }
+    ensures { λ r. ⌜ r ≡ cWritten (removeFromDesign (design n (now (starts .entry)) (now (ends .entry)) (now (delays .entry))) (removal (pathList (now (listed .entry)) (now (lengths .entry))) programRoom 16384)) (now (room .entry)) ⌝ }
+    ensures { λ r. ⌜ now (room .exit) ≡ roomAfterC (removeFromDesign (design n (now (starts .entry)) (now (ends .entry)) (now (delays .entry))) (removal (pathList (now (listed .entry)) (now (lengths .entry))) programRoom 16384)) (now (room .entry)) ⌝ }
 {
     let mut nodes = [0; 512];
     let mut from = [0; 2048];
     let mut to = [0; 2048];
     let mut via = [0; 2048];
     let mut scratch = [0; 16384];
-    pack_deck(
-        deck,
+    let made = remove_from_design(
+        n,
         starts,
         ends,
         delays,
@@ -180,27 +70,86 @@ fn pack_in_tables(
         &mut to,
         &mut via,
         &mut scratch,
-        room,
-    )
+    );
+    write_made(made, &nodes, &from, &to, &via, room)
 }
 
-// Packs the true graph of a packed deck into the room, in the program's tables.
+// The same for a deck: 25 is tested before 31.
+fn pack_tested(
+    n: u32,
+    starts: &[u32],
+    ends: &[u32],
+    delays: &[i32],
+    listed: &[u32],
+    lengths: &[u32],
+    t: u32,
+    room: &mut [u8],
+) -> Written
+    ensures { λ r. ⌜ r ≡ cWritten (programRemoval (deckOf (design n (now (starts .entry)) (now (ends .entry)) (now (delays .entry))) (pathList (now (listed .entry)) (now (lengths .entry))) t)) (now (room .entry)) ⌝ }
+    ensures { λ r. ⌜ now (room .exit) ≡ roomAfterC (programRemoval (deckOf (design n (now (starts .entry)) (now (ends .entry)) (now (delays .entry))) (pathList (now (listed .entry)) (now (lengths .entry))) t)) (now (room .entry)) ⌝ }
+{
+    let verdict = test_deck(n, starts, ends, delays, listed, lengths, t);
+    if let Verdict::Refused(r) = verdict {
+        return Written::Refused(r);
+    }
+    pack_graph(n, starts, ends, delays, listed, lengths, room)
+}
+
+// The same for a deck that was read into tables: it stands in front of them.
+fn pack_read(
+    read: DeckRead,
+    starts: &[u32],
+    ends: &[u32],
+    delays: &[i32],
+    listed: &[u32],
+    lengths: &[u32],
+    room: &mut [u8],
+) -> Written
+    requires { ⌜ ReadFits read (now starts) (now ends) (now delays) (now listed) (now lengths) ⌝ }
+    ensures { λ r. ⌜ r ≡ cWritten (readRemoval read (now (starts .entry)) (now (ends .entry)) (now (delays .entry)) (now (listed .entry)) (now (lengths .entry))) (now (room .entry)) ⌝ }
+    ensures { λ r. ⌜ now (room .exit) ≡ roomAfterC (readRemoval read (now (starts .entry)) (now (ends .entry)) (now (delays .entry)) (now (listed .entry)) (now (lengths .entry))) (now (room .entry)) ⌝ }
+{
+    match read {
+        DeckRead::Refused(r) => Written::Refused(r),
+        DeckRead::Deck {
+            nodes,
+            edges,
+            listed: count,
+            paths,
+            allowed,
+        } => pack_tested(
+            nodes,
+            &starts[..edges],
+            &ends[..edges],
+            &delays[..edges],
+            &listed[..count],
+            &lengths[..paths],
+            allowed,
+            room,
+        ),
+    }
+}
+
+// Packs the true graph of a packed deck into the room, in the program's tables. 4 is tested before all.
 pub fn pack(deck: &[u8], room: &mut [u8]) -> Written
     ensures { λ r. ⌜ r ≡ cWritten (program (now (deck .entry))) (now (room .entry)) ⌝ }
     ensures { λ r. ⌜ now (room .exit) ≡ roomAfterC (program (now (deck .entry))) (now (room .entry)) ⌝ }
 {
+    if MAX_DECK_BYTES < deck.len() {
+        return Written::Refused(refuse(4, MAX_DECK_BYTES));
+    }
     let mut starts = [0; 1024];
     let mut ends = [0; 1024];
     let mut delays = [0; 1024];
     let mut listed = [0; 1024];
     let mut lengths = [0; 256];
-    pack_in_tables(
+    let read = read_deck(
         deck,
         &mut starts,
         &mut ends,
         &mut delays,
         &mut listed,
         &mut lengths,
-        room,
-    )
+    );
+    pack_read(read, &starts, &ends, &delays, &listed, &lengths, room)
 }

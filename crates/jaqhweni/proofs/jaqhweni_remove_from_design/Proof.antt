@@ -1,45 +1,52 @@
 -- The answer as one number.
-use mathlib.Core.Path.{_∙_, ap, sym, subst}
-use Rattle.timing.specs.Graphs.{design}
-use Rattle.timing.specs.Calls.{lentRemoval}
-use Rattle.times.proofs.Elements.{read-back}
-use Rattle.timing.specs.Calls.{graphNumber}
-use Rattle.true_graph.specs.Small.{SmallGraph}
+use Rattle.timing.specs.declared.GraphMade.{GraphMade}
+use Rattle.timing.specs.Graphs.{Design, design}
+use Rattle.timing.specs.Calls.{Removal, lentRemoval, removeFromDesign, graphAnswer}
 use Rattle.true_graph.proofs.Small.{small-from-design}
-use borrow.Author.Needs.{needs}
+use Rattle.jaqhweni.proofs.Answers.{made-small, made-number}
 use Rattle.jaqhweni.proofs.jaqhweni_remove_from_design.Statement.{statement}
 use Rattle.jaqhweni.proofs.jaqhweni_remove_from_design.Tie as tie
 
+abbrev start : tie.After-remove-from-design → tie.Start
+start w = w .before .before .before .before .before .before .before .before .before .before .before .before .before .before .before
+
+abbrev designAt : tie.Start → Design
+designAt s = let a = s .args in design (a .n) (a .starts .now) (a .ends .now) (a .delays .now)
+
+abbrev lentAt : tie.Start → Removal
+lentAt s = let a = s .args in lentRemoval (a .listed .now) (a .lengths .now) (a .nodes .now) (a .from .now) (a .to .now) (a .via .now) (a .scratch .now)
+
+abbrev answerAt : tie.Start → GraphMade
+answerAt s = graphAnswer (removeFromDesign (designAt s) (lentAt s))
+
 remove-from-design-requires : tie.Need-remove-from-design-requires
-remove-from-design-requires c κs = search needs
+remove-from-design-requires c κs = tt
 
 graph-number-requires : tie.Need-graph-number-requires
 graph-number-requires c κs =
     let w = c .before .before .before .before .before .before .before .before .before .before in
-    let a = w .before .before .before .before .before .before .before .before .before .before .before .before .before .before .before .args in
-    let D = design (a .n) (a .starts .now) (a .ends .now) (a .delays .now) in
-    let R = lentRemoval (a .listed .now) (a .lengths .now) (a .nodes .now) (a .from .now) (a .to .now) (a .via .now) (a .scratch .now) in
-    subst SmallGraph (sym (w .remove-from-design .ensures .0)) (small-from-design D R)
+    let s = start w in
+    made-small (answerAt s) (w .remove-from-design .result) (w .remove-from-design .ensures .0) (small-from-design (designAt s) (lentAt s))
 
 same-length : tie.Need-same-length
-same-length c = search needs
+same-length c = c .before .before .before .before .before .before .before .before .before .before .nodes .given
 
 same-length-2 : tie.Need-same-length-2
-same-length-2 c = search needs
+same-length-2 c = c .before .before .before .before .before .before .before .before .from .given
 
 same-length-3 : tie.Need-same-length-3
-same-length-3 c = search needs
+same-length-3 c = c .before .before .before .before .before .before .to .given
 
 same-length-4 : tie.Need-same-length-4
-same-length-4 c = search needs
+same-length-4 c = c .before .before .before .before .via .given
 
 same-length-5 : tie.Need-same-length-5
-same-length-5 c = search needs
+same-length-5 c = c .before .before .scratch .given
 
 returns : tie.Need-returns
 returns c =
     let w = c .before .before .before .before .before .before .before .before .before .before .before in
-    (read-back (c .graph-number .result) (c .graph-number .ok) ∙ c .graph-number .ensures ∙ ap graphNumber (w .remove-from-design .ensures .0), w .remove-from-design .ensures .1)
+    (made-number (answerAt (start w)) (w .remove-from-design .result) (w .remove-from-design .ensures .0) (c .graph-number .result) (c .graph-number .ok) (c .graph-number .ensures), w .remove-from-design .ensures .1)
 
 pub jaqhweni-remove-from-design-spec : {M : Type 1} → statement M
 jaqhweni-remove-from-design-spec =

@@ -10,7 +10,7 @@ use Rattle.jaqhweni.proofs.jaqhweni_true_graph.Statement.{statement}
 use Rattle.jaqhweni.proofs.jaqhweni_true_graph.Tie as tie
 
 pack-requires : tie.Need-pack-requires
-pack-requires c κs = search needs
+pack-requires c κs = tt
 
 written-number-requires : tie.Need-written-number-requires
 written-number-requires c κs =
