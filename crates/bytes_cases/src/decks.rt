@@ -1,11 +1,11 @@
 // Decks: read into tables, and written to a room.
-use super::fronts::front;
-use super::fronts::front_delays;
 use super::say;
 use cases::Slice;
 use cases::fill;
 use cases::least;
 use cases::unpack;
+use entries::front;
+use entries::front_delays;
 use packed_lists::take_number;
 use print::refused;
 use print::text;

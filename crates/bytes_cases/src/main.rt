@@ -11,7 +11,6 @@ use libc::STDIN_FILENO;
 use packed_lists::take_number;
 
 mod decks;
-mod fronts;
 mod graphs;
 mod say;
 

@@ -4,8 +4,9 @@ use crate::text::end_line;
 use crate::text::put_number;
 use crate::text::put_text;
 use crate::text::put_time;
+use entries::number_at;
+use entries::time_at;
 use timing::Refusal;
-use timing::number_at;
 
 // A word and a number.
 fn put_named(buf: &mut Text, at: usize, word: &[u8], n: u64) -> usize {
@@ -65,10 +66,6 @@ fn put_times(
 fn put_copy(buf: &mut Text, at: usize, copy: usize, node: u32, a: i64, r: i64, s: i64) -> usize {
     let next = put_two(buf, at, b"copy ", copy as u64, b" node ", node as u64);
     put_times(buf, next, b" arrival ", a, b" required ", r, b" slack ", s)
-}
-
-fn time_at(s: &[i64], i: usize) -> i64 {
-    if s.len() <= i { 0 } else { s[i] }
 }
 
 fn put_copies(

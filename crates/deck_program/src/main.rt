@@ -4,6 +4,8 @@ mod lines;
 mod text;
 
 use cases::least;
+use entries::front;
+use entries::front_delays;
 use libc::STDIN_FILENO;
 use lines::put_graph;
 use lines::put_nodes;
@@ -14,22 +16,7 @@ use timing::DeckRead;
 use timing::GraphMade;
 use timing::MAX_DECK_BYTES;
 use timing::Verdict;
-use timing::refuse;
-
-// The first numbers of a slice, as many as the count says.
-fn front<'a>(s: &'a [u32], count: usize) -> &'a [u32] {
-    if count <= s.len() {
-        return &s[..count];
-    }
-    s
-}
-
-fn front_delays<'a>(s: &'a [i32], count: usize) -> &'a [i32] {
-    if count <= s.len() {
-        return &s[..count];
-    }
-    s
-}
+use verdicts::refuse;
 
 fn put_records(
     buf: &mut Text,

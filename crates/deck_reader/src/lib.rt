@@ -44,7 +44,7 @@ pub fn read_deck(
     ensures { λ r. ⌜ now (listed .exit) ≡ filled (λ d. d .list .edges) (deckRead (now (s .entry)) (length (now (starts .entry))) (length (now (ends .entry))) (length (now (delays .entry))) (length (now (listed .entry))) (length (now (lengths .entry)))) (now (listed .entry)) ⌝ }
     ensures { λ r. ⌜ now (lengths .exit) ≡ filled (λ d. d .list .lengths) (deckRead (now (s .entry)) (length (now (starts .entry))) (length (now (ends .entry))) (length (now (delays .entry))) (length (now (listed .entry))) (length (now (lengths .entry)))) (now (lengths .entry)) ⌝ }
 {
-    let sizes = timing::same_sizes(starts.len(), ends.len(), delays.len());
+    let sizes = verdicts::same_sizes(starts.len(), ends.len(), delays.len());
     match sizes {
         Verdict::Refused(r) => {
             return DeckRead::Refused(r);

@@ -10,7 +10,7 @@ use packed_lists::look_rows;
 use timing::Looked;
 use timing::NumberRead;
 use timing::Verdict;
-use timing::and_unless;
+use verdicts::and_unless;
 
 fn added(sum: usize, n: u32) -> usize
     requires { ⌜ sum ≤ 8192 ⌝ }
@@ -28,7 +28,7 @@ fn look_count(s: &[u8], at: usize, sum: usize, test: u32, limit: usize, table: u
     match r {
         NumberRead::Value { value, next } => {
             let total = added(sum, value);
-            let v = timing::unless(test, total <= limit);
+            let v = verdicts::unless(test, total <= limit);
             let v = and_unless(v, 36, total <= table);
             match v {
                 Verdict::Passed => NumberRead::Value { value, next },
@@ -90,7 +90,7 @@ fn look_tail(s: &[u8], at: usize) -> Verdict
             if s.len() <= next {
                 return Verdict::Passed;
             }
-            Verdict::Refused(timing::refuse(3, next))
+            Verdict::Refused(verdicts::refuse(3, next))
         }
         NumberRead::Refused(e) => Verdict::Refused(e),
     }

@@ -7,7 +7,7 @@ ghost use Rattle.timing.specs.Refusals.{unless as passedIf};
 ghost use Rattle.timing.specs.Calls.{deckWriteTests};
 ghost use Rattle.deck_writer.specs.Writing.{deckOf};
 use timing::Verdict;
-use timing::and_unless;
+use verdicts::and_unless;
 
 pub(crate) fn wide(x: u32) -> usize
     ensures { λ r. ⌜ r ≡ x ⌝ }
@@ -53,7 +53,7 @@ pub(crate) fn write_tests(
 ) -> Verdict
     ensures { λ r. ⌜ r ≡ deckWriteTests (deckOf nodes (now (starts .entry)) (now (ends .entry)) (now (delays .entry)) (now (listed .entry)) (now (lengths .entry)) 0) ⌝ }
 {
-    let v = timing::same_sizes(starts.len(), ends.len(), delays.len());
+    let v = verdicts::same_sizes(starts.len(), ends.len(), delays.len());
     let v = and_unless(v, 30, adds_up(lengths, listed.len()));
     and_counts(v, nodes, starts.len(), lengths.len(), listed.len())
 }

@@ -33,7 +33,7 @@ pub fn write_deck(
     }
     let size = writer::deck_size(n, starts, ends, delays, listed, lengths, t);
     if room.len() < size {
-        return Written::Refused(timing::refuse(35, 0));
+        return Written::Refused(verdicts::refuse(35, 0));
     }
     Written::End(writer::put_deck(n, starts, ends, delays, listed, lengths, t, room))
 }

@@ -9,11 +9,11 @@ ghost use Rattle.timing.specs.Lists.{upto};
 ghost use Rattle.timing.specs.Refusals.{_then_, firstBad};
 ghost use Rattle.timing.specs.Graphs.{design};
 ghost use Rattle.timing.specs.Tests.{strays, falls, tooSlow};
+use entries::delay_at;
+use entries::number_at;
 use timing::MAX_DELAY;
 use timing::Verdict;
-use timing::delay_at;
-use timing::number_at;
-use timing::refuse;
+use verdicts::refuse;
 
 // Both ends of edge k are nodes.
 fn known(n: u32, starts: &[u32], ends: &[u32], k: usize) -> bool

@@ -9,7 +9,7 @@ ghost use Rattle.timing.specs.Tests.{designTests};
 use timing::MAX_EDGES;
 use timing::MAX_NODES;
 use timing::Verdict;
-use timing::and_unless;
+use verdicts::and_unless;
 
 mod edges;
 

@@ -12,8 +12,8 @@ ghost use Rattle.timing.specs.Refusals.{_then_};
 ghost use Rattle.timing.specs.Tests.{nodeCount, graphTest};
 ghost use Rattle.timing.specs.Calls.{graphSlices, graphOf};
 ghost use Rattle.graph.specs.Passes.{Marked, stands, flag, edgePasses, follows, joined, copyPasses};
+use entries::number_at;
 use timing::Verdict;
-use timing::number_at;
 
 fn both(a: bool, b: bool) -> bool
     ensures { λ r. ⌜ r ≡ (a && b) ⌝ }
@@ -258,9 +258,9 @@ pub fn graph_test(
     ensures { λ r. ⌜ r ≡ (nodeCount n then graphTest (design n (now (starts .entry)) (now (ends .entry)) []) (graphOf (graphSlices (now (nodes .entry)) (now (gs .entry)) (now (ge .entry)) (now (gn .entry))))) ⌝ }
 {
     if timing::MAX_NODES < n {
-        return timing::unless(10, false);
+        return verdicts::unless(10, false);
     }
-    timing::unless(32, well_formed(n, starts, ends, nodes, gs, ge, gn))
+    verdicts::unless(32, well_formed(n, starts, ends, nodes, gs, ge, gn))
 }
 
 // The same after other tests.

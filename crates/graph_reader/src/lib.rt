@@ -20,7 +20,7 @@ pub fn read_graph(
     ensures { λ r. ⌜ now (ge .exit) ≡ endsAfter (graphRead (now (s .entry)) (roomOf (graphSlices (now (nodes .entry)) (now (gs .entry)) (now (ge .entry)) (now (gn .entry))))) (now (ge .entry)) ⌝ }
     ensures { λ r. ⌜ now (gn .exit) ≡ namesAfter (graphRead (now (s .entry)) (roomOf (graphSlices (now (nodes .entry)) (now (gs .entry)) (now (ge .entry)) (now (gn .entry))))) (now (gn .entry)) ⌝ }
 {
-    let v = timing::same_sizes(gs.len(), ge.len(), gn.len());
+    let v = verdicts::same_sizes(gs.len(), ge.len(), gn.len());
     match v {
         Verdict::Refused(r) => {
             return GraphMade::Refused(r);

@@ -31,9 +31,9 @@ fn count_test(n: u32, limit: usize, full: u32, room: usize) -> Verdict
 {
     let n = wide(n);
     if n <= limit {
-        return timing::unless(full, n <= room);
+        return verdicts::unless(full, n <= room);
     }
-    timing::unless(32, false)
+    verdicts::unless(32, false)
 }
 
 fn look_count(s: &[u8], at: usize, limit: usize, full: u32, room: usize) -> NumberRead
@@ -68,7 +68,7 @@ fn look_edges(s: &[u8], at: usize, copies: u32, edges: usize) -> GraphMade
                             edges: wide(value),
                         };
                     }
-                    GraphMade::Refused(timing::refuse(3, after))
+                    GraphMade::Refused(verdicts::refuse(3, after))
                 }
                 Looked::Refused(e) => GraphMade::Refused(e),
             }

@@ -21,7 +21,7 @@ pub fn write_graph(nodes: &[u32], gs: &[u32], ge: &[u32], gn: &[u32], room: &mut
     }
     let size = writer::graph_size(nodes, gs, ge, gn);
     if room.len() < size {
-        return Written::Refused(timing::refuse(35, 0));
+        return Written::Refused(verdicts::refuse(35, 0));
     }
     writer::write_all(nodes, gs, ge, gn, room)
 }

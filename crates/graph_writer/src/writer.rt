@@ -26,12 +26,12 @@ fn both(a: bool, b: bool) -> bool
 pub(crate) fn write_tests(copies: usize, a: usize, b: usize, c: usize) -> Verdict
     ensures { λ r. ⌜ r ≡ (sameSizes a b c then passedIf 32 (leb copies 16384 && leb a 65536)) ⌝ }
 {
-    let v = timing::same_sizes(a, b, c);
+    let v = verdicts::same_sizes(a, b, c);
     let Verdict::Passed = v else {
         return v;
     };
     let few = both(copies <= timing::MAX_COPIES, a <= timing::MAX_COPY_EDGES);
-    timing::unless(32, few)
+    verdicts::unless(32, few)
 }
 
 // How many bytes the graph takes: each number is counted once, in any order.

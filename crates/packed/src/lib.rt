@@ -51,8 +51,8 @@ pub fn read_number(s: &[u8], at: usize) -> NumberRead
             value,
             next: at + size,
         },
-        Groups::Ended => NumberRead::Refused(timing::refuse(1, s.len())),
-        Groups::Unfit => NumberRead::Refused(timing::refuse(2, at)),
+        Groups::Ended => NumberRead::Refused(verdicts::refuse(1, s.len())),
+        Groups::Unfit => NumberRead::Refused(verdicts::refuse(2, at)),
     }
 }
 
@@ -89,10 +89,10 @@ pub fn write_number(room: &mut [u8], at: usize, x: u32) -> Written
     let b = five.bytes;
     let n = five.len;
     if room.len() < at {
-        return Written::Refused(timing::refuse(35, 0));
+        return Written::Refused(verdicts::refuse(35, 0));
     }
     if room.len() - at < n {
-        return Written::Refused(timing::refuse(35, 0));
+        return Written::Refused(verdicts::refuse(35, 0));
     }
     let mut k = 0;
     while k < n {

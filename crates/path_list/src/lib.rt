@@ -14,7 +14,7 @@ ghost use Rattle.timing.specs.Tests.{listTests};
 use timing::MAX_LISTED_EDGES;
 use timing::MAX_PATHS;
 use timing::Verdict;
-use timing::and_unless;
+use verdicts::and_unless;
 
 mod paths;
 

@@ -11,9 +11,9 @@ ghost use Rattle.timing.specs.Refusals.{_then_, firstBad};
 ghost use Rattle.timing.specs.Graphs.{design};
 ghost use Rattle.timing.specs.Marks.{pathList, pathsOf};
 ghost use Rattle.timing.specs.Tests.{meets};
+use entries::number_at;
 use timing::Verdict;
-use timing::number_at;
-use timing::refuse;
+use verdicts::refuse;
 
 // Where a path of k edges ends that starts at `from`, in a flat list of `size` edges.
 fn path_end(size: usize, from: usize, k: u32) -> usize

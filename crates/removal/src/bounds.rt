@@ -5,7 +5,7 @@ ghost use lib.ListN.{length, getD};
 ghost use Rattle.timing.specs.Marks.{pathList};
 ghost use Rattle.removal.specs.Table.{table};
 ghost use Rattle.removal.specs.Search.{codeIn, Searchable, Rising, FirstsBy, Firsts, FilledTo, putFour, Fillable, Filled};
-use timing::number_at;
+use entries::number_at;
 
 // Fills the words from `from` on and before `to`; gives where the next words start.
 fn fill_to(firsts: &mut [u32], from: usize, to: usize, v: u32) -> usize

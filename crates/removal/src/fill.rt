@@ -9,7 +9,7 @@ use crate::rows::Layout;
 use crate::rows::slot_count;
 use crate::rows::slot_place;
 use crate::show::shown_start;
-use timing::number_at;
+use entries::number_at;
 
 // Writes the edge that edge e makes into slot j of its end, if it comes from a shown slot, to place
 // `at` of the room; `number` is that of slot j. Gives the next place.

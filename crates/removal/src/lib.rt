@@ -22,8 +22,8 @@ use sizes::and_list_sizes;
 use sizes::design_sizes;
 use timing::GraphMade;
 use timing::Verdict;
-use timing::same_sizes;
-use timing::then;
+use verdicts::same_sizes;
+use verdicts::then;
 
 mod bounds;
 mod build;

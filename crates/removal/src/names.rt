@@ -6,7 +6,7 @@ ghost use lib.ListN.{length, getD};
 ghost use Rattle.removal.specs.Links.{Linkable};
 ghost use Rattle.removal.specs.Names.{Flagged, Noted, NotedAt, Named, LinkedNamed};
 use crate::chains::link_edges;
-use timing::number_at;
+use entries::number_at;
 
 // Sets word k to 1, if there is one.
 fn flag(names: &mut [u32], k: usize)

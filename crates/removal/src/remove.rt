@@ -21,8 +21,8 @@ use timing::GraphMade;
 use timing::MAX_COPIES;
 use timing::MAX_COPY_EDGES;
 use timing::Verdict;
-use timing::refuse;
-use timing::unless;
+use verdicts::refuse;
+use verdicts::unless;
 
 // Where the tables stand, and how many slots are shown, with how many edges between them.
 struct Finding {

@@ -10,7 +10,7 @@ ghost use Rattle.removal.specs.Reach.{Marking, FromSlot, FromList, FromA
 use crate::step::Step;
 use crate::step::slot_span;
 use crate::step::step_back;
-use timing::number_at;
+use entries::number_at;
 
 // `rest`, `order`, `rank` and `link` have a word for each listed edge. `low` has four tables of a word
 // for each copy: the bounds of the copy's places in the order (`Bounds` in specs/), and where its

@@ -5,7 +5,7 @@ ghost use lib.ListN.{length, getD};
 ghost use Rattle.removal.specs.Step.{PlaceIn, PlacesIn, PlacesRoom, SpanRoom, following, comesBefore, Halved, PlaceFits, LongestIn, StepMeets, SpanIs};
 ghost use Rattle.removal.specs.Table.{table};
 ghost use Rattle.removal.specs.Tails.{Comparable, LinkRoom, LinkRead, MarkAt, Findable};
-use timing::number_at;
+use entries::number_at;
 
 // What an edge and then a mark are: they begin with a listed path, or they have the mark of a slot.
 pub(crate) enum Step {

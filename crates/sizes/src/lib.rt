@@ -6,9 +6,9 @@ ghost use Rattle.timing.specs.Graphs.{design};
 ghost use Rattle.timing.specs.Marks.{pathList};
 ghost use Rattle.timing.specs.Tests.{sameSizes, designSizes, listSizes};
 use timing::Verdict;
-use timing::same_sizes;
-use timing::then;
-use timing::unless;
+use verdicts::same_sizes;
+use verdicts::then;
+use verdicts::unless;
 
 // 30 for the three slices of a design.
 pub fn design_sizes(starts: &[u32], ends: &[u32], delays: &[i32]) -> Verdict

@@ -11,10 +11,10 @@ ghost use Rattle.timing.specs.Times.{larger as largerTime, smaller as smallerTi
 ghost use Rattle.timing.specs.Calls.{hasTimes, arrivalOf, requiredOf, slackOf};
 ghost use Rattle.times.specs.Records.{firstOr, bettered, nodeSoFar};
 use super::fill;
-use super::time_at;
+use entries::number_at;
+use entries::time_at;
 use extremes::larger;
 use extremes::smaller;
-use timing::number_at;
 
 fn no_copy_met(known: &mut [u32])
     ensures { λ r. ⌜ now (known .exit) ≡ map (λ (v : ℕ). 0) (upto (length (now (known .entry))) 0) ⌝ }

@@ -19,6 +19,7 @@ ghost use Rattle.times.specs.Records.{withCopy, gathered, timesOf};
 
 mod gather;
 
+use entries::time_at;
 use extremes::larger;
 use extremes::smaller;
 use sizes::copy_sizes;
@@ -26,7 +27,7 @@ use timing::NodeAnswer;
 use timing::NodeRecord;
 use timing::NodeTimes;
 use timing::Verdict;
-use timing::then;
+use verdicts::then;
 
 const NO_ARRIVAL: i64 = -9223372036854775808;
 
@@ -66,13 +67,6 @@ fn less(a: i64, b: i64) -> i64
     ensures { λ r. ⌜ r ≡ a -ℤ b ⌝ }
 {
     a - b
-}
-
-// The time at an index, or 0 past the end.
-fn time_at(s: &[i64], i: usize) -> i64
-    ensures { λ r. ⌜ r ≡ getD (now (s .entry)) i (pos 0) ⌝ }
-{
-    if s.len() <= i { 0 } else { s[i] }
 }
 
 fn fill(times: &mut [i64], t: i64)
@@ -131,10 +125,10 @@ fn raise_edge(
     requires { ⌜ Step (timeOr noArrival (pos 0)) (now arrivals) (getD (now starts) k 0) (getD (now ends) k 0) (delayOf (now delays) (getD (now names) k 0)) ⌝ }
     ensures { λ r. ⌜ now (arrivals .exit) ≡ raised (now (arrivals .entry)) (getD (now (starts .entry)) k 0) (getD (now (ends .entry)) k 0) (delayOf (now (delays .entry)) (getD (now (names .entry)) k 0)) ⌝ }
 {
-    let a = timing::number_at(starts, k) as usize;
-    let b = timing::number_at(ends, k) as usize;
-    let name = timing::number_at(names, k) as usize;
-    raise(arrivals, a, b, timing::delay_at(delays, name));
+    let a = entries::number_at(starts, k) as usize;
+    let b = entries::number_at(ends, k) as usize;
+    let name = entries::number_at(names, k) as usize;
+    raise(arrivals, a, b, entries::delay_at(delays, name));
 }
 
 // Edge `k` of the graph, for required times.
@@ -150,10 +144,10 @@ fn lower_edge(
     requires { ⌜ Step (timeOr noRequired allowed) (now requireds) (getD (now ends) k 0) (getD (now starts) k 0) (delayOf (now delays) (getD (now names) k 0)) ⌝ }
     ensures { λ r. ⌜ now (requireds .exit) ≡ lowered allowed (now (requireds .entry)) (getD (now (starts .entry)) k 0) (getD (now (ends .entry)) k 0) (delayOf (now (delays .entry)) (getD (now (names .entry)) k 0)) ⌝ }
 {
-    let a = timing::number_at(starts, k) as usize;
-    let b = timing::number_at(ends, k) as usize;
-    let name = timing::number_at(names, k) as usize;
-    lower(requireds, allowed, a, b, timing::delay_at(delays, name));
+    let a = entries::number_at(starts, k) as usize;
+    let b = entries::number_at(ends, k) as usize;
+    let name = entries::number_at(names, k) as usize;
+    lower(requireds, allowed, a, b, entries::delay_at(delays, name));
 }
 
 // Edges stand by end copy, and rise: where an edge is met, the arrival at its start is final.
@@ -295,7 +289,7 @@ fn times_sizes(
     ensures { λ r. ⌜ ((n : ℕ) → r ≡ (designSizes (design n (now (starts .entry)) (now (ends .entry)) (now (delays .entry))) then sameSizes (length (now (gs .entry))) (length (now (ge .entry))) (length (now (gn .entry))) then sameSizes copies arrivals requireds then sameSizes copies copies slacks)) ⌝ }
 {
     let first = sizes::design_sizes(starts, ends, delays);
-    let joined = timing::same_sizes(gs.len(), ge.len(), gn.len());
+    let joined = verdicts::same_sizes(gs.len(), ge.len(), gn.len());
     let lent = copy_sizes(copies, arrivals, requireds, slacks);
     then(first, then(joined, lent))
 }
@@ -329,7 +323,7 @@ fn times_tests(
         slacks,
     );
     let fit = design::and_design_tests(sizes, n, starts, ends, delays);
-    let within = timing::and_unless(fit, 25, allowed <= timing::MAX_ALLOWED_TIME);
+    let within = verdicts::and_unless(fit, 25, allowed <= timing::MAX_ALLOWED_TIME);
     graph::and_graph_test(within, n, starts, ends, nodes, gs, ge, gn)
 }
 
@@ -419,7 +413,7 @@ fn next_copy(
 ) -> NodeTimes
     ensures { λ r. ⌜ r ≡ gathered (now (nodes .entry)) (now (arrivals .entry)) (now (requireds .entry)) (now (slacks .entry)) v t c ⌝ }
 {
-    if timing::number_at(nodes, c) == v {
+    if entries::number_at(nodes, c) == v {
         return with_copy(
             t,
             time_at(arrivals, c),
@@ -453,7 +447,7 @@ fn record_tests(n: u32, copies: usize, arrivals: usize, requireds: usize, slacks
     ensures { λ r. ⌜ r ≡ (sameSizes copies arrivals requireds then sameSizes copies copies slacks then nodeCount n) ⌝ }
 {
     let sizes = copy_sizes(copies, arrivals, requireds, slacks);
-    let count = timing::unless(10, n <= 4096);
+    let count = verdicts::unless(10, n <= 4096);
     then(sizes, count)
 }
 
@@ -515,9 +509,9 @@ fn records_tests(
 {
     let places = n as usize;
     let sizes = copy_sizes(copies, arrivals, requireds, slacks);
-    let lent = timing::same_sizes(places, known, na);
-    let others = timing::same_sizes(places, nr, ns);
-    let count = timing::unless(10, n <= 4096);
+    let lent = verdicts::same_sizes(places, known, na);
+    let others = verdicts::same_sizes(places, nr, ns);
+    let count = verdicts::unless(10, n <= 4096);
     then(sizes, then(lent, then(others, count)))
 }
 

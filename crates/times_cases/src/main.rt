@@ -7,6 +7,8 @@
 use cases::Slice;
 use cases::least;
 use cases::unpack;
+use entries::front;
+use entries::front_delays;
 use libc::STDIN_FILENO;
 use packed_lists::take_number;
 use print::refused;
@@ -45,21 +47,6 @@ fn fill(s: &[u8], at: usize, table: &mut [u32]) -> Slice {
         k += 1;
     }
     Slice { len, next }
-}
-
-// The first numbers of a slice, as many as a count says.
-fn front<'a>(s: &'a [u32], count: usize) -> &'a [u32] {
-    if count <= s.len() {
-        return &s[..count];
-    }
-    s
-}
-
-fn front_delays<'a>(s: &'a [i32], count: usize) -> &'a [i32] {
-    if count <= s.len() {
-        return &s[..count];
-    }
-    s
 }
 
 // Delays from their packed numbers.

@@ -12,8 +12,8 @@ use timing::GraphMade;
 use timing::MAX_DECK_BYTES;
 use timing::Verdict;
 use timing::Written;
-use timing::refuse;
 use unfit::test_deck;
+use verdicts::refuse;
 
 // Packs the graph that was made, which stands in front of its four slices, into the room.
 fn write_made(

@@ -9,7 +9,7 @@ use sizes::and_list_sizes;
 use sizes::design_sizes;
 use timing::MAX_ALLOWED_TIME;
 use timing::Verdict;
-use timing::and_unless;
+use verdicts::and_unless;
 
 // Tests a design: 30, and 10 to 14.
 pub fn test_design(n: u32, starts: &[u32], ends: &[u32], delays: &[i32]) -> Verdict

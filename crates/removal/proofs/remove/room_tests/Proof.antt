@@ -8,7 +8,7 @@ use Rattle.removal.proofs.remove.room_tests.Tie as tie
 use Rattle.removal.proofs.remove.room_tests.Reads as reads
 use Rattle.removal.proofs.remove.room_tests.Lts as lts
 use Rattle.removal.proofs.remove.smaller.Reads as smaller-reads
-use Rattle.timing.proofs.unless.Reads as unless-reads
+use Rattle.verdicts.proofs.unless.Reads as unless-reads
 
 -- src/remove.rt:63:8
 smaller-requires : tie.Need-smaller-requires
