@@ -5,8 +5,9 @@
  * paths from source to sink are the design's paths that contain no listed path, each once.
  *
  * Link with libjaqhweni.a. No function allocates, keeps anything between calls or reads anything but its arguments, so calls on separate
- * buffers may run on separate threads. A call takes less than 512 KiB of stack. A slice is a pointer and its count of elements (not bytes). The pointer must be valid for that
- * many elements, and not null even where the count is 0. Slices that a call writes must overlap no other slice of that call.
+ * buffers may run on separate threads. A call takes less than 512 KiB of stack. A slice is a pointer and its count of elements (not
+ * bytes). The pointer must be valid for that many elements, and not null even where the count is 0. Slices that a call writes must
+ * overlap no other slice of that call.
  *
  * Answers. Every function returns one signed 64-bit number. Below zero it is a refusal, minus (number + 256 * place):
  *
