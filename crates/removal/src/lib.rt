@@ -6,14 +6,14 @@
 // table at `base`. Nothing is written to the room before 33 and 34 are settled.
 ghost use mathlib.Core.Path.{_≡_};
 ghost use Prim.Native.Nat.{ℕ, _≤_, _<_};
-ghost use lib.ListN.{length, take};
-ghost use Rattle.timing.specs.Lists.{upto};
+ghost use lib.ListN.{length};
 ghost use Rattle.timing.specs.Graphs.{design};
 ghost use Rattle.timing.specs.Marks.{pathList};
 ghost use Rattle.timing.specs.Refusals.{_then_};
 ghost use Rattle.timing.specs.Tests.{sameSizes, designSizes, listSizes, designTests, listTests, graphTest};
 ghost use Rattle.timing.specs.Calls.{graphSlices, graphOf, lentRemoval, removeFromDesign, removeFromGraph, graphAnswer, nodesAfter, startsAfter, endsAfter, namesAfter, scratchAfter};
 ghost use Rattle.removal.specs.Numbered.{Numberable, DesignRemoved};
+use crate::numbers::number_places;
 use crate::remove::remove;
 use design::and_design_tests;
 use graph::and_graph_test;
@@ -32,6 +32,7 @@ mod fill;
 mod links;
 mod listed;
 mod names;
+mod numbers;
 mod ranks;
 mod remove;
 mod rows;
@@ -57,18 +58,6 @@ fn list_tests(
     let sizes = then(sums, others);
     let fit = and_design_tests(sizes, n, starts, ends, delays);
     and_list_tests(fit, starts, ends, listed, lengths)
-}
-
-// Writes its own number to each of the first n places.
-fn number_places(t: &mut [u32], n: usize)
-    requires { ⌜ (n ≤ length (now t)) × (n ≤ 16384) ⌝ }
-    ensures { λ r. ⌜ take n (now (t .exit)) ≡ upto n 0 ⌝ }
-{
-    let mut i = 0;
-    while i < n {
-        t[i] = i as u32;
-        i += 1;
-    }
 }
 
 // Removal from a design that has passed its tests. As a graph it has a copy for each node and an edge for

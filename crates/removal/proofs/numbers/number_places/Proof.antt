@@ -4,8 +4,8 @@ use native.Mathlib.Omega.{arith}
 use mathlib.Core.Path.{_≡_, refl, _∙_}
 use lib.ListN.{length, getD, length-set}
 use Rattle.removal.proofs.Laws.{front-upto, numbered-next}
-use Rattle.removal.proofs.number_places.Statement.{statement}
-use Rattle.removal.proofs.number_places.Tie as tie
+use Rattle.removal.proofs.numbers.number_places.Statement.{statement}
+use Rattle.removal.proofs.numbers.number_places.Tie as tie
 
 abbrev Inv-loop : tie.InvT-loop
 Inv-loop t₀ n i₀ t i = (i ≤ n) × (length t ≡ length t₀) × ((k : ℕ) → k < i → getD t k 0 ≡ k)
