@@ -1,5 +1,5 @@
 -- What a removal answers, from the counts of what was found: 31, 33 and 34 as `timing` states them, the room and the scratch.
-use Prim.Native.Nat.{ℕ, zero, suc, _+_, _*_, _≤_, _<_, min}
+use Prim.Native.Nat.{ℕ, zero, _+_, _*_, _≤_, _<_, min}
 use native.Mathlib.Omega.{arith}
 use mathlib.Core.Path.{_≡_, refl, sym, ap, _∙_, subst}
 use mathlib.Core.Bool.{Bool, true, false}
@@ -17,17 +17,17 @@ use Rattle.timing.specs.Marks.{PathList, pathsOf, pathList}
 use Rattle.timing.specs.TrueGraphs.{trueGraph}
 use Rattle.timing.specs.Refusals.{refusal, unless, _then_}
 use Rattle.timing.specs.Tests.{candidates, scratchTest, Room, roomTests}
-use Rattle.timing.specs.Calls.{Outcome, outcome, graphSlices, roomOf, scratchAfter}
+use Rattle.timing.specs.Calls.{outcome, graphSlices, roomOf, scratchAfter}
 use Rattle.theorems.proofs.Lists.{holds}
 use Rattle.timing.proofs.Verdicts.{then-passed, unless-passed}
 use Rattle.theorems.proofs.Tested.{ListFits}
 use Rattle.removal.specs.declared.rows.Layout.{Layout}
 use Rattle.removal.specs.Rows.{Tabled}
-use Rattle.removal.specs.Fill.{EdgesInto, Result, ResultFilled}
+use Rattle.removal.specs.Fill.{EdgesInto, ResultFilled}
 use Rattle.removal.specs.Search.{ofStarts, ofNodes}
 use Rattle.removal.specs.Build.{Given}
 use Rattle.removal.specs.Counts.{ListCountable, CopiesCountable}
-use Rattle.removal.specs.Remove.{Worked, Workable, WorkableIn, AllFound, Found, Answered, roomOutcome, RoomAnswered, removalOutcome, Removed, AllRemoved}
+use Rattle.removal.specs.Remove.{Worked, Workable, WorkableIn, AllFound, Found, Answered, roomOutcome, RoomAnswered, Removed, AllRemoved}
 use Rattle.removal.proofs.IntoLaws.{length-edges}
 use Rattle.removal.proofs.BuildLaws.{candidates-slices}
 use Rattle.removal.proofs.CountLaws.{list-countable, copies-countable}

@@ -19,8 +19,7 @@ use Rattle.theorems.proofs.Lists.{and-intro, and-left, and-right, of-upto}
 use Rattle.theorems.proofs.Counting.{one, count-cons, count-append, count-le, nodup-upto}
 use Rattle.removal.specs.Positions.{headIn, headAt, startAt, Ordered}
 use Rattle.removal.specs.Slots.{Bounds, Bounded, slots, slotBase}
-use Rattle.removal.specs.Table.{table}
-use Rattle.removal.specs.Search.{ofStarts, ofNodes, boundsAt, Filled}
+use Rattle.removal.specs.Search.{ofStarts, ofNodes}
 
 -- counts
 one-holds : (b : Bool) → T b → one b ≡ 1
@@ -214,22 +213,6 @@ module _ (D : Design) (L : PathList) (G : Graph) (order : List ℕ) (B : Bounds)
       sum-nodes (slots B) (λ v. 1 + countOf (λ k. eqb (edgeStart D k) v) (flatMap (λ p. drop 1 p) (pathsOf L))) (G .nodes) 0
       (λ c h. let e : slots B (0 + c) ≡ slots B c = ap (slots B) (omega arith) in e ∙ omega (arith, tails-count c (b c h)))
 
--- An order and bounds look at nothing of the design but its starts, and at nothing of the graph but its nodes.
-pub ordered-starts : (D : Design) (L : PathList) (order : List ℕ) → Ordered D L order → Ordered (ofStarts (D .starts)) (pathList (L .edges) (L .lengths)) order
-ordered-starts D L order o = record { size = o .size; inside = o .inside; every = o .every; rises = o .rises }
-
-pub starts-ordered : (D : Design) (L : PathList) (order : List ℕ) → Ordered (ofStarts (D .starts)) (pathList (L .edges) (L .lengths)) order → Ordered D L order
-starts-ordered D L order o = record { size = o .size; inside = o .inside; every = o .every; rises = o .rises }
-
 pub bounded-starts : (D : Design) (L : PathList) (G : Graph) (order : List ℕ) (B : Bounds) (c : ℕ)
     → Bounded (ofStarts (D .starts)) (pathList (L .edges) (L .lengths)) (ofNodes (G .nodes)) order B c → Bounded D L G order B c
 bounded-starts D L G order B c b = record { tails-up = b .tails-up; heads-up = b .heads-up; within = b .within; tails = b .tails; heads = b .heads }
-
--- what `fill_bounds` gives, for the design and the graph themselves
-module _ (D : Design) (L : PathList) (G : Graph) (s t : List ℕ) (order base n : ℕ)
-    (f : Filled (D .starts) (L .edges) (L .lengths) (G .nodes) s t order base n) where
-  pub filled-bounded : (c : ℕ) → c < length (G .nodes) → Bounded D L G (table t order (length (L .edges))) (boundsAt t base (length (G .nodes))) c
-  filled-bounded c h = bounded-starts D L G (table t order (length (L .edges))) (boundsAt t base (length (G .nodes))) c (f .bounded c h)
-
-  pub filled-candidates : sum (L .lengths) ≡ length (L .edges) → Ordered D L (table t order (length (L .edges))) → n ≡ candidates D G L
-  filled-candidates e o = f .slots ∙ slots-candidates D L G (table t order (length (L .edges))) (boundsAt t base (length (G .nodes))) e o filled-bounded

@@ -5,14 +5,13 @@ use native.Mathlib.Decide.{ℕ-discrete}
 use mathlib.Core.Path.{_≡_, refl, sym, ap, subst}
 use mathlib.Core.Bool.{Bool, true, false, cond}
 use mathlib.Core.Logic.{⊎-elim, _↔_}
-use mathlib.Core.List.{List, [], _∷_, List·Memᴰ, List·Memᴰ·not-nil, List·Memᴰ·cases-cons}
+use mathlib.Core.List.{List, [], _∷_, List·Memᴰ}
 use lib.Dec.{T, eqb, eqb→eq, eqb-refl}
 use lib.ListN.{length, getD, set, replicate, getD-replicate}
 use lib.Seq.{getD-set-same, getD-set-other}
 use borrow.Author.Tests.{eq-eqb, ne-eqb}
 use Rattle.timing.specs.Lists.{keep, upto}
 use Rattle.theorems.proofs.Lists.{mem-keep, of-keep, mem-upto, of-upto}
-use Rattle.theorems.proofs.Counting.{Nodup}
 use Rattle.removal.specs.Chains.{Chain, edgesAt}
 use Rattle.removal.specs.Links.{Chained}
 
@@ -37,19 +36,6 @@ keep-rises p (suc n) k m h = go (p k) (keep-rises p n (suc k) m (omega arith))
 pub edges-rise : (ends : List ℕ) (c m : ℕ) → RisesIn 0 m (edgesAt ends c m 0)
 edges-rise ends c m = keep-rises (λ e. eqb (getD ends e 0) c) m 0 m (omega arith)
 
--- its members are from k on and below m, and none stands twice
-pub rises-member : (k m x : ℕ) (es : List ℕ) → RisesIn k m es → List·Memᴰ x es → (k ≤ x) × (x < m)
-rises-member k m x [] r h = absurd (List·Memᴰ·not-nil h)
-rises-member k m x (e ∷ es) r h =
-    ⊎-elim
-    (λ (q : x ≡ e). (omega (arith, r .0), omega (arith, r .1)))
-    (λ (q : List·Memᴰ x es). let d = rises-member (suc e) m x es (r .2) q in (omega (arith, r .0, d .0), d .1))
-    (List·Memᴰ·cases-cons h)
-
-pub rises-nodup : (k m : ℕ) (es : List ℕ) → RisesIn k m es → Nodup es
-rises-nodup k m [] r = tt
-rises-nodup k m (e ∷ es) r = ((λ h. let d = rises-member (suc e) m e es (r .2) h in omega (arith, d .0)), rises-nodup (suc e) m es (r .2))
-
 -- the edges of a copy are those that have it as their end
 pub edges-member : (ends : List ℕ) (c m e : ℕ) → List·Memᴰ e (edgesAt ends c m 0) ↔ ((e < m) × (getD ends e 0 ≡ c))
 edges-member ends c m e = (
@@ -67,11 +53,6 @@ chain-goes next e [] h = absurd (omega (arith, h))
 chain-goes next e (d ∷ es) h =
     let same : d ≡ e = omega (arith, h .0) in
     (es, ap (λ (i : ℕ). i ∷ es) same, subst (λ (i : ℕ). Chain next (getD next i 0) es) same (h .1))
-
--- links are at most the number of edges
-pub chain-below : (next : List ℕ) (h k m : ℕ) (es : List ℕ) → RisesIn k m es → Chain next h es → h ≤ m
-chain-below next h k m [] r x = omega (arith, x)
-chain-below next h k m (e ∷ es) r x = omega (arith, x .0, r .1)
 
 -- how many steps a chain can still go: a measure for loops
 abbrev pub chainLeft : ℕ → ℕ → ℕ

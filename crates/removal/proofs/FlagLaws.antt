@@ -16,7 +16,7 @@ use Rattle.theorems.proofs.Copies.{Shown}
 use Rattle.theorems.proofs.Back.{Reached, none-permitted, reached-end, reached-step, reached-cases, shown-reached, shown-start, shown-step, shown-cases}
 use Rattle.removal.specs.Slots.{Bounds, slots, slotMark, Used}
 pub use Rattle.removal.specs.Flags.{ReachedRow, ShownRow, StepBack, Backward, StepOn, Forward}
-use Rattle.removal.proofs.SlotLaws.{Setting, used-empty, used-nil, edge-slot, mark-slot}
+use Rattle.removal.proofs.SlotLaws.{Setting, used-nil, edge-slot, mark-slot}
 
 module _ (G : Graph) (L : PathList) (order : List ℕ) (B : Bounds) where
   -- a row stays right while its flags are not changed
@@ -106,22 +106,6 @@ module _ (D : Design) (G : Graph) (L : PathList) (order : List ℕ) (B : Bounds)
             p .steps (t .0) (t .1) j h (r .0) (t .2))
             (reached-from (slotMark L order B c j) (r .1))
 
-    -- and no other row is right
-    pub row-backward : ReachedRow G L order B reached c → Backward G L order B reached c
-    row-backward row =
-        record {
-          sound = λ j h f.
-              let r = row j h .0 f in (
-                r .0,
-                ⊎-elim
-                    (λ (t : T (endsAt G c) × (slotMark L order B c j ≡ [])). inl (t .0, used-nil L order B c j (r .0) (t .1)))
-                    inr
-                    (reached-from (slotMark L order B c j) (r .1)),
-              );
-          ends = λ t. row 0 (omega arith) .1 (used-empty L order B c, end-reached t);
-          steps = λ e k j h u s. row j h .1 (u, step-reached e k (slotMark L order B c j) s);
-        }
-
   -- pass 2, from the rows of lower copies
   module _ (reached shown : ℕ → ℕ → Bool) (c : ℕ) (inside : c < length (G .nodes)) (here : ReachedRow G L order B reached c)
       (lower : (d : ℕ) → d < c → ShownRow G L order B shown d) where
@@ -178,21 +162,6 @@ module _ (D : Design) (G : Graph) (L : PathList) (order : List ℕ) (B : Bounds)
             (λ (t : (e : Edge) × (k : ℕ) × StepOn G L order B shown c j e k). p .steps j h f (t .0) (t .1) (t .2))
             (shown-from j (s .1))
 
-    -- and no other row is right
-    pub row-forward : ShownRow G L order B shown c → Forward G L order B reached shown c
-    row-forward row =
-        record {
-          sound = λ j h f.
-              let s = row j h .0 f in
-              (here j h .1 (s .0, shown-reached G (pathsOf L) (at-slot j) (s .1)), shown-from j (s .1));
-          starts = λ j h f t.
-              let r = here j h .0 f in
-              row j h .1 (r .0, shown-start G (pathsOf L) (at-slot j) inside t (r .1));
-          steps = λ j h f e k x.
-              let r = here j h .0 f in
-              row j h .1 (r .0, step-shown j e k (r .1) x);
-        }
-
   -- so where each row is what a pass makes, all rows are right
   pub reached-rows : (reached : ℕ → ℕ → Bool) → ((c : ℕ) → c < length (G .nodes) → Backward G L order B reached c)
       → (c : ℕ) → c < length (G .nodes) → ReachedRow G L order B reached c
@@ -201,12 +170,3 @@ module _ (D : Design) (G : Graph) (L : PathList) (order : List ℕ) (B : Bounds)
       go : (k c : ℕ) → length (G .nodes) ≤ c + k → c < length (G .nodes) → ReachedRow G L order B reached c
       go zero c a l = absurd (omega arith)
       go (suc k) c a l = reached-row reached c l (λ d b m. go k d (omega arith) m) (p c l)
-
-  pub shown-rows : (reached shown : ℕ → ℕ → Bool) → ((c : ℕ) → c < length (G .nodes) → ReachedRow G L order B reached c)
-      → ((c : ℕ) → c < length (G .nodes) → Forward G L order B reached shown c)
-      → (c : ℕ) → c < length (G .nodes) → ShownRow G L order B shown c
-  shown-rows reached shown r p c h = go (suc c) c (omega arith) h
-    where
-      go : (k c : ℕ) → c < k → c < length (G .nodes) → ShownRow G L order B shown c
-      go zero c a l = absurd (omega arith)
-      go (suc k) c a l = shown-row reached shown c l (r c l) (λ d b. go k d (omega arith) (omega arith)) (p c l)

@@ -74,10 +74,6 @@ module _ (B : Bounds) (shown : ℕ → ℕ → Bool) where
       ∙ flatMap-last (λ c. shownIn shown c (slots B c)) (upto c 0) c
 
   -- and their numbers
-  pub number-zero : numberOf B shown 0 0 ≡ 0
-  unfolding flatMap
-  number-zero = omega arith
-
   pub number-next : (c j : ℕ) → numberOf B shown c (suc j) ≡ numberOf B shown c j + one (shown c j)
   number-next c j =
       let z : 0 + j ≡ j = omega arith in
@@ -91,10 +87,6 @@ module _ (B : Bounds) (shown : ℕ → ℕ → Bool) where
       let a : length (shownBelow B shown (suc c)) ≡ length (shownBelow B shown c) + length (shownIn shown c (slots B c)) =
       ap length (shown-next-copy c) ∙ length-append (shownBelow B shown c) (shownIn shown c (slots B c)) in
       omega (arith, a, length-map (keep (shown c) (upto (slots B c) 0)) (slotAt c))
-
-  -- the number past the last slot is how many there are
-  pub number-all : (n : ℕ) → length (shownBelow B shown n) ≡ numberOf B shown n 0
-  number-all n = omega arith
 
 -- a number depends on the flags of the slots before it
 module _ (B : Bounds) (shown after : ℕ → ℕ → Bool) (c : ℕ) (below : (d k : ℕ) → d < c → k < slots B d → after d k ≡ shown d k) where

@@ -1,14 +1,14 @@
 -- The first positions of paths: where no path is empty, a path starts at 0 and wherever the position before has one edge left.
-use Prim.Native.Nat.{ℕ, zero, suc, _+_, _-_, _≤_, _<_}
+use Prim.Native.Nat.{ℕ, suc, _+_, _-_, _≤_, _<_}
 use native.Mathlib.Omega.{arith}
 use native.Mathlib.Decide.{decLt}
-use mathlib.Core.Path.{_≡_, _∙_, ap}
+use mathlib.Core.Path.{_≡_, _∙_}
 use mathlib.Core.Bool.{Bool, true, false, cond}
-use mathlib.Core.List.{List, [], _∷_, map}
+use mathlib.Core.List.{List, [], _∷_}
 use lib.Dec.{eqb, ltb}
 use lib.ListN.{length, getD}
 use borrow.Author.Tests.{lt-ltb, le-ltb, eq-eqb, ne-eqb}
-use Rattle.timing.specs.Lists.{sum, upto}
+use Rattle.timing.specs.Lists.{sum}
 use Rattle.removal.specs.Positions.{restIn, headIn}
 
 pub head-small : (lengths : List ℕ) (i : ℕ) → headIn lengths i ≤ 1

@@ -24,8 +24,8 @@ use Rattle.timing.specs.Tests.{sameSizes, designSizes, listSizes, nodeCount, de
 use Rattle.timing.specs.Calls.{GraphSlices, graphSlices, graphOf, graphSizes, Outcome, refused, outcome, Removal, lentRemoval, removalTests, removeFromDesign, removeFromGraph, graphAnswer, nodesAfter, startsAfter, endsAfter, namesAfter, scratchAfter}
 use Rattle.theorems.proofs.Lists.{and-left, and-right, holds, length-upto}
 use Rattle.timing.proofs.Verdicts.{then-passed, unless-passed}
-use Rattle.theorems.proofs.Tested.{DesignFits, design-fits, ListFits, list-fits, Formed, formed, tests-count, no-delays}
-use Rattle.theorems.proofs.Legal.{Legal, fits-legal, formed-legal}
+use Rattle.theorems.proofs.Tested.{DesignFits, design-fits, ListFits, list-fits, formed, tests-count, no-delays}
+use Rattle.theorems.proofs.Legal.{fits-legal, formed-legal}
 use Rattle.removal.specs.Fill.{SameRooms}
 use Rattle.removal.specs.Remove.{Worked, Workable, Removed, removalOutcome, AllRemoved}
 use Rattle.removal.specs.Numbered.{Numberable, DesignRemoved}
@@ -223,9 +223,6 @@ module _ (n : ℕ) (starts ends : List ℕ) (delays : List ℤ) (listed lengths 
   module _ (e : early ≡ Passed) where
     abbrev all : Tested (designSizes D) (listSizes L) (sameSizes (length from) (length to) (length via)) (designTests D) (listTests D L)
     all = tested (designSizes D) (listSizes L) (sameSizes (length from) (length to) (length via)) (designTests D) (listTests D L) e
-
-    pub design-few : (n ≤ 4096) × (length starts ≤ 16384)
-    design-few = let f = design-fits D (all .sizes) (all .design) in (f .fewNodes, f .fewEdges)
 
     pub design-numberable : (m : ℕ) → m ≡ length starts → Numberable starts ends listed lengths n m from to via
     design-numberable m q =

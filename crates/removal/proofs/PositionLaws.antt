@@ -41,20 +41,6 @@ at-cases k i =
       | no f ↦ inr (i - k, omega arith)
     ]
 
-pub head-either : (ks : List ℕ) (i : ℕ) → (headIn ks i ≡ 0) ⊎ (headIn ks i ≡ 1)
-head-either [] i = inl refl
-head-either (k ∷ ks) i =
-    ⊎-elim
-    (λ h.
-    elim (ℕ-discrete i 0) [
-      | yes e ↦ inr (ap (headIn (k ∷ ks)) e ∙ head-first k ks (omega arith))
-      | no f ↦ inl (head-inner k ks i (omega arith) h)
-    ])
-    (λ (p : (j : ℕ) × (i ≡ k + j)).
-    let q : headIn (k ∷ ks) i ≡ headIn ks (p .0) = ap (headIn (k ∷ ks)) (p .1) ∙ head-past k ks (p .0) in
-    ⊎-elim (λ e. inl (q ∙ e)) (λ e. inr (q ∙ e)) (head-either ks (p .0)))
-    (at-cases k i)
-
 pub rest-positive : (ks : List ℕ) (i : ℕ) → i < sum ks → 1 ≤ restIn ks i
 rest-positive [] i h = absurd (omega arith)
 rest-positive (k ∷ ks) i h =
@@ -245,14 +231,5 @@ module _ (L : PathList) (total : sum (L .lengths) ≡ length (L .edges)) where
         let e : restAt L i ≡ suc (restAt L i - 1) = omega (arith, rest-least) in
         ap₂ take e (drop-cons (L .edges) i 0 inside) ∙ ap (λ (n : ℕ). getD (L .edges) i 0 ∷ take (restAt L i - 1) (drop n (L .edges))) (sym (add-one i))
 
-    pub tail-last : restAt L i ≡ 1 → tailAt L i ≡ getD (L .edges) i 0 ∷ []
-    tail-last e = let z : restAt L i - 1 ≡ 0 = omega arith in tail-cons ∙ ap (λ (n : ℕ). getD (L .edges) i 0 ∷ take n (drop (i + 1) (L .edges))) z
-
     pub next-rest : 1 < restAt L i → restAt L (i + 1) ≡ restAt L i - 1
     next-rest h = rw add-one (omega (arith, rest-next (L .lengths) i h .0))
-
-    pub next-head : 1 < restAt L i → headAt L (i + 1) ≡ 0
-    next-head h = rw add-one (rest-next (L .lengths) i h .1)
-
-    pub tail-next : 1 < restAt L i → tailAt L i ≡ getD (L .edges) i 0 ∷ tailAt L (i + 1)
-    tail-next h = tail-cons ∙ ap (λ (n : ℕ). getD (L .edges) i 0 ∷ take n (drop (i + 1) (L .edges))) (sym (next-rest h))

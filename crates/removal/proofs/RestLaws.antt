@@ -6,7 +6,7 @@ use mathlib.Core.Path.{_≡_, refl, sym, _∙_, ap, ap₂, subst}
 use mathlib.Core.Logic.{_⊎_, ⊎-elim}
 use mathlib.Core.Bool.{Bool, false, cond}
 use mathlib.Core.List.{List, [], _∷_, map, List·Memᴰ, List·Memᴰ·head, List·Memᴰ·tail, List·Memᴰ·not-nil, List·Memᴰ·cases-cons}
-use lib.Dec.{T, eqb, ltb}
+use lib.Dec.{T, eqb}
 use lib.ListN.{length, getD, take, drop, set}
 use lib.Seq.{getD-set-same, getD-set-other, ext-getD}
 use borrow.Author.Tests.{lt-ltb, le-ltb, eq-eqb, ne-eqb}
@@ -16,7 +16,7 @@ use Rattle.timing.specs.Marks.{PathList, cut}
 use Rattle.theorems.proofs.Lists.{getD-mem}
 use Rattle.theorems.proofs.Tested.{ListFits}
 use Rattle.removal.specs.Table.{table, Frame}
-use Rattle.removal.specs.Positions.{restIn, headIn, restAt, headAt, positionKey}
+use Rattle.removal.specs.Positions.{restIn, restAt, headAt, positionKey}
 use Rattle.removal.specs.Listed.{PathRests, Rests, RestTable, headFrom, keyFrom}
 use Rattle.removal.proofs.Region.{table-at, table-length}
 use Rattle.removal.proofs.HeadLaws.{head-first, head-next}
@@ -162,12 +162,3 @@ head-no s base n i f h e = sym (head-after s base n i f h ∙ ap (λ (b : Bool).
 -- there is room for the next path
 pub path-room : (l : List ℕ) (base k m : ℕ) → k < length l → base + sum l ≤ m → base + sum (take k l) + getD l k 0 ≤ m
 path-room l base k m h r = omega (arith, sum-step l k h, sum-take l (suc k))
-
--- a rest table outlives what is written elsewhere
-pub still-rest-table : (L : PathList) (s t : List ℕ) (base b m : ℕ) → RestTable L s base → Frame s t b m
-    → (base + length (L .edges) ≤ b) ⊎ (b + m ≤ base) → RestTable L t base
-still-rest-table L s t base b m r f h = record {
-  total = r .total;
-  filled = r .filled;
-  rests = ⊎-elim (λ l. f .below base (length (L .edges)) l) (λ l. f .above base (length (L .edges)) l) h ∙ r .rests;
-}

@@ -258,7 +258,3 @@ module _ (D : Design) (G : Graph) (L : PathList) (order : List ℕ) (B : Bounds)
               (k .0, k .1, k .2 ∙ q .2),
           λ r. subst (λ (x : Edge). List·Memᴰ x (shownEdges G B shown ins test from)) (r .2) (join-made (r .0) (joined-link G (pathsOf L) (r .0) (r .1))),
         ))
-
-    -- so what is written is the true graph
-    pub shown-graph : graph (map (λ (s : Slot). nodeOf G (s .copy)) (shownSlots G B shown)) (shownEdges G B shown ins test from) ≡ trueGraph G (pathsOf L)
-    shown-graph = λ i. graph (shown-nodes i) (shown-edges i)

@@ -43,10 +43,6 @@ nodes-two f k xs ys room now after a b = put-two f k (k + length xs) xs ys room 
 pub edged-none : (k : ℕ) (from to via : List ℕ) → Edged [] k from to via from to via k
 edged-none k from to via = record { starts = refl; ends = refl; names = refl; next = omega arith }
 
-pub edged-one : (e : Edge) (k : ℕ) (from to via : List ℕ)
-    → Edged (e ∷ []) k from to via (set from k (e .start)) (set to k (e .end)) (set via k (e .name)) (k + 1)
-edged-one e k from to via = record { starts = refl; ends = refl; names = refl; next = omega arith }
-
 pub edged-more : (es fs : List Edge) (k r n : ℕ) (from to via from′ to′ via′ from″ to″ via″ : List ℕ) → Edged es k from to via from′ to′ via′ r
     → Edged fs r from′ to′ via′ from″ to″ via″ n → Edged (es ++ fs) k from to via from″ to″ via″ n
 edged-more es fs k r n from to via from′ to′ via′ from″ to″ via″ a b =

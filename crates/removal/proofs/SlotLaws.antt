@@ -55,15 +55,6 @@ before-skip a b xs ys e =
     go u v p q = rw (p, q)
 
 module _ (L : PathList) (order : List ℕ) (B : Bounds) (c : ℕ) where
-  -- whether a slot is used is decided
-  pub used-or-not : (j : ℕ) → Used L order B c j ⊎ (Used L order B c j → ⊥)
-  used-or-not j =
-      ⊎-elim
-      (λ (r : (i : ℕ) × (i < j) × (slotMark L order B c i ≡ slotMark L order B c j) × ((k : ℕ) → k < i → slotMark L order B c k ≡ slotMark L order B c j → ⊥)).
-      inr (λ u. u (r .0) (r .1) (r .2)))
-      (λ none. inl none)
-      (first-place (slotMark L order B c) (slotMark L order B c j) j)
-
   -- the slot of the empty mark is used
   pub used-empty : Used L order B c 0
   used-empty i h e = omega arith

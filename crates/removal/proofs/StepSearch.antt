@@ -15,7 +15,7 @@ use Rattle.timing.specs.Marks.{isPrefix}
 use Rattle.timing.specs.Sorting.{before}
 use Rattle.theorems.proofs.Lists.{holds, fails, anyOf-intro, anyOf-elim, mem-upto, of-upto}
 use Rattle.theorems.proofs.Marks.{Prefix, prefix-sound}
-use Rattle.removal.specs.Step.{following, restFor, tailFor, fitting, sizeKey, Rising, comesBefore, Parted, Longest, PositionRoom, PlacesRoom}
+use Rattle.removal.specs.Step.{following, restFor, tailFor, fitting, sizeKey, Rising, comesBefore, Parted, Longest, PlacesRoom}
 use Rattle.removal.proofs.KeyLaws.{decided, tied, edges-cons}
 use Rattle.removal.proofs.SortLaws.{O}
 use Rattle.removal.proofs.StepLaws.{prefix-long, true-false}
@@ -56,11 +56,6 @@ unfolding comesBefore
 key-is flat s rest order t name at len k i m p q =
     let e : m ≡ restFor s rest order t = q ∙ ap (λ (j : ℕ). getD s (rest + j) 0) p in
     ap₂ (λ (a b : ℕ). before (a ∷ take a (drop b flat)) (k ∷ take k (following flat name at len))) e p
-
-pub read-inside : (flat s : List ℕ) (rest order t at len i m : ℕ) → i ≡ getD s (order + t) 0 → m ≡ getD s (rest + i) 0 → PositionRoom flat s rest (getD s (order + t) 0) at len
-    → i + m ≤ length flat
-read-inside flat s rest order t at len i m p q r =
-    let e : m ≡ restFor s rest order t = q ∙ ap (λ (j : ℕ). getD s (rest + j) 0) p in omega (arith, r .inside)
 
 -- what is not after something that is before c is before c
 le-then : (a b c : List ℕ) → (T (before b a) → ⊥) → T (before b c) → T (before a c)
@@ -169,18 +164,6 @@ module _ (flat s : List ℕ) (rest order from to name at len : ℕ) (room : Plac
   below-start = record { before-hi = λ t h l f. l; short = λ t h l f. fit-short t l f }
 
   module _ (up : Rising flat s rest order from to) where
-    rising-size : (a b : ℕ) → from ≤ a → a ≤ b → b < to → restFor s rest order a ≤ restFor s rest order b
-    rising-size a b h l m = go (ℕ-discrete a b) (decLt (restFor s rest order b) (restFor s rest order a))
-      where
-        go : Dec (a ≡ b) → Dec (restFor s rest order b < restFor s rest order a) → restFor s rest order a ≤ restFor s rest order b
-        go (yes e) d = rw e (omega arith)
-        go (no f) (yes q) =
-            absurd (up .rises a b h (omega arith) m
-            (holds (before (sizeKey flat s rest order b) (sizeKey flat s rest order a))
-            (decided (restFor s rest order b) (restFor s rest order a) (tailFor flat s rest order b) (tailFor flat s rest order a) (λ e. omega arith)
-            ∙ is-true (ltb (restFor s rest order b) (restFor s rest order a)) (lt→ltb (restFor s rest order b) (restFor s rest order a) q))))
-        go (no f) (no g) = omega arith
-
     module _ (hi most : ℕ) (low : from < hi) (high : hi ≤ to) (b : Below flat s rest order from to (following flat name at len) hi most) where
       module _ (p : ℕ) (q : Parted (comesBefore flat s rest order (following flat name at len) most) from hi p) (least : from ≤ p) where
         -- the place found is the first of the longest

@@ -2,10 +2,8 @@
 use Prim.Native.Nat.{ℕ, suc, _+_, _*_, _≤_, _<_}
 use native.Mathlib.Omega.{arith}
 use mathlib.Core.Path.{_≡_, refl, sym, _∙_, ap, subst}
-use mathlib.Core.List.{List, map}
+use mathlib.Core.List.{List}
 use lib.ListN.{length, getD}
-use Rattle.timing.specs.Lists.{upto}
-use Rattle.timing.specs.Graphs.{Design}
 use Rattle.timing.specs.Marks.{PathList, pathList}
 use Rattle.theorems.proofs.Lists.{getD-mem}
 use Rattle.removal.specs.Table.{table, Frame}
@@ -13,7 +11,7 @@ use Rattle.removal.specs.Positions.{restAt, Ordered}
 use Rattle.removal.specs.Listed.{RestTable, Coded, Sortable, Arranged}
 use Rattle.removal.specs.Ranks.{RestsFall, Ranked, Levels}
 use Rattle.removal.specs.Search.{ofStarts, codeOf, codeIn, Rising, FirstsBy, Firsts}
-use Rattle.removal.specs.Tails.{Tailed, TailsLinked, Orderable, Tabulated, LinkedTo}
+use Rattle.removal.specs.Tails.{Tailed, TailsLinked, Orderable, Tabulated}
 use Rattle.removal.proofs.Region.{table-length, frame-wider, frame-trans}
 use Rattle.removal.proofs.RestLaws.{table-is, head-is}
 use Rattle.removal.proofs.SearchLaws.{table-rises, table-firsts}
