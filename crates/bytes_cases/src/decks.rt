@@ -2,10 +2,10 @@
 use super::say;
 use cases::Slice;
 use cases::fill;
-use cases::least;
 use cases::unpack;
 use entries::front;
 use entries::front_delays;
+use entries::least;
 use packed_lists::take_number;
 use print::refused;
 use print::text;

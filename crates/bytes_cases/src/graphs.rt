@@ -1,8 +1,8 @@
 // Graphs: read into a room, and written to one.
 use super::say;
 use cases::fill;
-use cases::least;
 use entries::front;
+use entries::least;
 use packed_lists::take_number;
 use print::refused;
 use print::text;

@@ -104,7 +104,7 @@ fn say_words(s: &[u32]) {
 
 // The first k words of a table.
 pub(crate) fn table(s: &[u32], k: usize) {
-    let len = cases::least(k, s.len());
+    let len = entries::least(k, s.len());
     if 0 < len {
         text(b";");
         say_words(&s[..len]);
@@ -151,7 +151,7 @@ fn say_bytes(s: &[u8]) {
 }
 
 fn first_bytes(s: &[u8], k: usize) {
-    let len = cases::least(k, s.len());
+    let len = entries::least(k, s.len());
     say_bytes(&s[..len]);
 }
 

@@ -8,6 +8,7 @@ ghost use lib.ListN.{length, take};
 ghost use lib.Seq.{sets};
 ghost use Rattle.timing.specs.Delays.{delayOf};
 ghost use Rattle.cases.specs.Slices.{stepValue, stepNext, IsSlice};
+use entries::least;
 use packed_delays::unpack_delay;
 use packed_lists::take_number;
 use timing::Taken;
@@ -16,12 +17,6 @@ use timing::Taken;
 pub struct Slice {
     pub len: usize,
     pub next: usize,
-}
-
-pub fn least(a: usize, b: usize) -> usize
-    ensures { λ r. ⌜ (r ≡ min a b) × (r ≤ a) × (r ≤ b) ⌝ }
-{
-    if a <= b { a } else { b }
 }
 
 // The next stored number, or where none is left the value once more.

@@ -3,9 +3,9 @@
 mod lines;
 mod text;
 
-use cases::least;
 use entries::front;
 use entries::front_delays;
+use entries::least;
 use libc::STDIN_FILENO;
 use lines::put_graph;
 use lines::put_nodes;

@@ -1,5 +1,5 @@
 // Text made in a lent buffer, and written to standard output a block at a time.
-use cases::least;
+use entries::least;
 use libc::STDOUT_FILENO;
 
 pub(crate) type Text = [u8; 65536];

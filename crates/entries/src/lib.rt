@@ -1,5 +1,6 @@
 // Slices read for all indices and counts: what is not there is 0, and a front ends where the slice ends. An
-// index that comes out of a table then needs no proof.
+// index that comes out of a table then needs no proof. And what such counts are made of.
+ghost use Prim.Native.Nat.{_≤_, min};
 ghost use mathlib.Core.Path.{_≡_};
 ghost use lib.IntN.{pos};
 ghost use lib.ListN.{getD, take};
@@ -43,4 +44,18 @@ pub fn front_delays<'a>(delays: &'a [i32], count: usize) -> &'a [i32]
         return &delays[..count];
     }
     delays
+}
+
+// The smaller of two counts.
+pub fn least(a: usize, b: usize) -> usize
+    ensures { λ r. ⌜ (r ≡ min a b) × (r ≤ a) × (r ≤ b) ⌝ }
+{
+    if a <= b { a } else { b }
+}
+
+// A number as a count or an index: a cast in a call of its own asks its caller for no proof.
+pub fn wide(x: u32) -> usize
+    ensures { λ r. ⌜ r ≡ x ⌝ }
+{
+    x as usize
 }

@@ -1,7 +1,7 @@
 // What is lent before a removal, and what is printed of it afterwards.
 ghost use Prim.Native.Nat.{_≤_, _<_};
 ghost use lib.ListN.{length};
-use cases::least;
+use entries::least;
 use print::refused;
 use print::text;
 use timing::GraphMade;

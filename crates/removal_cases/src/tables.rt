@@ -5,8 +5,8 @@ ghost use Prim.Native.Nat.{_≤_};
 ghost use lib.ListN.{length};
 use cases::Slice;
 use cases::fill;
-use cases::least;
 use cases::unpack;
+use entries::least;
 use packed_lists::take_number;
 use timing::GraphMade;
 

@@ -5,10 +5,10 @@
 // A slice is how many numbers follow, how many more there are, by how much each of these is above the
 // one before, and the numbers. So slices need not belong together, and a chain takes few bytes.
 use cases::Slice;
-use cases::least;
 use cases::unpack;
 use entries::front;
 use entries::front_delays;
+use entries::least;
 use libc::STDIN_FILENO;
 use packed_lists::take_number;
 use print::refused;
