@@ -43,4 +43,3 @@ pub mod CountLaws
 pub mod RemoveLaws
 pub mod AnswerLaws
 pub mod Laws
-pub mod Called

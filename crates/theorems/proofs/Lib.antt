@@ -26,5 +26,8 @@ pub mod Times
 pub mod Nodes
 pub mod Demand2Times
 pub mod Records
+-- demand 3 of a series of calls
+pub mod Called
 -- the hypotheses can be met
 pub mod Examples
+pub mod CalledExample

@@ -20,3 +20,4 @@ pub mod Tests
 -- what each call answers, and what each lent buffer holds afterwards
 pub mod Calls
 pub mod Series
+pub mod Called

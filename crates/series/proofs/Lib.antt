@@ -1,0 +1,2 @@
+-- Demand 3 of a series of calls.
+pub mod Series

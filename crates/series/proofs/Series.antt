@@ -1,0 +1,31 @@
+-- Each call meets what `removeFromDesign` or `removeFromGraph` says of it: that is what its contract says. So a series of calls ran as
+-- the definitions ask, and demand 3 follows.
+use mathlib.Core.Path.{_≡_, sym, subst}
+use mathlib.Core.List.{List, [], _∷_, map}
+use mathlib.Core.Option.{Option, none, some}
+use Rattle.timing.specs.Graphs.{Design, Graph}
+use Rattle.timing.specs.Calls.{GraphSlices, Outcome}
+use Rattle.timing.specs.Called.{removalOf, Meets, removeOn, Ran, CalledDemand3}
+use Rattle.theorems.proofs.Called.{called-demand3}
+use Rattle.series.specs.Calls.{Call, onDesign, onGraph, designOf, earlierOf, calledOf, Follows}
+
+pub meets : (c : Call) → Meets (removeOn (designOf c) (earlierOf c) (removalOf (calledOf c))) (calledOf c)
+meets (onDesign c) =
+    let e = c .learnt in
+    record { answer = e .0; nodes = e .1 .0; starts = e .1 .1 .0; ends = e .1 .1 .1 .0; names = e .1 .1 .1 .1 .0; scratch = e .1 .1 .1 .1 .1 }
+meets (onGraph c) =
+    let e = c .learnt in
+    record { answer = e .0; nodes = e .1 .0; starts = e .1 .1 .0; ends = e .1 .1 .1 .0; names = e .1 .1 .1 .1 .0; scratch = e .1 .1 .1 .1 .1 }
+
+pub ran : (D : Design) (held : Option GraphSlices) (cs : List Call) → Follows D held cs → Ran D held (map calledOf cs)
+ran D held [] f = tt
+ran D held (c ∷ cs) (d, h, f) = (
+  subst (λ (S : Option GraphSlices). Meets (removeOn D S (removalOf (calledOf c))) (calledOf c)) h
+  (subst (λ (E : Design). Meets (removeOn E (earlierOf c) (removalOf (calledOf c))) (calledOf c)) d (meets c)),
+  ran D _ cs f,
+)
+
+-- Demand 3 over the calls themselves: whatever the two removals are lent, in any order, refused or not, if each is lent the design
+-- and the front of the last unrefused room.
+pub series-demand3 : (D : Design) (cs : List Call) → Follows D none cs → CalledDemand3 D (map calledOf cs)
+series-demand3 D cs f = called-demand3 D (map calledOf cs) (ran D none cs f)

@@ -1,0 +1,2 @@
+-- What a series of calls of the two removals is.
+pub mod Calls

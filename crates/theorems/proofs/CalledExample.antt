@@ -1,0 +1,69 @@
+-- `Ran` can be met, with refused calls in it: M6 by parts over deck A. An empty path is refused 22 while no graph is held; 1,2 makes
+-- deck A's graph; 0,3 in room for five copies is refused 33, and in room for six it makes the last graph. Rooms and scratch held 9
+-- before.
+use Prim.Native.Nat.{ℕ}
+use mathlib.Core.Path.{refl}
+use mathlib.Core.List.{List, [], _∷_, map, flatMap}
+use mathlib.Core.Option.{none}
+use lib.IntN.{pos}
+use Rattle.timing.specs.declared.GraphMade.{GraphMade}
+use Rattle.timing.specs.declared.GraphMade.the-variants.{Counts}
+use Rattle.timing.specs.declared.GraphMade.the-variants.{Refused as NoGraph}
+use Rattle.timing.specs.Lists.{upto}
+use Rattle.timing.specs.Graphs.{Design, design, designGraph, edgesIn, edgesOut, runsFrom, completeRuns}
+use Rattle.timing.specs.Marks.{permitted, tails, mark}
+use Rattle.timing.specs.TrueGraphs.{permittedRuns, copies, joins, trueGraph}
+use Rattle.timing.specs.WellFormed.{wellFormed}
+use Rattle.timing.specs.Refusals.{refusal}
+use Rattle.timing.specs.Tests.{designTests, listTests, candidates, scratchTest, roomTests}
+use Rattle.timing.specs.Calls.{GraphSlices, graphSlices, removeFromDesign, removeFromGraph}
+use Rattle.timing.specs.Called.{Called, Ran, CalledDemand3}
+use Rattle.theorems.proofs.Called.{called-demand3}
+
+abbrev deckA : Design
+deckA = design 5 (0 ∷ 1 ∷ 2 ∷ 2 ∷ []) (2 ∷ 2 ∷ 3 ∷ 4 ∷ []) (pos 3 ∷ pos 5 ∷ pos 2 ∷ pos 1 ∷ [])
+
+abbrev words : ℕ → ℕ → List ℕ
+words n x = map (λ i. x) (upto n 0)
+
+-- room for some copies and six edges
+abbrev roomFor : ℕ → GraphSlices
+roomFor n = graphSlices (words n 9) (words 6 9) (words 6 9) (words 6 9)
+
+-- a call with 240 words of scratch, which hold x afterwards
+abbrev called : List ℕ → List ℕ → GraphSlices → GraphMade → GraphSlices → ℕ → Called
+called listed lengths room answer after x = record {
+  listed = listed;
+  lengths = lengths;
+  room = room;
+  scratch = words 240 9;
+  answer = answer;
+  after = after;
+  scratchAt = words 240 x;
+}
+
+abbrev series : List Called
+series =
+    called [] (0 ∷ []) (roomFor 6) (NoGraph (refusal 22 0)) (roomFor 6) 9
+    ∷ called (1 ∷ 2 ∷ []) (2 ∷ []) (roomFor 6) (Counts 6 5)
+    (graphSlices (0 ∷ 1 ∷ 2 ∷ 2 ∷ 3 ∷ 4 ∷ []) (0 ∷ 1 ∷ 0 ∷ 3 ∷ 2 ∷ 9 ∷ []) (2 ∷ 2 ∷ 3 ∷ 4 ∷ 5 ∷ 9 ∷ []) (0 ∷ 1 ∷ 0 ∷ 2 ∷ 3 ∷ 9 ∷ [])) 0
+    ∷ called (0 ∷ 3 ∷ []) (2 ∷ []) (roomFor 5) (NoGraph (refusal 33 0)) (roomFor 5) 0
+    ∷ called (0 ∷ 3 ∷ []) (2 ∷ []) (roomFor 6) (Counts 6 4)
+    (graphSlices (0 ∷ 1 ∷ 2 ∷ 2 ∷ 3 ∷ 4 ∷ []) (1 ∷ 0 ∷ 3 ∷ 2 ∷ 9 ∷ 9 ∷ []) (2 ∷ 3 ∷ 4 ∷ 5 ∷ 9 ∷ 9 ∷ []) (1 ∷ 0 ∷ 2 ∷ 3 ∷ 9 ∷ 9 ∷ [])) 0
+    ∷ []
+
+pub series-ran : Ran deckA none series
+unfolding flatMap designGraph edgesIn edgesOut runsFrom completeRuns permitted tails mark permittedRuns copies joins trueGraph wellFormed designTests listTests candidates scratchTest roomTests removeFromDesign removeFromGraph
+series-ran = (
+  record { answer = refl; nodes = refl; starts = refl; ends = refl; names = refl; scratch = refl },
+  (
+    record { answer = refl; nodes = refl; starts = refl; ends = refl; names = refl; scratch = refl },
+    (
+      record { answer = refl; nodes = refl; starts = refl; ends = refl; names = refl; scratch = refl },
+      (record { answer = refl; nodes = refl; starts = refl; ends = refl; names = refl; scratch = refl }, tt),
+    ),
+  ),
+)
+
+pub series-demand3 : CalledDemand3 deckA series
+series-demand3 = called-demand3 deckA series series-ran
