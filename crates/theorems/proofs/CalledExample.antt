@@ -20,18 +20,18 @@ use Rattle.timing.specs.Calls.{GraphSlices, graphSlices, removeFromDesign, remo
 use Rattle.timing.specs.Called.{Called, Ran, CalledDemand3}
 use Rattle.theorems.proofs.Called.{called-demand3}
 
-abbrev deckA : Design
+abbrev pub deckA : Design
 deckA = design 5 (0 ∷ 1 ∷ 2 ∷ 2 ∷ []) (2 ∷ 2 ∷ 3 ∷ 4 ∷ []) (pos 3 ∷ pos 5 ∷ pos 2 ∷ pos 1 ∷ [])
 
-abbrev words : ℕ → ℕ → List ℕ
+abbrev pub words : ℕ → ℕ → List ℕ
 words n x = map (λ i. x) (upto n 0)
 
 -- room for some copies and six edges
-abbrev roomFor : ℕ → GraphSlices
+abbrev pub roomFor : ℕ → GraphSlices
 roomFor n = graphSlices (words n 9) (words 6 9) (words 6 9) (words 6 9)
 
 -- a call with 240 words of scratch, which hold x afterwards
-abbrev called : List ℕ → List ℕ → GraphSlices → GraphMade → GraphSlices → ℕ → Called
+abbrev pub called : List ℕ → List ℕ → GraphSlices → GraphMade → GraphSlices → ℕ → Called
 called listed lengths room answer after x = record {
   listed = listed;
   lengths = lengths;
@@ -42,7 +42,7 @@ called listed lengths room answer after x = record {
   scratchAt = words 240 x;
 }
 
-abbrev series : List Called
+abbrev pub series : List Called
 series =
     called [] (0 ∷ []) (roomFor 6) (NoGraph (refusal 22 0)) (roomFor 6) 9
     ∷ called (1 ∷ 2 ∷ []) (2 ∷ []) (roomFor 6) (Counts 6 5)
