@@ -23,7 +23,7 @@ callOn D none c m = (
     passed = (D .nodes, (lent (D .starts), (lent (D .ends), (lent (D .delays), (lent (c .listed), (lent (c .lengths), (lent (c .room .nodes), (lent (c .room .starts), (lent (c .room .ends), (lent (c .room .names), (lent (c .scratch), tt)))))))))));
     answer = c .answer;
     left = (D .nodes, (lent (D .starts), (lent (D .ends), (lent (D .delays), (lent (c .listed), (lent (c .lengths), (lent (c .after .nodes), (lent (c .after .starts), (lent (c .after .ends), (lent (c .after .names), (lent (c .scratchAt), tt)))))))))));
-    learnt = (m .answer, (m .nodes, (m .starts, (m .ends, (m .names, m .scratch)))));
+    learnt = (m .answer, m .nodes, m .starts, m .ends, m .names, m .scratch);
   },
   refl,
   refl,
@@ -35,7 +35,7 @@ callOn D (some S) c m = (
     passed = (D .nodes, (lent (D .starts), (lent (D .ends), (lent (D .delays), (lent (c .listed), (lent (c .lengths), (lent (S .nodes), (lent (S .starts), (lent (S .ends), (lent (S .names), (lent (c .room .nodes), (lent (c .room .starts), (lent (c .room .ends), (lent (c .room .names), (lent (c .scratch), tt)))))))))))))));
     answer = c .answer;
     left = (D .nodes, (lent (D .starts), (lent (D .ends), (lent (D .delays), (lent (c .listed), (lent (c .lengths), (lent (S .nodes), (lent (S .starts), (lent (S .ends), (lent (S .names), (lent (c .after .nodes), (lent (c .after .starts), (lent (c .after .ends), (lent (c .after .names), (lent (c .scratchAt), tt)))))))))))))));
-    learnt = (m .answer, (m .nodes, (m .starts, (m .ends, (m .names, m .scratch)))));
+    learnt = (m .answer, m .nodes, m .starts, m .ends, m .names, m .scratch);
   },
   refl,
   refl,

@@ -12,16 +12,16 @@ use Rattle.series.specs.Calls.{Call, onDesign, onGraph, designOf, earlie
 pub meets : (c : Call) → Meets (removeOn (designOf c) (earlierOf c) (removalOf (calledOf c))) (calledOf c)
 meets (onDesign c) =
     let e = c .learnt in
-    record { answer = e .0; nodes = e .1 .0; starts = e .1 .1 .0; ends = e .1 .1 .1 .0; names = e .1 .1 .1 .1 .0; scratch = e .1 .1 .1 .1 .1 }
+    record { answer = e .0; nodes = e .1; starts = e .2; ends = e .3; names = e .4; scratch = e .5 }
 meets (onGraph c) =
     let e = c .learnt in
-    record { answer = e .0; nodes = e .1 .0; starts = e .1 .1 .0; ends = e .1 .1 .1 .0; names = e .1 .1 .1 .1 .0; scratch = e .1 .1 .1 .1 .1 }
+    record { answer = e .0; nodes = e .1; starts = e .2; ends = e .3; names = e .4; scratch = e .5 }
 
 pub ran : (D : Design) (held : Option GraphSlices) (cs : List Call) → Follows D held cs → Ran D held (map calledOf cs)
 ran D held [] f = tt
 ran D held (c ∷ cs) (d, h, f) = (
   subst (λ (S : Option GraphSlices). Meets (removeOn D S (removalOf (calledOf c))) (calledOf c)) h
-  (subst (λ (E : Design). Meets (removeOn E (earlierOf c) (removalOf (calledOf c))) (calledOf c)) d (meets c)),
+      (subst (λ (E : Design). Meets (removeOn E (earlierOf c) (removalOf (calledOf c))) (calledOf c)) d (meets c)),
   ran D _ cs f,
 )
 
