@@ -13,12 +13,13 @@ use Rattle.timing.specs.WellFormed.{wellFormed}
 use Rattle.timing.specs.Tests.{designSizes, listSizes, designTests, listTests, candidates, scratchTest, roomTests}
 use Rattle.timing.specs.Calls.{Removal, removal, removeFromDesign, removeFromGraph, testTimes}
 use Rattle.timing.specs.Series.{verdicts, HeldIs, heldAfter}
+use Rattle.timing.specs.Paths.{PassesAt}
+use Rattle.timing.specs.Demands.{Demand2, AllPassed, listsOf, RecordOfPaths}
 use Rattle.theorems.proofs.Stands.{Stands, true-stands}
 use Rattle.theorems.proofs.Legal.{Legal, design-legal}
-use Rattle.theorems.proofs.Demand2.{Demand2, design-demand2, graph-demand2}
-use Rattle.theorems.proofs.Demand2Times.{PassesAt}
-use Rattle.theorems.proofs.Records.{RecordOfPaths, removed-record}
-use Rattle.theorems.proofs.Series.{AllPassed, listsOf, cut-list}
+use Rattle.theorems.proofs.Demand2.{design-demand2, graph-demand2}
+use Rattle.theorems.proofs.Records.{removed-record}
+use Rattle.theorems.proofs.Series.{cut-list}
 
 abbrev deckA : Design
 deckA = design 5 (0 ∷ 1 ∷ 2 ∷ 2 ∷ []) (2 ∷ 2 ∷ 3 ∷ 4 ∷ []) (pos 3 ∷ pos 5 ∷ pos 2 ∷ pos 1 ∷ [])

@@ -15,7 +15,6 @@ use lib.Seq.{take-append-seam}
 use Rattle.timing.specs.declared.Verdict.{Verdict}
 use Rattle.timing.specs.declared.Verdict.the-variants.{Passed}
 use Rattle.timing.specs.declared.NodeTimes.{NodeTimes}
-use Rattle.timing.specs.declared.NodeAnswer.{NodeAnswer}
 use Rattle.timing.specs.declared.NodeAnswer.the-variants.{Record}
 use Rattle.timing.specs.Lists.{placed, upto}
 use Rattle.timing.specs.Graphs.{Design, edgeDelay, Edge, Graph, designGraph}
@@ -27,15 +26,17 @@ use Rattle.timing.specs.Refusals.{unless}
 use Rattle.timing.specs.Tests.{sameSizes, nodeCount, designSizes, designTests, listSizes, listTests, graphTest, roomSizes}
 use Rattle.timing.specs.Calls.{GraphSlices, graphSlices, graphOf, slicesOf, graphSizes, made, Removal, removalTests, removeFromDesign, removeFromGraph, nodesAfter, startsAfter, endsAfter, namesAfter, testTimes, arrivalsAfter, requiredsAfter, slacksAfter, recordOf, recordsAfter}
 use Rattle.timing.specs.Series.{heldAfter, wholeAfter}
+use Rattle.timing.specs.Paths.{PassesNode, PassesAt}
+use Rattle.timing.specs.Demands.{recordAfter, RecordOfPaths}
 use Rattle.theorems.proofs.Lists.{holds, and-intro, length-upto, getD-mem}
 use Rattle.timing.proofs.Verdicts.{then-passed, unless-passed}
 use Rattle.theorems.proofs.Runs.{Rising}
-use Rattle.theorems.proofs.Stands.{Stands, true-stands, passes-inside}
+use Rattle.theorems.proofs.Stands.{Stands, true-stands}
 use Rattle.theorems.proofs.Tested.{design-fits, tests-count}
 use Rattle.theorems.proofs.Legal.{Legal, fits-legal, design-legal, wellFormed-legal}
 use Rattle.theorems.proofs.Kept.{true-formed}
 use Rattle.theorems.proofs.Nodes.{at-copy, nodeTimesAt}
-use Rattle.theorems.proofs.Demand2Times.{PassesNode, PassesAt, PathTimes, record-below, design-record}
+use Rattle.theorems.proofs.Demand2Times.{cut-inside, record-below, design-record}
 use Rattle.theorems.proofs.Series.{graph-slices, slices-sizes, removal-few, outcome-made, series-held}
 
 -- A caller lends on the front of each room, as long as the removal answered: it holds the graph that was made.
@@ -54,19 +55,6 @@ front-made H room =
     edges f room =
         ap (λ (k : ℕ). take k (placed (map f (H .edges)) room)) (sym (length-map (H .edges) f))
         ∙ take-append-seam (map f (H .edges)) (drop (length (map f (H .edges))) room)
-
--- What `node_record` answers of node v, from the copies of H and what `times` leaves in the three slices that it is lent.
-abbrev pub recordAfter : Design → Graph → ℕ → List ℤ → List ℤ → List ℤ → ℕ → NodeAnswer
-recordAfter D H t ats rts sts v =
-    let S = slicesOf H in
-    let tested = testTimes D S t (length ats) (length rts) (length sts) in
-    recordOf (D .nodes) (H .nodes) (arrivalsAfter D S t tested ats) (requiredsAfter D S t tested rts) (slacksAfter D S t tested sts) v
-
--- That answer is the record of the paths P: none exactly if there is no such path, and otherwise their three times.
-pub record RecordOfPaths (D : Design) (H : Graph) (t : ℕ) (ats rts sts : List ℤ) (v : ℕ) (P : List Edge → List Edge → Type 0) : Type 0 where
-  pub times : NodeTimes
-  pub answer : recordAfter D H t ats rts sts v ≡ Record (record { node = v; times = times })
-  pub paths : PathTimes (edgeDelay D) (pos t) P times
 
 -- a test that passes, by its condition
 fit-passed : (number : ℕ) (b : Bool) → T b → unless number b ≡ Passed
@@ -223,5 +211,5 @@ module _ (D : Design) (H : Graph) (t : ℕ) (ats rts sts : List ℤ) (tested : t
         answer = record-after v;
         paths =
             record-below (graphOf S) H (pathsOf (r .list)) up (m .stands) v (edgeDelay D) (pos t) (D .nodes)
-            (λ p q (c, n, s, h). m .legal .below v (subst (λ (x : ℕ). List·Memᴰ x (S .nodes)) n (getD-mem (S .nodes) c 0 (passes-inside up s))));
+            (λ p q (c, n, h). m .legal .below v (subst (λ (x : ℕ). List·Memᴰ x (S .nodes)) n (getD-mem (S .nodes) c 0 (cut-inside up h))));
       }

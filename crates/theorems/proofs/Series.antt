@@ -19,6 +19,7 @@ use Rattle.timing.specs.Refusals.{unless, _then_}
 use Rattle.timing.specs.Tests.{designSizes, listSizes, designTests, listTests, graphTest, candidates, scratchTest, Room, roomSizes, roomTests}
 use Rattle.timing.specs.Calls.{GraphSlices, graphOf, slicesOf, graphSizes, Outcome, made, refused, outcome, Removal, removalTests, removeFromDesign, removeFromGraph}
 use Rattle.timing.specs.Series.{removeNext, heldNext, verdictOf, verdicts, heldAfter, wholeNext, verdictAlone, verdictsAlone, wholeAfter, Renumbered, HeldIs, Demand3}
+use Rattle.timing.specs.Demands.{AllPassed, listsOf}
 use Rattle.theorems.proofs.Lists.{holds, and-intro}
 use Rattle.theorems.proofs.Counting.{Nodup}
 use Rattle.timing.proofs.Verdicts.{then-passed, unless-passed}
@@ -288,14 +289,6 @@ demand3 D rs =
 
 -- Corollary: a list cut anywhere between its paths. Where no removal of a series is refused, the graph held is that of all
 -- its lists put end to end, however they were cut.
-abbrev pub AllPassed : List Verdict → Type 0
-AllPassed [] = Unit {0}
-AllPassed (Passed ∷ vs) = AllPassed vs
-AllPassed (Refused x ∷ vs) = ⊥
-
-pub listsOf : List Removal → List (List ℕ)
-listsOf rs = flatMap (λ r. pathsOf (r .list)) rs
-
 whole-passed : (D : Design) (rs : List Removal) (L : List (List ℕ)) → AllPassed (verdictsAlone D (some L) rs) → wholeAfter D (some L) rs ≡ some (L ++ listsOf rs)
 unfolding listsOf flatMap
 whole-passed D [] L a = ap some (sym (append-nil L))

@@ -20,3 +20,6 @@ pub mod Tests
 -- what each call answers, and what each lent buffer holds afterwards
 pub mod Calls
 pub mod Series
+-- what the theorems say of these: demand 2, and whose times the times are
+pub mod Paths
+pub mod Demands
