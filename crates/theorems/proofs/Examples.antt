@@ -11,14 +11,14 @@ use Rattle.timing.specs.Marks.{PathList, pathList, pathsOf, permitted, tails, m
 use Rattle.timing.specs.TrueGraphs.{permittedRuns, copies, joins, trueGraph}
 use Rattle.timing.specs.WellFormed.{wellFormed}
 use Rattle.timing.specs.Tests.{designSizes, listSizes, designTests, listTests, candidates, scratchTest, roomTests}
-use Rattle.timing.specs.Calls.{Removal, removal, removeFromDesign, removeFromGraph, testTimes}
+use Rattle.timing.specs.Calls.{made, Removal, removal, removeFromDesign, removeFromGraph, testTimes}
 use Rattle.timing.specs.Series.{verdicts, HeldIs, heldAfter}
 use Rattle.timing.specs.Paths.{PassesAt}
 use Rattle.timing.specs.Demands.{Demand2, AllPassed, listsOf, RecordOfPaths}
 use Rattle.theorems.proofs.Stands.{Stands, true-stands}
 use Rattle.theorems.proofs.Legal.{Legal, design-legal}
 use Rattle.theorems.proofs.Demand2.{design-demand2, graph-demand2}
-use Rattle.theorems.proofs.Records.{removed-record}
+use Rattle.theorems.proofs.Records.{removed-demand2, removed-record}
 use Rattle.theorems.proofs.Series.{cut-list}
 
 abbrev deckA : Design
@@ -46,6 +46,13 @@ formed = tt
 
 abbrev part : PathList → Removal
 part L = removal L (record { nodes = 512; starts = 2048; ends = 2048; names = 2048 }) 16384
+
+made-A : removeFromDesign deckA (part listA) ≡ made (trueGraph (designGraph deckA) (pathsOf listA))
+unfolding flatMap designGraph edgesIn edgesOut runsFrom completeRuns permitted tails mark permittedRuns copies joins trueGraph wellFormed designTests listTests candidates scratchTest roomTests removeFromDesign
+made-A = refl
+
+pub deckA-made : Demand2 (designGraph deckA) (pathsOf listA) (trueGraph (designGraph deckA) (pathsOf listA))
+deckA-made = removed-demand2 deckA (part listA) (trueGraph (designGraph deckA) (pathsOf listA)) made-A
 
 -- the record of node 2, after the removal and `times` in slices of six places
 abbrev six : List ℤ

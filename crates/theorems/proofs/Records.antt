@@ -1,7 +1,6 @@
--- The record of a node after a removal, over what the calls answer: a removal makes a graph, `times` fills the times of its
--- copies, `node_record` looks at them. Each contract equates its call with a definition of `timing/specs/Calls`; here these
--- definitions follow one another. Whatever a removal makes stands for the graph worked on and the list, and T4 holds of
--- whatever stands.
+-- Demand 2 over what the calls answer: a removal makes a graph, `times` fills the times of its copies, `node_record` looks at
+-- them. Each contract equates its call with a definition of `timing/specs/Calls`; here these definitions follow one another.
+-- Whatever a removal makes stands for the graph worked on and the list, and demand 2 and T4 hold of whatever stands.
 use Prim.Native.Nat.{ℕ, _<_, _≤_}
 use mathlib.Core.Path.{_≡_, refl, sym, ap, _∙_, subst}
 use mathlib.Core.Bool.{Bool, true, false, _&&_}
@@ -27,7 +26,7 @@ use Rattle.timing.specs.Tests.{sameSizes, nodeCount, designSizes, designTests, 
 use Rattle.timing.specs.Calls.{GraphSlices, graphSlices, graphOf, slicesOf, graphSizes, made, Removal, removalTests, removeFromDesign, removeFromGraph, nodesAfter, startsAfter, endsAfter, namesAfter, testTimes, arrivalsAfter, requiredsAfter, slacksAfter, recordOf, recordsAfter}
 use Rattle.timing.specs.Series.{heldAfter, wholeAfter}
 use Rattle.timing.specs.Paths.{PassesNode, PassesAt}
-use Rattle.timing.specs.Demands.{recordAfter, RecordOfPaths}
+use Rattle.timing.specs.Demands.{Demand2, recordAfter, RecordOfPaths}
 use Rattle.theorems.proofs.Lists.{holds, and-intro, length-upto, getD-mem}
 use Rattle.timing.proofs.Verdicts.{then-passed, unless-passed}
 use Rattle.theorems.proofs.Runs.{Rising}
@@ -35,6 +34,7 @@ use Rattle.theorems.proofs.Stands.{Stands, true-stands}
 use Rattle.theorems.proofs.Tested.{design-fits, tests-count}
 use Rattle.theorems.proofs.Legal.{Legal, fits-legal, design-legal, wellFormed-legal}
 use Rattle.theorems.proofs.Kept.{true-formed}
+use Rattle.theorems.proofs.Demand2.{stands-demand2}
 use Rattle.theorems.proofs.Nodes.{at-copy, nodeTimesAt}
 use Rattle.theorems.proofs.Demand2Times.{cut-inside, record-below, design-record}
 use Rattle.theorems.proofs.Series.{graph-slices, slices-sizes, removal-few, outcome-made, series-held}
@@ -125,6 +125,23 @@ from-graph-removed D S r H e =
     let t₇ = then-passed (graphTest D (graphOf S)) _ (t₆ .1) in
     let w = wellFormed D (graphOf S) in
     removed D (graphOf S) r H (t₁ .0) (t₅ .0) (wellFormed-legal D (graphOf S) (t₁ .0) (t₅ .0) (holds w (unless-passed 32 w (t₇ .0)))) (t₇ .1) (o .1)
+
+-- Demand 2 of what a call makes: of a removal from the design; of one from any earlier graph, however it was made; and of the
+-- graph held after a series, for the design and the whole list.
+made-demand2 : (D : Design) (G : Graph) (L : List (List ℕ)) (H : Graph) → Removed D G L H → Demand2 G L H
+made-demand2 D G L H m = stands-demand2 D G H L (m .legal .rising) (m .stands) (wellFormed-legal D H (m .sizes) (m .tests) (m .formed))
+
+pub removed-demand2 : (D : Design) (r : Removal) (H : Graph) → removeFromDesign D r ≡ made H → Demand2 (designGraph D) (pathsOf (r .list)) H
+removed-demand2 D r H e = made-demand2 D (designGraph D) (pathsOf (r .list)) H (from-design-removed D r H e)
+
+pub further-demand2 : (D : Design) (S : GraphSlices) (r : Removal) (H : Graph) → removeFromGraph D S r ≡ made H → Demand2 (graphOf S) (pathsOf (r .list)) H
+further-demand2 D S r H e = made-demand2 D (graphOf S) (pathsOf (r .list)) H (from-graph-removed D S r H e)
+
+pub series-demand2 : (D : Design) (rs : List Removal) (H : Graph) → heldAfter D none rs ≡ some H
+    → (L : List (List ℕ)) × (wholeAfter D none rs ≡ some L) × Demand2 (designGraph D) L H
+series-demand2 D rs H e =
+    let h = series-held D rs H e in
+    (h .0, h .1, stands-demand2 D (designGraph D) H (h .0) (fits-legal D (h .2 .fit) .rising) (h .2 .stands) (h .2 .legal))
 
 -- `times` refuses such a result only for T and for the lengths of its slices
 pub removed-times : (D : Design) (G : Graph) (L : List (List ℕ)) (H : Graph) (t a r s : ℕ) → Removed D G L H → t ≤ 1000000000
