@@ -18,26 +18,26 @@ use Rattle.timing.specs.declared.NodeAnswer.the-variants.{Record}
 use Rattle.timing.specs.Lists.{placed, upto}
 use Rattle.timing.specs.Graphs.{Design, edgeDelay, Edge, Graph, designGraph}
 use Rattle.timing.specs.Marks.{pathsOf}
-use Rattle.timing.specs.TrueGraphs.{trueGraph}
+use Rattle.timing.specs.TrueGraphs.{Copy, trueGraph}
 use Rattle.timing.specs.Times.{arrivalAt, requiredAt, slackAt, nodeTimes, nodeRecord}
 use Rattle.timing.specs.WellFormed.{wellFormed}
 use Rattle.timing.specs.Refusals.{unless}
 use Rattle.timing.specs.Tests.{sameSizes, nodeCount, designSizes, designTests, listSizes, listTests, graphTest, roomSizes}
 use Rattle.timing.specs.Calls.{GraphSlices, graphSlices, graphOf, slicesOf, graphSizes, made, Removal, removalTests, removeFromDesign, removeFromGraph, nodesAfter, startsAfter, endsAfter, namesAfter, testTimes, arrivalsAfter, requiredsAfter, slacksAfter, recordOf, recordsAfter}
-use Rattle.timing.specs.Series.{heldAfter, wholeAfter}
-use Rattle.timing.specs.Paths.{PassesNode, PassesAt}
-use Rattle.timing.specs.Demands.{Demand2, recordAfter, RecordOfPaths}
+use Rattle.timing.specs.Series.{heldAfter, wholeAfter, Renumbered}
+use Rattle.timing.specs.Paths.{PassesNode, PassesAt, Shows, pairOf}
+use Rattle.timing.specs.Demands.{Demand2, PathBest, TimesOfPaths, recordAfter, RecordOfPaths}
 use Rattle.theorems.proofs.Lists.{holds, and-intro, length-upto, getD-mem}
 use Rattle.timing.proofs.Verdicts.{then-passed, unless-passed}
 use Rattle.theorems.proofs.Runs.{Rising}
-use Rattle.theorems.proofs.Stands.{Stands, true-stands}
+use Rattle.theorems.proofs.Stands.{Stands, true-stands, true-label}
 use Rattle.theorems.proofs.Tested.{design-fits, tests-count}
 use Rattle.theorems.proofs.Legal.{Legal, fits-legal, design-legal, wellFormed-legal}
 use Rattle.theorems.proofs.Kept.{true-formed}
 use Rattle.theorems.proofs.Demand2.{stands-demand2}
 use Rattle.theorems.proofs.Nodes.{at-copy, nodeTimesAt}
-use Rattle.theorems.proofs.Demand2Times.{cut-inside, record-below, design-record}
-use Rattle.theorems.proofs.Series.{graph-slices, slices-sizes, removal-few, outcome-made, series-held}
+use Rattle.theorems.proofs.Demand2Times.{copy-times, cut-inside, record-below, design-record}
+use Rattle.theorems.proofs.Series.{graph-slices, slices-sizes, removal-few, outcome-made, held-renumbered, held-pair, series-held}
 
 -- A caller lends on the front of each room, as long as the removal answered: it holds the graph that was made.
 pub front-made : (H : Graph) (room : GraphSlices)
@@ -87,19 +87,22 @@ pub record Removed (D : Design) (G : Graph) (L : List (List ℕ)) (H : Graph) : 
   pub tests : designTests D ≡ Passed
   pub legal : Legal D G
   pub stands : Stands G L H
+  pub pairs : (h : ℕ) → stands .label h ≡ pairOf G L h
   pub formed : T (wellFormed D H)
 
 removed : (D : Design) (G : Graph) (r : Removal) (H : Graph) → designSizes D ≡ Passed → designTests D ≡ Passed → Legal D G → removalTests D G r ≡ Passed
     → trueGraph G (pathsOf (r .list)) ≡ H → Removed D G (pathsOf (r .list)) H
 removed D G r H s t legal e q =
     let K = pathsOf (r .list) in
-    record {
+    subst (Removed D G K) q
+    (record {
       sizes = s;
       tests = t;
       legal = legal;
-      stands = subst (Stands G K) q (true-stands G K (legal .rising));
-      formed = subst (λ (F : Graph). T (wellFormed D F)) q (true-formed D G K (design-fits D s t) legal (removal-few D G r e));
-    }
+      stands = true-stands G K (legal .rising);
+      pairs = true-label G K (legal .rising);
+      formed = true-formed D G K (design-fits D s t) legal (removal-few D G r e);
+    })
 
 pub from-design-removed : (D : Design) (r : Removal) (H : Graph) → removeFromDesign D r ≡ made H → Removed D (designGraph D) (pathsOf (r .list)) H
 unfolding removeFromDesign
@@ -199,6 +202,57 @@ module _ (D : Design) (H : Graph) (t : ℕ) (ats rts sts : List ℤ) (tested : t
       (λ i. getD (map (λ w. f (nodeTimes (D .nodes) (H .nodes) (arrivals-filled i) (requireds-filled i) (slacks-filled i) w)) (upto (D .nodes) 0)) v z)
       ∙ at-copy z (λ w. f (nodeTimesAt (edgeDelay D) (pos t) H (D .nodes) w)) (D .nodes) 0 v h
       ∙ ap (λ (w : ℕ). f (nodeTimesAt (edgeDelay D) (pos t) H (D .nodes) w)) (omega arith)
+
+  -- the times that are left at a copy
+  times-left : (h : ℕ) (P : List Edge → List Edge → Type 0) → h < length (H .nodes)
+      → PathBest (edgeDelay D) (pos t) P (arrivalAt (edgeDelay D) (pos t) H h) (requiredAt (edgeDelay D) (pos t) H h) (slackAt (edgeDelay D) (pos t) H h)
+      → TimesOfPaths D H t ats rts sts h P
+  times-left h P k b =
+      let a = left (arrivalAt (edgeDelay D) (pos t) H) arrivals-filled in
+      let r = left (requiredAt (edgeDelay D) (pos t) H) requireds-filled in
+      let s = left (slackAt (edgeDelay D) (pos t) H) slacks-filled in
+      rw (a, r, s) b
+    where
+      left : (f : ℕ → ℤ) {ts : List ℤ} → ts ≡ map f (upto (length (H .nodes)) 0) → getD ts h (pos 0) ≡ f h
+      left f e = ap (λ (l : List ℤ). getD l h (pos 0)) e ∙ at-copy (pos 0) f (length (H .nodes)) 0 h k ∙ ap f (omega arith)
+
+  stands-times : (G : Graph) (L : List (List ℕ)) → Rising G → (S : Stands G L H) (h : ℕ) (k : Copy) → S .label h ≡ k → h < length (H .nodes)
+      → TimesOfPaths D H t ats rts sts h (Shows G L k)
+  stands-times G L up S h k e i =
+      subst (λ (x : Copy). TimesOfPaths D H t ats rts sts h (Shows G L x)) e
+      (times-left h (Shows G L (S .label h)) i (copy-times G H L up S (edgeDelay D) (pos t) h i))
+
+  -- After a removal from the design, the times of copy h are those of the design's permitted complete paths that show its
+  -- (node, mark).
+  pub removed-copy-times : (r : Removal) → removeFromDesign D r ≡ made H → (h : ℕ) → h < length (H .nodes)
+      → TimesOfPaths D H t ats rts sts h (Shows (designGraph D) (pathsOf (r .list)) (pairOf (designGraph D) (pathsOf (r .list)) h))
+  removed-copy-times r e h =
+      let m = from-design-removed D r H e in
+      stands-times (designGraph D) (pathsOf (r .list)) (m .legal .rising) (m .stands) h _ (m .pairs h)
+
+  -- After a removal from any earlier graph, however it was made: of that graph's permitted complete paths that show its
+  -- (earlier copy, mark).
+  pub further-copy-times : (S : GraphSlices) (r : Removal) → removeFromGraph D S r ≡ made H → (h : ℕ) → h < length (H .nodes)
+      → TimesOfPaths D H t ats rts sts h (Shows (graphOf S) (pathsOf (r .list)) (pairOf (graphOf S) (pathsOf (r .list)) h))
+  further-copy-times S r e h =
+      let m = from-graph-removed D S r H e in
+      stands-times (graphOf S) (pathsOf (r .list)) (m .legal .rising) (m .stands) h _ (m .pairs h)
+
+  -- After a series, the copies can be renumbered to those of the true graph of the design and the whole list, as demand 3 says,
+  -- so that the times of a copy are those of the design's complete paths that the whole list permits and that show the (node,
+  -- mark) of its new number.
+  pub series-copy-times : (rs : List Removal) → heldAfter D none rs ≡ some H
+      → (L : List (List ℕ)) × (wholeAfter D none rs ≡ some L) × (N : Renumbered H (trueGraph (designGraph D) L))
+      × ((h : ℕ) → h < length (H .nodes) → TimesOfPaths D H t ats rts sts h (Shows (designGraph D) L (pairOf (designGraph D) L (N .to h))))
+  series-copy-times rs e =
+      let x = series-held D rs H e in
+      let L = x .0 in
+      let held = x .2 in (
+        L,
+        x .1,
+        held-renumbered D L H held,
+        λ h k. stands-times (designGraph D) L (fits-legal D (held .fit) .rising) (held .stands) h _ (held-pair D L H held h k) k,
+      )
 
   stands-record : (L : List (List ℕ)) → Rising (designGraph D) → Stands (designGraph D) L H → (v : ℕ) → RecordOfPaths D H t ats rts sts v (PassesAt D L v)
   stands-record L up stands v = record {
