@@ -1,6 +1,6 @@
--- Demand 2 of document 01: the source-to-sink paths of a true graph, taken back to the design's edges, are the design's
--- complete paths that contain no listed path: each once, no others, delays unchanged. Shown for any H that stands for
--- (G, L), so that it holds however H was made; the design is one G.
+-- Demand 2 (`timing/specs/Demands`): the source-to-sink paths of a true graph, taken back to the design's edges, are the
+-- design's complete paths that contain no listed path: each once, no others, delays unchanged. Shown for any H that stands
+-- for (G, L), so that it holds however H was made; the design is one G.
 use Prim.Native.Nat.{ℕ, zero, suc, _<_}
 use mathlib.Core.Path.{_≡_, refl, sym, ap, ap₂, _∙_, subst}
 use mathlib.Core.Bool.{Bool, true, false, cond}
@@ -16,6 +16,7 @@ use Rattle.timing.specs.Marks.{permitted}
 use Rattle.timing.specs.Tests.{designSizes, designTests}
 use Rattle.timing.specs.WellFormed.{wellFormed}
 use Rattle.timing.specs.TrueGraphs.{Copy, copyAt, permittedRuns, trueGraph}
+use Rattle.timing.specs.Demands.{SamePath, Demand2}
 use Rattle.theorems.proofs.Lists.{of-flatMap, of-keep}
 use Rattle.theorems.proofs.Counting.{Nodup, nodup-map, nodup-keep, nodup-flatMap, nodup-upto}
 use Rattle.theorems.proofs.Runs.{Rising, Leads, Way, leads-up, way-then, complete-runs}
@@ -47,11 +48,6 @@ module _ (D : Design) (H : Graph) (legal : Legal D H) where
       way-once (r .first) (s .first) (r .edges) (s .edges) (v .0) (w .0) (v .2) (w .2)
       (ap (λ (x : DesignPath). x .first) e) (ap (λ (x : DesignPath). x .edges) e) in
       λ i. record { first = o .0 i; edges = o .1 i }
-
--- r in H and q in G are one path of the design, with one delay, whatever the delays of the design's edges
-pub record SamePath (H G : Graph) (r q : Run) : Type 0 where
-  pub path : takenBack H r ≡ takenBack G q
-  pub delay : (d : ℕ → ℤ) → delayAlong d (r .edges) ≡ delayAlong d (q .edges)
 
 -- the delay of a run depends on its names alone
 pub delay-names : (d : ℕ → ℤ) (es fs : List Edge) → names es ≡ names fs → delayAlong d es ≡ delayAlong d fs
@@ -114,16 +110,6 @@ module _ (G H : Graph) (L : List (List ℕ)) (up : Rising G) (S : Stands G L H) 
         complete-runs H (S .rising) r .1 (h .0, start-up G H L up S (q .first) (q .edges) s (v .1), w .1),
         record { path = λ i. record { first = f i; edges = n i }; delay = λ d. delay-names d (w .0) (q .edges) n },
       )
-
--- Demand 2 for H, a graph of the design D that was made of G by removing the listed paths L: H's source-to-sink paths, taken
--- back to the design's edges, are G's complete paths that contain no listed path: each once, no others, delays unchanged.
-pub record Demand2 (G : Graph) (L : List (List ℕ)) (H : Graph) : Type 0 where
-  -- no others: every source-to-sink path of H is, taken back, a complete path that contains no listed path, with its delay
-  pub sound : (r : Run) → List·Memᴰ r (completeRuns H) → (q : Run) × List·Memᴰ q (permittedRuns L G) × SamePath H G r q
-  -- all of them: every complete path that contains no listed path is, taken back, a source-to-sink path of H, with its delay
-  pub complete : (q : Run) → List·Memᴰ q (permittedRuns L G) → (r : Run) × List·Memᴰ r (completeRuns H) × SamePath H G r q
-  -- each once: two source-to-sink paths of H that are, taken back, one path are one path of H
-  pub once : (r s : Run) → List·Memᴰ r (completeRuns H) → List·Memᴰ s (completeRuns H) → takenBack H r ≡ takenBack H s → r ≡ s
 
 pub stands-demand2 : (D : Design) (G H : Graph) (L : List (List ℕ)) → Rising G → Stands G L H → Legal D H → Demand2 G L H
 stands-demand2 D G H L up S legal = record { sound = path-sound G H L up S; complete = path-complete G H L up S; once = path-once D H legal }

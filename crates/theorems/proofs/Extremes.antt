@@ -9,9 +9,10 @@ use mathlib.Core.List.{List, [], _∷_, _++_, map, List·Memᴰ, List·Memᴰ·h
 use native.Mathlib.Omega.{arith}
 use lib.Dec.{T}
 use lib.IntN.{ℤ, _+ℤ_, _-ℤ_}
-use lib.Signed.{ltZ}
+use lib.Signed.{ltZ, _≤ℤ_, ltZ-no}
 use Rattle.timing.specs.Lists.{isNil}
 use Rattle.timing.specs.Times.{larger, smaller, largest, smallest}
+use Rattle.timing.specs.Paths.{Best, Largest, Smallest}
 use Rattle.timing.proofs.Ints.{up, dn, add-is, sub-parts, eq-parts, ltZ-true, ltZ-false}
 
 -- x is at most y, in the parts that `omega` reads; and the other way round
@@ -20,6 +21,14 @@ AtMost x y = up x + dn y ≤ up y + dn x
 
 abbrev pub AtLeast : ℤ → ℤ → Type 0
 AtLeast x y = AtMost y x
+
+-- the order of the kit, in which the statements are
+order : (x y : ℤ) → AtMost x y → x ≤ℤ y
+order x y h = go (ltZ y x) refl
+  where
+    go : (b : Bool) → ltZ y x ≡ b → x ≤ℤ y
+    go true e = absurd (omega (arith, ltZ-true y x e))
+    go false e = ltZ-no (subst (λ (b : Bool). T (not b)) (sym e) tt)
 
 -- a list that is not empty, by a member of it; a list is that or empty, and not both
 abbrev pub Some : {A : Type 0} → List A → Type 0
@@ -36,13 +45,6 @@ nil-none (x ∷ l) t s = t
 pub not-nil : {A : Type 0} (l : List A) → T (not (isNil l)) ↔ Some l
 not-nil [] = (λ p. absurd p, λ s. List·Memᴰ·not-nil (s .1))
 not-nil (x ∷ l) = (λ p. (x, List·Memᴰ·head refl), λ s. tt)
-
--- m is the value of f at one of P, and the value at no one of P goes beyond m
-pub record Best {A : Type 0} (le : ℤ → ℤ → Type 0) (P : A → Type 0) (f : A → ℤ) (m : ℤ) : Type 0 where
-  pub at : A
-  pub there : P at
-  pub is : f at ≡ m
-  pub most : (x : A) → P x → le (f x) m
 
 -- an order, the choice between two numbers by it, and the choice from a list
 pub record Picks (le : ℤ → ℤ → Type 0) (pick : ℤ → ℤ → ℤ) (best : List ℤ → ℤ) : Type 0 where
@@ -74,6 +76,13 @@ best-on e b = best-moved b (λ x p. (x, e x .0 p, refl)) (λ x q. (x, e x .1 q, 
 pub best-kept : {A : Type 0} {le lf : ℤ → ℤ → Type 0} {P : A → Type 0} {f : A → ℤ} {m : ℤ} (h : ℤ → ℤ)
     → ((x y : ℤ) → le x y → lf (h x) (h y)) → Best le P f m → Best lf P (λ x. h (f x)) (h m)
 best-kept {f = f} {m} h keeps b = record { at = b .at; there = b .there; is = ap h (b .is); most = λ x p. keeps (f x) m (b .most x p) }
+
+-- in the order of the kit
+pub largest-of : {A : Type 0} {P : A → Type 0} {f : A → ℤ} {m : ℤ} → Best AtMost P f m → Largest P f m
+largest-of b = best-kept (λ z. z) order b
+
+pub smallest-of : {A : Type 0} {P : A → Type 0} {f : A → ℤ} {m : ℤ} → Best AtLeast P f m → Smallest P f m
+smallest-of b = best-kept (λ z. z) (λ x y. order y x) b
 
 module _ {le : ℤ → ℤ → Type 0} {pick : ℤ → ℤ → ℤ} {best : List ℤ → ℤ} (K : Picks le pick best) where
   -- there is only one best value

@@ -14,9 +14,10 @@ use Rattle.timing.specs.declared.NodeTimes.the-variants.{Times, None}
 use Rattle.timing.specs.Lists.{isNil, keep, upto}
 use Rattle.timing.specs.Graphs.{Edge, Graph, nodeOf, delayAlong}
 use Rattle.timing.specs.Times.{largest, smallest, arrivalAt, requiredAt, slackAt, nodeTimes}
+use Rattle.timing.specs.Paths.{Best}
 use Rattle.theorems.proofs.Lists.{and-intro, and-left, and-right, mem-keep, of-keep, mem-upto, of-upto}
 use Rattle.theorems.proofs.Runs.{Rising, Way}
-use Rattle.theorems.proofs.Extremes.{AtMost, AtLeast, Some, not-nil, Best, Picks, best-moved, best-nested, best-value, larges, smalls}
+use Rattle.theorems.proofs.Extremes.{AtMost, AtLeast, Some, not-nil, Picks, best-moved, best-nested, best-value, larges, smalls}
 use Rattle.theorems.proofs.Times.{To, Through, arrival-best, required-best, slack-best}
 
 -- what is held of each copy, read back
@@ -33,31 +34,34 @@ map-on f g (x ∷ l) e = ap₂ _∷_ (e x (List·Memᴰ·head refl)) (map-on f g
 abbrev pub copiesOf : Graph → ℕ → List ℕ
 copiesOf G v = keep (λ c. eqb (nodeOf G c) v) (upto (length (G .nodes)) 0)
 
-pub mem-copies : (G : Graph) (v c : ℕ) → List·Memᴰ c (copiesOf G v) ↔ ((c < length (G .nodes)) × (nodeOf G c ≡ v))
+abbrev pub CopyOf : Graph → ℕ → ℕ → Type 0
+CopyOf G v c = (c < length (G .nodes)) × (nodeOf G c ≡ v)
+
+pub mem-copies : (G : Graph) (v c : ℕ) → List·Memᴰ c (copiesOf G v) ↔ CopyOf G v c
 mem-copies G v c = (
   λ m. let r = of-keep (λ c. eqb (nodeOf G c) v) (upto (length (G .nodes)) 0) m in (omega (arith, of-upto (length (G .nodes)) 0 c (r .0) .1), eqb→eq (nodeOf G c) v (r .1)),
   λ r. mem-keep (λ c. eqb (nodeOf G c) v) (mem-upto (length (G .nodes)) 0 c (omega arith) (omega (arith, r .0))) (rw (r .1) (eqb-refl v)),
 )
 
--- P at some copy of the node
-abbrev pub AtSome : (G : Graph) (v : ℕ) → (ℕ → List Edge → Type 0) → List Edge → Type 0
-AtSome G v P es = (c : ℕ) × (c < length (G .nodes)) × (nodeOf G c ≡ v) × P c es
+-- P at some copy of C
+abbrev pub At : (ℕ → Type 0) → (ℕ → List Edge → Type 0) → List Edge → Type 0
+At C P es = (c : ℕ) × C c × P c es
 
 -- the best of the best values at the copies of a node
 node-best : {le : ℤ → ℤ → Type 0} {pick : ℤ → ℤ → ℤ} {best : List ℤ → ℤ} → Picks le pick best
     → (G : Graph) (v : ℕ) (P : ℕ → List Edge → Type 0) (f : List Edge → ℤ) (m : ℕ → ℤ)
-    → ((c : ℕ) → c < length (G .nodes) → Best le (P c) f (m c)) → Some (copiesOf G v) → Best le (AtSome G v P) f (best (map m (copiesOf G v)))
+    → ((c : ℕ) → c < length (G .nodes) → Best le (P c) f (m c)) → Some (copiesOf G v) → Best le (At (CopyOf G v) P) f (best (map m (copiesOf G v)))
 node-best K G v P f m each s =
     best-moved
     (best-nested K (λ c h. each c (mem-copies G v c .0 h .0)) (best-value K m (copiesOf G v) s))
-    (λ q w. let o = mem-copies G v (q .0) .0 (w .0) in (q .1, (q .0, o .0, o .1, w .1), refl))
-    (λ es r. ((r .0, es), (mem-copies G v (r .0) .1 (r .1, r .2), r .3), refl))
+    (λ q w. let o = mem-copies G v (q .0) .0 (w .0) in (q .1, (q .0, o, w .1), refl))
+    (λ es r. ((r .0, es), (mem-copies G v (r .0) .1 (r .1), r .2), refl))
 
 -- the three times of a node's record, over runs
 pub record NodeBest (d : ℕ → ℤ) (t : ℤ) (G : Graph) (v : ℕ) (a r s : ℤ) : Type 0 where
-  pub arrival : Best AtMost (AtSome G v (To G)) (delayAlong d) a
-  pub required : Best AtLeast (AtSome G v (Way G)) (λ es. t -ℤ delayAlong d es) r
-  pub slack : Best AtLeast (AtSome G v (Through G)) (λ es. t -ℤ delayAlong d es) s
+  pub arrival : Best AtMost (At (CopyOf G v) (To G)) (delayAlong d) a
+  pub required : Best AtLeast (At (CopyOf G v) (Way G)) (λ es. t -ℤ delayAlong d es) r
+  pub slack : Best AtLeast (At (CopyOf G v) (Through G)) (λ es. t -ℤ delayAlong d es) s
 
 -- what a test decides
 taken : {A : Type 0} (b : Bool) (x y : A) → T b → cond b x y ≡ x

@@ -1,7 +1,6 @@
--- The record of a node after a removal, over what the calls answer: a removal makes a graph, `times` fills the times of its
--- copies, `node_record` looks at them. Each contract equates its call with a definition of `timing/specs/Calls`; here these
--- definitions follow one another. Whatever a removal makes stands for the graph worked on and the list, and T4 holds of
--- whatever stands.
+-- Demand 2 over what the calls answer: a removal makes a graph, `times` fills the times of its copies, `node_record` looks at
+-- them. Each contract equates its call with a definition of `timing/specs/Calls`; here these definitions follow one another.
+-- Whatever a removal makes stands for the graph worked on and the list, and demand 2 and T4 hold of whatever stands.
 use Prim.Native.Nat.{ℕ, _<_, _≤_}
 use mathlib.Core.Path.{_≡_, refl, sym, ap, _∙_, subst}
 use mathlib.Core.Bool.{Bool, true, false, _&&_}
@@ -15,28 +14,30 @@ use lib.Seq.{take-append-seam}
 use Rattle.timing.specs.declared.Verdict.{Verdict}
 use Rattle.timing.specs.declared.Verdict.the-variants.{Passed}
 use Rattle.timing.specs.declared.NodeTimes.{NodeTimes}
-use Rattle.timing.specs.declared.NodeAnswer.{NodeAnswer}
 use Rattle.timing.specs.declared.NodeAnswer.the-variants.{Record}
 use Rattle.timing.specs.Lists.{placed, upto}
 use Rattle.timing.specs.Graphs.{Design, edgeDelay, Edge, Graph, designGraph}
 use Rattle.timing.specs.Marks.{pathsOf}
-use Rattle.timing.specs.TrueGraphs.{trueGraph}
+use Rattle.timing.specs.TrueGraphs.{Copy, trueGraph}
 use Rattle.timing.specs.Times.{arrivalAt, requiredAt, slackAt, nodeTimes, nodeRecord}
 use Rattle.timing.specs.WellFormed.{wellFormed}
 use Rattle.timing.specs.Refusals.{unless}
 use Rattle.timing.specs.Tests.{sameSizes, nodeCount, designSizes, designTests, listSizes, listTests, graphTest, roomSizes}
 use Rattle.timing.specs.Calls.{GraphSlices, graphSlices, graphOf, slicesOf, graphSizes, made, Removal, removalTests, removeFromDesign, removeFromGraph, nodesAfter, startsAfter, endsAfter, namesAfter, testTimes, arrivalsAfter, requiredsAfter, slacksAfter, recordOf, recordsAfter}
-use Rattle.timing.specs.Series.{heldAfter, wholeAfter}
+use Rattle.timing.specs.Series.{heldAfter, wholeAfter, Renumbered}
+use Rattle.timing.specs.Paths.{PassesNode, PassesAt, Shows, pairOf}
+use Rattle.timing.specs.Demands.{Demand2, PathBest, TimesOfPaths, recordAfter, RecordOfPaths}
 use Rattle.theorems.proofs.Lists.{holds, and-intro, length-upto, getD-mem}
 use Rattle.timing.proofs.Verdicts.{then-passed, unless-passed}
 use Rattle.theorems.proofs.Runs.{Rising}
-use Rattle.theorems.proofs.Stands.{Stands, true-stands, passes-inside}
+use Rattle.theorems.proofs.Stands.{Stands, true-stands, true-label}
 use Rattle.theorems.proofs.Tested.{design-fits, tests-count}
 use Rattle.theorems.proofs.Legal.{Legal, fits-legal, design-legal, wellFormed-legal}
 use Rattle.theorems.proofs.Kept.{true-formed}
+use Rattle.theorems.proofs.Demand2.{stands-demand2}
 use Rattle.theorems.proofs.Nodes.{at-copy, nodeTimesAt}
-use Rattle.theorems.proofs.Demand2Times.{PassesNode, PassesAt, PathTimes, record-below, design-record}
-use Rattle.theorems.proofs.Series.{graph-slices, slices-sizes, removal-few, outcome-made, series-held}
+use Rattle.theorems.proofs.Demand2Times.{copy-times, cut-inside, record-below, design-record}
+use Rattle.theorems.proofs.Series.{graph-slices, slices-sizes, removal-few, outcome-made, held-renumbered, held-pair, series-held}
 
 -- A caller lends on the front of each room, as long as the removal answered: it holds the graph that was made.
 pub front-made : (H : Graph) (room : GraphSlices)
@@ -54,19 +55,6 @@ front-made H room =
     edges f room =
         ap (λ (k : ℕ). take k (placed (map f (H .edges)) room)) (sym (length-map (H .edges) f))
         ∙ take-append-seam (map f (H .edges)) (drop (length (map f (H .edges))) room)
-
--- What `node_record` answers of node v, from the copies of H and what `times` leaves in the three slices that it is lent.
-abbrev pub recordAfter : Design → Graph → ℕ → List ℤ → List ℤ → List ℤ → ℕ → NodeAnswer
-recordAfter D H t ats rts sts v =
-    let S = slicesOf H in
-    let tested = testTimes D S t (length ats) (length rts) (length sts) in
-    recordOf (D .nodes) (H .nodes) (arrivalsAfter D S t tested ats) (requiredsAfter D S t tested rts) (slacksAfter D S t tested sts) v
-
--- That answer is the record of the paths P: none exactly if there is no such path, and otherwise their three times.
-pub record RecordOfPaths (D : Design) (H : Graph) (t : ℕ) (ats rts sts : List ℤ) (v : ℕ) (P : List Edge → List Edge → Type 0) : Type 0 where
-  pub times : NodeTimes
-  pub answer : recordAfter D H t ats rts sts v ≡ Record (record { node = v; times = times })
-  pub paths : PathTimes (edgeDelay D) (pos t) P times
 
 -- a test that passes, by its condition
 fit-passed : (number : ℕ) (b : Bool) → T b → unless number b ≡ Passed
@@ -99,19 +87,22 @@ pub record Removed (D : Design) (G : Graph) (L : List (List ℕ)) (H : Graph) : 
   pub tests : designTests D ≡ Passed
   pub legal : Legal D G
   pub stands : Stands G L H
+  pub pairs : (h : ℕ) → stands .label h ≡ pairOf G L h
   pub formed : T (wellFormed D H)
 
 removed : (D : Design) (G : Graph) (r : Removal) (H : Graph) → designSizes D ≡ Passed → designTests D ≡ Passed → Legal D G → removalTests D G r ≡ Passed
     → trueGraph G (pathsOf (r .list)) ≡ H → Removed D G (pathsOf (r .list)) H
 removed D G r H s t legal e q =
     let K = pathsOf (r .list) in
-    record {
+    subst (Removed D G K) q
+    (record {
       sizes = s;
       tests = t;
       legal = legal;
-      stands = subst (Stands G K) q (true-stands G K (legal .rising));
-      formed = subst (λ (F : Graph). T (wellFormed D F)) q (true-formed D G K (design-fits D s t) legal (removal-few D G r e));
-    }
+      stands = true-stands G K (legal .rising);
+      pairs = true-label G K (legal .rising);
+      formed = true-formed D G K (design-fits D s t) legal (removal-few D G r e);
+    })
 
 pub from-design-removed : (D : Design) (r : Removal) (H : Graph) → removeFromDesign D r ≡ made H → Removed D (designGraph D) (pathsOf (r .list)) H
 unfolding removeFromDesign
@@ -137,6 +128,23 @@ from-graph-removed D S r H e =
     let t₇ = then-passed (graphTest D (graphOf S)) _ (t₆ .1) in
     let w = wellFormed D (graphOf S) in
     removed D (graphOf S) r H (t₁ .0) (t₅ .0) (wellFormed-legal D (graphOf S) (t₁ .0) (t₅ .0) (holds w (unless-passed 32 w (t₇ .0)))) (t₇ .1) (o .1)
+
+-- Demand 2 of what a call makes: of a removal from the design; of one from any earlier graph, however it was made; and of the
+-- graph held after a series, for the design and the whole list.
+made-demand2 : (D : Design) (G : Graph) (L : List (List ℕ)) (H : Graph) → Removed D G L H → Demand2 G L H
+made-demand2 D G L H m = stands-demand2 D G H L (m .legal .rising) (m .stands) (wellFormed-legal D H (m .sizes) (m .tests) (m .formed))
+
+pub removed-demand2 : (D : Design) (r : Removal) (H : Graph) → removeFromDesign D r ≡ made H → Demand2 (designGraph D) (pathsOf (r .list)) H
+removed-demand2 D r H e = made-demand2 D (designGraph D) (pathsOf (r .list)) H (from-design-removed D r H e)
+
+pub further-demand2 : (D : Design) (S : GraphSlices) (r : Removal) (H : Graph) → removeFromGraph D S r ≡ made H → Demand2 (graphOf S) (pathsOf (r .list)) H
+further-demand2 D S r H e = made-demand2 D (graphOf S) (pathsOf (r .list)) H (from-graph-removed D S r H e)
+
+pub series-demand2 : (D : Design) (rs : List Removal) (H : Graph) → heldAfter D none rs ≡ some H
+    → (L : List (List ℕ)) × (wholeAfter D none rs ≡ some L) × Demand2 (designGraph D) L H
+series-demand2 D rs H e =
+    let h = series-held D rs H e in
+    (h .0, h .1, stands-demand2 D (designGraph D) H (h .0) (fits-legal D (h .2 .fit) .rising) (h .2 .stands) (h .2 .legal))
 
 -- `times` refuses such a result only for T and for the lengths of its slices
 pub removed-times : (D : Design) (G : Graph) (L : List (List ℕ)) (H : Graph) (t a r s : ℕ) → Removed D G L H → t ≤ 1000000000
@@ -195,6 +203,57 @@ module _ (D : Design) (H : Graph) (t : ℕ) (ats rts sts : List ℤ) (tested : t
       ∙ at-copy z (λ w. f (nodeTimesAt (edgeDelay D) (pos t) H (D .nodes) w)) (D .nodes) 0 v h
       ∙ ap (λ (w : ℕ). f (nodeTimesAt (edgeDelay D) (pos t) H (D .nodes) w)) (omega arith)
 
+  -- the times that are left at a copy
+  times-left : (h : ℕ) (P : List Edge → List Edge → Type 0) → h < length (H .nodes)
+      → PathBest (edgeDelay D) (pos t) P (arrivalAt (edgeDelay D) (pos t) H h) (requiredAt (edgeDelay D) (pos t) H h) (slackAt (edgeDelay D) (pos t) H h)
+      → TimesOfPaths D H t ats rts sts h P
+  times-left h P k b =
+      let a = left (arrivalAt (edgeDelay D) (pos t) H) arrivals-filled in
+      let r = left (requiredAt (edgeDelay D) (pos t) H) requireds-filled in
+      let s = left (slackAt (edgeDelay D) (pos t) H) slacks-filled in
+      rw (a, r, s) b
+    where
+      left : (f : ℕ → ℤ) {ts : List ℤ} → ts ≡ map f (upto (length (H .nodes)) 0) → getD ts h (pos 0) ≡ f h
+      left f e = ap (λ (l : List ℤ). getD l h (pos 0)) e ∙ at-copy (pos 0) f (length (H .nodes)) 0 h k ∙ ap f (omega arith)
+
+  stands-times : (G : Graph) (L : List (List ℕ)) → Rising G → (S : Stands G L H) (h : ℕ) (k : Copy) → S .label h ≡ k → h < length (H .nodes)
+      → TimesOfPaths D H t ats rts sts h (Shows G L k)
+  stands-times G L up S h k e i =
+      subst (λ (x : Copy). TimesOfPaths D H t ats rts sts h (Shows G L x)) e
+      (times-left h (Shows G L (S .label h)) i (copy-times G H L up S (edgeDelay D) (pos t) h i))
+
+  -- After a removal from the design, the times of copy h are those of the design's permitted complete paths that show its
+  -- (node, mark).
+  pub removed-copy-times : (r : Removal) → removeFromDesign D r ≡ made H → (h : ℕ) → h < length (H .nodes)
+      → TimesOfPaths D H t ats rts sts h (Shows (designGraph D) (pathsOf (r .list)) (pairOf (designGraph D) (pathsOf (r .list)) h))
+  removed-copy-times r e h =
+      let m = from-design-removed D r H e in
+      stands-times (designGraph D) (pathsOf (r .list)) (m .legal .rising) (m .stands) h _ (m .pairs h)
+
+  -- After a removal from any earlier graph, however it was made: of that graph's permitted complete paths that show its
+  -- (earlier copy, mark).
+  pub further-copy-times : (S : GraphSlices) (r : Removal) → removeFromGraph D S r ≡ made H → (h : ℕ) → h < length (H .nodes)
+      → TimesOfPaths D H t ats rts sts h (Shows (graphOf S) (pathsOf (r .list)) (pairOf (graphOf S) (pathsOf (r .list)) h))
+  further-copy-times S r e h =
+      let m = from-graph-removed D S r H e in
+      stands-times (graphOf S) (pathsOf (r .list)) (m .legal .rising) (m .stands) h _ (m .pairs h)
+
+  -- After a series, the copies can be renumbered to those of the true graph of the design and the whole list, as demand 3 says,
+  -- so that the times of a copy are those of the design's complete paths that the whole list permits and that show the (node,
+  -- mark) of its new number.
+  pub series-copy-times : (rs : List Removal) → heldAfter D none rs ≡ some H
+      → (L : List (List ℕ)) × (wholeAfter D none rs ≡ some L) × (N : Renumbered H (trueGraph (designGraph D) L))
+      × ((h : ℕ) → h < length (H .nodes) → TimesOfPaths D H t ats rts sts h (Shows (designGraph D) L (pairOf (designGraph D) L (N .to h))))
+  series-copy-times rs e =
+      let x = series-held D rs H e in
+      let L = x .0 in
+      let held = x .2 in (
+        L,
+        x .1,
+        held-renumbered D L H held,
+        λ h k. stands-times (designGraph D) L (fits-legal D (held .fit) .rising) (held .stands) h _ (held-pair D L H held h k) k,
+      )
+
   stands-record : (L : List (List ℕ)) → Rising (designGraph D) → Stands (designGraph D) L H → (v : ℕ) → RecordOfPaths D H t ats rts sts v (PassesAt D L v)
   stands-record L up stands v = record {
     times = nodeTimesAt (edgeDelay D) (pos t) H (D .nodes) v;
@@ -223,5 +282,5 @@ module _ (D : Design) (H : Graph) (t : ℕ) (ats rts sts : List ℤ) (tested : t
         answer = record-after v;
         paths =
             record-below (graphOf S) H (pathsOf (r .list)) up (m .stands) v (edgeDelay D) (pos t) (D .nodes)
-            (λ p q (c, n, s, h). m .legal .below v (subst (λ (x : ℕ). List·Memᴰ x (S .nodes)) n (getD-mem (S .nodes) c 0 (passes-inside up s))));
+            (λ p q (c, n, h). m .legal .below v (subst (λ (x : ℕ). List·Memᴰ x (S .nodes)) n (getD-mem (S .nodes) c 0 (cut-inside up h))));
       }

@@ -139,3 +139,9 @@ stands-renumbered G H K L up S Q rh rk eh ek =
           λ i. edge (from (e .start) (start-in K (Q .rising) e m) .1 i) (from (e .end) (Q .rising .inside e m) .1 i) (e .name) in
           subst (λ (x : Edge). List·Memᴰ x (map (renumbered t) (H .edges))) q (Memᴰ·map (renumbered t) (forth G K H L up Q S e m)),
     )
+
+-- c goes to the copy with its label
+pub renumbered-label : (G H K : Graph) (L : List (List ℕ)) (up : Rising G) (S : Stands G L H) (Q : Stands G L K) (rh : Rises (H .nodes)) (rk : Rises (K .nodes))
+    (eh : Nodup (H .edges)) (ek : Nodup (K .edges)) (c : ℕ) → c < length (H .nodes) → Q .label (stands-renumbered G H K L up S Q rh rk eh ek .to c) ≡ S .label c
+unfolding stands-renumbered
+renumbered-label G H K L up S Q rh rk eh ek c h = Q .shown (S .label c) (S .every c h .0) .1

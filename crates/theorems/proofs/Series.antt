@@ -1,6 +1,6 @@
 -- S: demand 3, over a whole series of removals. The graph held always stands for the design and the whole list so far. So it
 -- has the nodes and the count of edges of their true graph, and the tests cannot tell the two apart.
-use Prim.Native.Nat.{ℕ, _+_, _*_, _≤_, min}
+use Prim.Native.Nat.{ℕ, _+_, _*_, _≤_, _<_, min}
 use mathlib.Core.Path.{_≡_, refl, sym, ap, _∙_, subst, subst₂}
 use mathlib.Core.Bool.{Bool, true, false, _&&_}
 use mathlib.Core.List.{List, [], _∷_, _++_, map, flatMap, append-assoc, append-nil}
@@ -19,12 +19,14 @@ use Rattle.timing.specs.Refusals.{unless, _then_}
 use Rattle.timing.specs.Tests.{designSizes, listSizes, designTests, listTests, graphTest, candidates, scratchTest, Room, roomSizes, roomTests}
 use Rattle.timing.specs.Calls.{GraphSlices, graphOf, slicesOf, graphSizes, Outcome, made, refused, outcome, Removal, removalTests, removeFromDesign, removeFromGraph}
 use Rattle.timing.specs.Series.{removeNext, heldNext, verdictOf, verdicts, heldAfter, wholeNext, verdictAlone, verdictsAlone, wholeAfter, Renumbered, HeldIs, Demand3}
+use Rattle.timing.specs.Paths.{pairOf}
+use Rattle.timing.specs.Demands.{AllPassed, listsOf}
 use Rattle.theorems.proofs.Lists.{holds, and-intro}
 use Rattle.theorems.proofs.Counting.{Nodup}
 use Rattle.timing.proofs.Verdicts.{then-passed, unless-passed}
-use Rattle.theorems.proofs.Stands.{Stands, true-stands}
+use Rattle.theorems.proofs.Stands.{Stands, true-stands, true-label}
 use Rattle.theorems.proofs.Parts.{parts-stand}
-use Rattle.theorems.proofs.Renumbering.{stands-renumbered}
+use Rattle.theorems.proofs.Renumbering.{stands-renumbered, renumbered-label}
 use Rattle.theorems.proofs.Tested.{DesignFits, design-fits, list-fits, formed}
 use Rattle.theorems.proofs.Legal.{Legal, fits-legal}
 use Rattle.theorems.proofs.Kept.{true-distinct, true-legal, true-formed}
@@ -166,6 +168,17 @@ module _ (D : Design) (L : List (List ℕ)) (H : Graph) (held : Held D L H) wher
       stands-renumbered (designGraph D) H (trueGraph (designGraph D) L) L (design-legal .rising) (held .stands)
       (true-stands (designGraph D) L (design-legal .rising)) (held .legal .order) (whole-legal .order) (held .distinct) (true-distinct (designGraph D) L)
 
+  -- a copy is renumbered to that of its pair (node, mark)
+  pub held-pair : (h : ℕ) → h < length (H .nodes) → held .stands .label h ≡ pairOf (designGraph D) L (held-renumbered .to h)
+  unfolding held-renumbered
+  held-pair h k =
+      let up = design-legal .rising in
+      let to = true-label (designGraph D) L up (held-renumbered .to h) in
+      sym
+      (renumbered-label (designGraph D) H (trueGraph (designGraph D) L) L up (held .stands) (true-stands (designGraph D) L up)
+      (held .legal .order) (whole-legal .order) (held .distinct) (true-distinct (designGraph D) L) h k)
+      ∙ to
+
   -- both pass 32
   whole-formed : T (wellFormed D (trueGraph (designGraph D) L))
   whole-formed =
@@ -288,14 +301,6 @@ demand3 D rs =
 
 -- Corollary: a list cut anywhere between its paths. Where no removal of a series is refused, the graph held is that of all
 -- its lists put end to end, however they were cut.
-abbrev pub AllPassed : List Verdict → Type 0
-AllPassed [] = Unit {0}
-AllPassed (Passed ∷ vs) = AllPassed vs
-AllPassed (Refused x ∷ vs) = ⊥
-
-pub listsOf : List Removal → List (List ℕ)
-listsOf rs = flatMap (λ r. pathsOf (r .list)) rs
-
 whole-passed : (D : Design) (rs : List Removal) (L : List (List ℕ)) → AllPassed (verdictsAlone D (some L) rs) → wholeAfter D (some L) rs ≡ some (L ++ listsOf rs)
 unfolding listsOf flatMap
 whole-passed D [] L a = ap some (sym (append-nil L))

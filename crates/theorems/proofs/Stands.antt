@@ -6,12 +6,13 @@ use mathlib.Core.Logic.{_↔_}
 use mathlib.Core.Bool.{false, _&&_}
 use mathlib.Core.List.{List, [], _∷_, _++_, map, flatMap, List·Memᴰ, List·Memᴰ·head, append-assoc, Memᴰ·map, Memᴰ·of-map}
 use lib.Dec.{T, eqb, ltb, lt→ltb}
-use lib.ListN.{length, getD, length-map}
+use lib.ListN.{length, length-map}
 use Rattle.timing.specs.Lists.{isNil}
 use Rattle.timing.specs.Graphs.{Edge, edge, Graph, nodeOf, edgesIn, edgesOut, startsAt, endsAt, names}
 use Rattle.timing.specs.Marks.{permitted, mark}
 use Rattle.timing.specs.Sorting.{before, place}
 use Rattle.timing.specs.TrueGraphs.{Copy, Join, copyBefore, edgeBefore, copyAt, copiesOn, copies, joins, numbered, permittedRuns, trueGraph}
+use Rattle.timing.specs.Paths.{pairOf}
 use Rattle.theorems.proofs.Lists.{or-left, getD-mem, getD-map, none-of-nil}
 use Rattle.theorems.proofs.Marks.{begins, mark-reads, permitted-front}
 use Rattle.theorems.proofs.Sorting.{Sorted, sort-mem, sort-sorted, place-stands, place-getD, place-less}
@@ -76,10 +77,7 @@ module _ (G : Graph) (L : List (List ℕ)) (up : Rising G) where
   abbrev at-number : Copy → ℕ
   at-number p = place copyBefore p (copies L G)
 
-  abbrev at-label : ℕ → Copy
-  at-label c = getD (copies L G) c (record { at = 0; mark = [] })
-
-  shown-number : (p : Copy) → Shown G L p → (at-number p < length (copies L G)) × (at-label (at-number p) ≡ p)
+  shown-number : (p : Copy) → Shown G L p → (at-number p < length (copies L G)) × (pairOf G L (at-number p) ≡ p)
   shown-number p s = place-stands copyBefore copy-order p (record { at = 0; mark = [] }) (copies L G) copies-sorted (mem-copies G L up p .1 s)
 
   size : length (trueGraph G L .nodes) ≡ length (copies L G)
@@ -109,40 +107,45 @@ module _ (G : Graph) (L : List (List ℕ)) (up : Rising G) where
   pub true-rising : Rising (trueGraph G L)
   true-rising = record { up = λ e m. edge-rises e m .0; inside = λ e m. edge-rises e m .1 }
 
-  label-join : (j : Join) → Joined G L j → joinOf at-label (numbered (copies L G) j) ≡ j
+  label-join : (j : Join) → Joined G L j → joinOf (pairOf G L) (numbered (copies L G) j) ≡ j
   label-join j x =
       let k = joined-link G L j x in
       let a = shown-number (j .start) (k .from) .1 in
       let b = shown-number (j .end) (k .to) .1 in
       λ i. record { start = a i; end = b i; name = j .name }
 
-  number-label : (c : ℕ) → c < length (copies L G) → at-number (at-label c) ≡ c
+  number-label : (c : ℕ) → c < length (copies L G) → at-number (pairOf G L c) ≡ c
   number-label c h = place-getD copyBefore copy-order (copies L G) (record { at = 0; mark = [] }) c copies-sorted h
 
-  node-at : (c : ℕ) → c < length (copies L G) → nodeOf (trueGraph G L) c ≡ nodeOf G (at-label c .at)
+  node-at : (c : ℕ) → c < length (copies L G) → nodeOf (trueGraph G L) c ≡ nodeOf G (pairOf G L c .at)
   unfolding trueGraph
   node-at c h = getD-map (λ (x : Copy). nodeOf G (x .at)) (copies L G) (record { at = 0; mark = [] }) 0 c h
 
   pub true-stands : Stands G L (trueGraph G L)
   true-stands =
       record {
-        label = at-label;
+        label = pairOf G L;
         number = at-number;
         rising = true-rising;
         shown = λ p s. let r = shown-number p s in (rw size (r .0), r .1);
         every = λ c h.
             let k : c < length (copies L G) = rw size at h in
-            (mem-copies G L up (at-label c) .0 (getD-mem (copies L G) c (record { at = 0; mark = [] }) k), number-label c k, node-at c k);
+            (mem-copies G L up (pairOf G L c) .0 (getD-mem (copies L G) c (record { at = 0; mark = [] }) k), number-label c k, node-at c k);
         joined = λ e m.
             let r = true-edges e .0 m in
-            subst (Joined G L) (sym (label-join (r .0) (r .1)) ∙ ap (joinOf at-label) (r .2)) (r .1);
+            subst (Joined G L) (sym (label-join (r .0) (r .1)) ∙ ap (joinOf (pairOf G L)) (r .2)) (r .1);
         edges = λ e h k x.
             true-edges e .1 (
-              joinOf at-label e,
+              joinOf (pairOf G L) e,
               x,
               λ i. edge (number-label (e .start) (rw size at h) i) (number-label (e .end) (rw size at k) i) (e .name),
             );
       }
+
+  -- the label of a copy is the pair of its number
+  pub true-label : (c : ℕ) → true-stands .label c ≡ pairOf G L c
+  unfolding true-stands
+  true-label c = refl
 
 -- Theorem R, for any H that stands for (G, L).
 module _ (G H : Graph) (L : List (List ℕ)) (up : Rising G) (S : Stands G L H) where

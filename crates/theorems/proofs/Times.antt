@@ -14,10 +14,11 @@ use mir.Syntax.{w64}
 use mir.Val.{SFits}
 use Rattle.timing.specs.Graphs.{Edge, Graph, edgesIn, edgesOut, startsAt, endsAt, runsTo, runsFrom, delayAlong}
 use Rattle.timing.specs.Times.{largest, smallest, arrivalAt, requiredAt, slackAt}
+use Rattle.timing.specs.Paths.{Best}
 use Rattle.timing.proofs.Ints.{add-is, sub-parts, eq-parts, abs-is, abs-add, abs-neg, sfits-parts}
 use Rattle.theorems.proofs.Lists.{mem-flatMap, of-flatMap}
 use Rattle.theorems.proofs.Runs.{Rising, Leads, Way, mem-in, mem-out, leads-then, leads-last, runs-to, runs-from, way-then}
-use Rattle.theorems.proofs.Extremes.{AtMost, AtLeast, Some, nil-or-some, nil-none, Best, best-moved, best-on, best-kept, best-unique, best-nested, best-value, larges, smalls, add-keeps, sub-keeps, from-turns}
+use Rattle.theorems.proofs.Extremes.{AtMost, AtLeast, Some, nil-or-some, nil-none, best-moved, best-on, best-kept, best-unique, best-nested, best-value, larges, smalls, add-keeps, sub-keeps, from-turns}
 
 -- the delay of two runs, one after the other
 pub delay-then : (d : ℕ → ℤ) (p q : List Edge) → delayAlong d (p ++ q) ≡ delayAlong d p +ℤ delayAlong d q

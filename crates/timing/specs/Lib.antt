@@ -21,3 +21,6 @@ pub mod Tests
 pub mod Calls
 pub mod Series
 pub mod Called
+-- what the theorems say of these: demand 2, and whose times the times are
+pub mod Paths
+pub mod Demands

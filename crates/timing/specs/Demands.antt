@@ -1,0 +1,83 @@
+-- Demand 2 as a statement, and what it says of times: those of a copy and of a node are those of the design's permitted
+-- complete paths. Demand 3 stands in `Series`. The proofs are in `crates/theorems`.
+use Prim.Native.Nat.{ℕ}
+use mathlib.Core.Path.{_≡_}
+use mathlib.Core.Logic.{_↔_}
+use mathlib.Core.List.{List, [], _∷_, _++_, flatMap, List·Memᴰ}
+use lib.IntN.{ℤ, pos, _-ℤ_}
+use lib.ListN.{length, getD}
+use Rattle.timing.specs.declared.Verdict.{Verdict}
+use Rattle.timing.specs.declared.Verdict.the-variants.{Passed, Refused}
+use Rattle.timing.specs.declared.NodeTimes.{NodeTimes}
+use Rattle.timing.specs.declared.NodeTimes.the-variants.{Times, None}
+use Rattle.timing.specs.declared.NodeAnswer.{NodeAnswer}
+use Rattle.timing.specs.declared.NodeAnswer.the-variants.{Record}
+use Rattle.timing.specs.Graphs.{Design, edgeDelay, Edge, Graph, Run, completeRuns, delayAlong, takenBack}
+use Rattle.timing.specs.Marks.{pathsOf}
+use Rattle.timing.specs.TrueGraphs.{permittedRuns}
+use Rattle.timing.specs.Paths.{Largest, Smallest}
+use Rattle.timing.specs.Calls.{Removal, slicesOf, testTimes, arrivalsAfter, requiredsAfter, slacksAfter, recordOf}
+
+-- r in H and q in G are one path of the design, with one delay, whatever the delays of the design's edges: "two paths are one
+-- only if first node and edges agree, and a path taken back to the design keeps its first node"
+pub record SamePath (H G : Graph) (r q : Run) : Type 0 where
+  pub path : takenBack H r ≡ takenBack G q
+  pub delay : (d : ℕ → ℤ) → delayAlong d (r .edges) ≡ delayAlong d (q .edges)
+
+-- Demand 2 for H, made of G by removing the listed paths L: H's source-to-sink paths, taken back to the design's edges, are
+-- G's complete paths that contain no listed path: each once, no others, delays unchanged. The design is one G
+-- (`designGraph`), an earlier true graph another: "its paths [stand in] for the complete paths".
+pub record Demand2 (G : Graph) (L : List (List ℕ)) (H : Graph) : Type 0 where
+  -- no others: every source-to-sink path of H is, taken back, a complete path that contains no listed path, with its delay
+  pub sound : (r : Run) → List·Memᴰ r (completeRuns H) → (q : Run) × List·Memᴰ q (permittedRuns L G) × SamePath H G r q
+  -- all of them: every complete path that contains no listed path is, taken back, a source-to-sink path of H, with its delay
+  pub complete : (q : Run) → List·Memᴰ q (permittedRuns L G) → (r : Run) × List·Memᴰ r (completeRuns H) × SamePath H G r q
+  -- each once: two source-to-sink paths of H that are, taken back, one path are one path of H
+  pub once : (r s : Run) → List·Memᴰ r (completeRuns H) → List·Memᴰ s (completeRuns H) → takenBack H r ≡ takenBack H s → r ≡ s
+
+-- The three times of the paths P, each cut into two parts p and q: the largest delay of the part up to the cut, the smallest of
+-- t less the delay of the part from there on, and the smallest of t less the whole delay.
+pub record PathBest (d : ℕ → ℤ) (t : ℤ) (P : List Edge → List Edge → Type 0) (a r s : ℤ) : Type 0 where
+  pub arrival : Largest {A = (p : List Edge) × List Edge} (λ x. P (x .0) (x .1)) (λ x. delayAlong d (x .0)) a
+  pub required : Smallest {A = (p : List Edge) × List Edge} (λ x. P (x .0) (x .1)) (λ x. t -ℤ delayAlong d (x .1)) r
+  pub slack : Smallest {A = (p : List Edge) × List Edge} (λ x. P (x .0) (x .1)) (λ x. t -ℤ delayAlong d (x .0 ++ x .1)) s
+
+-- x is the record of the paths P: "either its three times or the answer none", which it is exactly if there is no such path
+pub record PathTimes (d : ℕ → ℤ) (t : ℤ) (P : List Edge → List Edge → Type 0) (x : NodeTimes) : Type 0 where
+  pub none : (x ≡ None) ↔ ((p q : List Edge) → P p q → ⊥)
+  pub some : (p q : List Edge) → P p q → (a : ℤ) × (r : ℤ) × (s : ℤ) × (x ≡ Times a r s) × PathBest d t P a r s
+
+-- Demand 3 where no removal of a series is refused: the whole list is all their lists put end to end
+abbrev pub AllPassed : List Verdict → Type 0
+AllPassed [] = Unit {0}
+AllPassed (Passed ∷ vs) = AllPassed vs
+AllPassed (Refused x ∷ vs) = ⊥
+
+unfoldable pub listsOf : List Removal → List (List ℕ)
+listsOf rs = flatMap (λ r. pathsOf (r .list)) rs
+
+-- Over the calls one after the other, where H is what a removal made or what is held after a series: `times` leaves the times
+-- of the copies of H in three slices, and `node_record` looks at them.
+module _ (D : Design) (H : Graph) (t : ℕ) (ats rts sts : List ℤ) where
+  -- what `times` leaves at copy h are the times of the paths P
+  abbrev pub TimesOfPaths : ℕ → (List Edge → List Edge → Type 0) → Type 0
+  TimesOfPaths h P =
+      let S = slicesOf H in
+      let tested = testTimes D S t (length ats) (length rts) (length sts) in
+      PathBest (edgeDelay D) (pos t) P
+      (getD (arrivalsAfter D S t tested ats) h (pos 0))
+      (getD (requiredsAfter D S t tested rts) h (pos 0))
+      (getD (slacksAfter D S t tested sts) h (pos 0))
+
+  -- what `node_record` then answers of node v
+  abbrev pub recordAfter : ℕ → NodeAnswer
+  recordAfter v =
+      let S = slicesOf H in
+      let tested = testTimes D S t (length ats) (length rts) (length sts) in
+      recordOf (D .nodes) (H .nodes) (arrivalsAfter D S t tested ats) (requiredsAfter D S t tested rts) (slacksAfter D S t tested sts) v
+
+  -- and that this is the record of the paths P
+  pub record RecordOfPaths (v : ℕ) (P : List Edge → List Edge → Type 0) : Type 0 where
+    pub times : NodeTimes
+    pub answer : recordAfter v ≡ Record (record { node = v; times = times })
+    pub paths : PathTimes (edgeDelay D) (pos t) P times
