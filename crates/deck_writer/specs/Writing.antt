@@ -13,7 +13,8 @@ use Rattle.timing.specs.Decks.{Deck}
 
 -- the deck that a writer is lent
 abbrev pub deckOf : ℕ → List ℕ → List ℕ → List ℤ → List ℕ → List ℕ → ℕ → Deck
-deckOf n starts ends delays listed lengths t = record { design = design n starts ends delays; list = pathList listed lengths; allowed = t }
+deckOf n starts ends delays listed lengths allowed =
+    record { design = design n starts ends delays; list = pathList listed lengths; allowed = allowed }
 
 -- what the writer's tests say of a deck
 pub record Fit (d : Deck) : Type 0 where

@@ -6,14 +6,9 @@ ghost use Rattle.timing.specs.Refusals.{_then_};
 ghost use Rattle.timing.specs.Refusals.{unless as passedIf};
 ghost use Rattle.timing.specs.Calls.{deckWriteTests};
 ghost use Rattle.deck_writer.specs.Writing.{deckOf};
+use entries::wide;
 use timing::Verdict;
 use verdicts::and_unless;
-
-pub(crate) fn wide(x: u32) -> usize
-    ensures { λ r. ⌜ r ≡ x ⌝ }
-{
-    x as usize
-}
 
 // Whether the lengths add up to the total: counted down, so that no sum can wrap.
 fn adds_up(lengths: &[u32], total: usize) -> bool
@@ -33,10 +28,12 @@ fn adds_up(lengths: &[u32], total: usize) -> bool
 }
 
 // 10, 11, 20 and 21 where the verdict passed, by the counts.
-fn and_counts(v: Verdict, nodes: u32, edges: usize, paths: usize, listed: usize) -> Verdict
-    ensures { λ r. ⌜ r ≡ (v then (passedIf 10 (leb nodes 4096) then passedIf 11 (leb edges 16384)) then passedIf 20 (leb paths 1024) then passedIf 21 (leb listed 8192)) ⌝ }
+fn and_counts(before: Verdict, n: u32, edges: usize, paths: usize, listed: usize) -> Verdict
+    ensures { λ r.
+        let counts = passedIf 10 (leb n 4096) then passedIf 11 (leb edges 16384) in
+        ⌜ r ≡ (before then counts then passedIf 20 (leb paths 1024) then passedIf 21 (leb listed 8192)) ⌝ }
 {
-    let v = and_unless(v, 10, nodes <= timing::MAX_NODES);
+    let v = and_unless(before, 10, n <= timing::MAX_NODES);
     let v = and_unless(v, 11, edges <= timing::MAX_EDGES);
     let v = and_unless(v, 20, paths <= timing::MAX_PATHS);
     and_unless(v, 21, listed <= timing::MAX_LISTED_EDGES)
@@ -44,16 +41,19 @@ fn and_counts(v: Verdict, nodes: u32, edges: usize, paths: usize, listed: usize)
 
 // The tests of a deck that is to be written; none of them looks at T.
 pub(crate) fn write_tests(
-    nodes: u32,
+    n: u32,
     starts: &[u32],
     ends: &[u32],
     delays: &[i32],
     listed: &[u32],
     lengths: &[u32],
 ) -> Verdict
-    ensures { λ r. ⌜ r ≡ deckWriteTests (deckOf nodes (now (starts .entry)) (now (ends .entry)) (now (delays .entry)) (now (listed .entry)) (now (lengths .entry)) 0) ⌝ }
+    ensures { λ r.
+        let d = deckOf n (now (starts .entry)) (now (ends .entry)) (now (delays .entry))
+        (now (listed .entry)) (now (lengths .entry)) 0 in
+        ⌜ r ≡ deckWriteTests d ⌝ }
 {
     let v = verdicts::same_sizes(starts.len(), ends.len(), delays.len());
     let v = and_unless(v, 30, adds_up(lengths, listed.len()));
-    and_counts(v, nodes, starts.len(), lengths.len(), listed.len())
+    and_counts(v, n, starts.len(), lengths.len(), listed.len())
 }

@@ -2,7 +2,7 @@
 ghost use mathlib.Core.Path.{_≡_};
 ghost use Rattle.timing.specs.Graphs.{design};
 ghost use Rattle.timing.specs.Marks.{pathList};
-ghost use Rattle.timing.specs.Decks.{packedDeck};
+ghost use Rattle.timing.specs.Decks.{Deck, packedDeck};
 ghost use Rattle.timing.specs.Calls.{deckWriteTests, writing, roomAfterWriting};
 use timing::Verdict;
 use timing::Written;
@@ -18,11 +18,15 @@ pub fn write_deck(
     delays: &[i32],
     listed: &[u32],
     lengths: &[u32],
-    t: u32,
+    allowed: u32,
     room: &mut [u8],
 ) -> Written
-    ensures { λ r. ⌜ r ≡ writing (deckWriteTests (record { design = design n (now (starts .entry)) (now (ends .entry)) (now (delays .entry)); list = pathList (now (listed .entry)) (now (lengths .entry)); allowed = t })) (now (room .entry)) (packedDeck (record { design = design n (now (starts .entry)) (now (ends .entry)) (now (delays .entry)); list = pathList (now (listed .entry)) (now (lengths .entry)); allowed = t })) ⌝ }
-    ensures { λ r. ⌜ now (room .exit) ≡ roomAfterWriting (deckWriteTests (record { design = design n (now (starts .entry)) (now (ends .entry)) (now (delays .entry)); list = pathList (now (listed .entry)) (now (lengths .entry)); allowed = t })) (now (room .entry)) (packedDeck (record { design = design n (now (starts .entry)) (now (ends .entry)) (now (delays .entry)); list = pathList (now (listed .entry)) (now (lengths .entry)); allowed = t })) ⌝ }
+    ensures { λ r.
+        let D = design n (now (starts .entry)) (now (ends .entry)) (now (delays .entry)) in
+        let L = pathList (now (listed .entry)) (now (lengths .entry)) in
+        let d : Deck = record { design = D; list = L; allowed = allowed } in
+        ⌜ (r ≡ writing (deckWriteTests d) (now (room .entry)) (packedDeck d))
+        × (now (room .exit) ≡ roomAfterWriting (deckWriteTests d) (now (room .entry)) (packedDeck d)) ⌝ }
 {
     let v = counts::write_tests(n, starts, ends, delays, listed, lengths);
     match v {
@@ -31,9 +35,9 @@ pub fn write_deck(
         }
         Verdict::Passed => {}
     }
-    let size = writer::deck_size(n, starts, ends, delays, listed, lengths, t);
+    let size = writer::deck_size(n, starts, ends, delays, listed, lengths, allowed);
     if room.len() < size {
         return Written::Refused(verdicts::refuse(35, 0));
     }
-    Written::End(writer::put_deck(n, starts, ends, delays, listed, lengths, t, room))
+    Written::End(writer::put_deck(n, starts, ends, delays, listed, lengths, allowed, room))
 }

@@ -10,7 +10,7 @@ ghost use Rattle.timing.specs.Delays.{packedDelay};
 ghost use Rattle.timing.specs.Marks.{cut};
 ghost use Rattle.timing.specs.Decks.{edgeNumbers, pathNumbers, deckNumbers, packedDeck};
 ghost use Rattle.deck_writer.specs.Writing.{deckOf, Fit, size, Wrote};
-use super::counts::wide;
+use entries::wide;
 use timing::Written;
 
 // How many bytes a number takes, and numbers: the bounds are for the sums.
@@ -72,7 +72,9 @@ fn put_row(room: &mut [u8], at: usize, start: u32, end: u32, delay: u32) -> usiz
 fn put_edges(room: &mut [u8], at: usize, starts: &[u32], ends: &[u32], delays: &[i32]) -> usize
     requires { ⌜ (length (now ends) ≡ length (now starts)) × (length (now delays) ≡ length (now starts)) ⌝ }
     requires { ⌜ at + size (edgeNumbers (now starts) (now ends) (now delays)) ≤ length (now room) ⌝ }
-    ensures { λ r. ⌜ Wrote (now (room .entry)) (now (room .exit)) at r (edgeNumbers (now (starts .entry)) (now (ends .entry)) (now (delays .entry))) ⌝ }
+    ensures { λ r.
+        let numbers = edgeNumbers (now (starts .entry)) (now (ends .entry)) (now (delays .entry)) in
+        ⌜ Wrote (now (room .entry)) (now (room .exit)) at r numbers ⌝ }
 {
     let mut at = at;
     let mut k = 0;
@@ -101,7 +103,9 @@ fn put_numbers(room: &mut [u8], at: usize, s: &[u32], from: usize, count: usize)
 fn put_path(room: &mut [u8], at: usize, listed: &[u32], from: usize, count: u32) -> usize
     requires { ⌜ from + count ≤ length (now listed) ⌝ }
     requires { ⌜ at + size (count ∷ take count (drop from (now listed))) ≤ length (now room) ⌝ }
-    ensures { λ r. ⌜ Wrote (now (room .entry)) (now (room .exit)) at r (count ∷ take count (drop from (now (listed .entry)))) ⌝ }
+    ensures { λ r.
+        let numbers = count ∷ take count (drop from (now (listed .entry))) in
+        ⌜ Wrote (now (room .entry)) (now (room .exit)) at r numbers ⌝ }
 {
     let at = put(room, at, count);
     put_numbers(room, at, listed, from, wide(count))
@@ -110,7 +114,9 @@ fn put_path(room: &mut [u8], at: usize, listed: &[u32], from: usize, count: u32)
 fn put_paths(room: &mut [u8], at: usize, listed: &[u32], lengths: &[u32]) -> usize
     requires { ⌜ sum (now lengths) ≡ length (now listed) ⌝ }
     requires { ⌜ at + size (flatMap pathNumbers (cut (now listed) (now lengths))) ≤ length (now room) ⌝ }
-    ensures { λ r. ⌜ Wrote (now (room .entry)) (now (room .exit)) at r (flatMap pathNumbers (cut (now (listed .entry)) (now (lengths .entry)))) ⌝ }
+    ensures { λ r.
+        let numbers = flatMap pathNumbers (cut (now (listed .entry)) (now (lengths .entry))) in
+        ⌜ Wrote (now (room .entry)) (now (room .exit)) at r numbers ⌝ }
 {
     let mut at = at;
     let mut from = 0;
@@ -127,24 +133,32 @@ fn put_paths(room: &mut [u8], at: usize, listed: &[u32], lengths: &[u32]) -> usi
 fn put_design(
     room: &mut [u8],
     at: usize,
-    nodes: u32,
+    n: u32,
     starts: &[u32],
     ends: &[u32],
     delays: &[i32],
 ) -> usize
-    requires { ⌜ (length (now ends) ≡ length (now starts)) × (length (now delays) ≡ length (now starts)) × (length (now starts) ≤ 16384) ⌝ }
-    requires { ⌜ at + size (nodes ∷ length (now starts) ∷ edgeNumbers (now starts) (now ends) (now delays)) ≤ length (now room) ⌝ }
-    ensures { λ r. ⌜ Wrote (now (room .entry)) (now (room .exit)) at r (nodes ∷ length (now (starts .entry)) ∷ edgeNumbers (now (starts .entry)) (now (ends .entry)) (now (delays .entry))) ⌝ }
+    requires { ⌜ (length (now ends) ≡ length (now starts))
+        × (length (now delays) ≡ length (now starts))
+        × (length (now starts) ≤ 16384) ⌝ }
+    requires { let numbers = n ∷ length (now starts) ∷ edgeNumbers (now starts) (now ends) (now delays) in
+        ⌜ at + size numbers ≤ length (now room) ⌝ }
+    ensures { λ r.
+        let edges = edgeNumbers (now (starts .entry)) (now (ends .entry)) (now (delays .entry)) in
+        ⌜ Wrote (now (room .entry)) (now (room .exit)) at r (n ∷ length (now (starts .entry)) ∷ edges) ⌝ }
 {
-    let at = put(room, at, nodes);
+    let at = put(room, at, n);
     let at = put(room, at, starts.len() as u32);
     put_edges(room, at, starts, ends, delays)
 }
 
 fn put_list(room: &mut [u8], at: usize, listed: &[u32], lengths: &[u32]) -> usize
     requires { ⌜ (sum (now lengths) ≡ length (now listed)) × (length (now lengths) ≤ 1024) ⌝ }
-    requires { ⌜ at + size (length (now lengths) ∷ flatMap pathNumbers (cut (now listed) (now lengths))) ≤ length (now room) ⌝ }
-    ensures { λ r. ⌜ Wrote (now (room .entry)) (now (room .exit)) at r (length (now (lengths .entry)) ∷ flatMap pathNumbers (cut (now (listed .entry)) (now (lengths .entry)))) ⌝ }
+    requires { let paths = flatMap pathNumbers (cut (now listed) (now lengths)) in
+        ⌜ at + size (length (now lengths) ∷ paths) ≤ length (now room) ⌝ }
+    ensures { λ r.
+        let paths = flatMap pathNumbers (cut (now (listed .entry)) (now (lengths .entry))) in
+        ⌜ Wrote (now (room .entry)) (now (room .exit)) at r (length (now (lengths .entry)) ∷ paths) ⌝ }
 {
     let at = put(room, at, lengths.len() as u32);
     put_paths(room, at, listed, lengths)
@@ -152,41 +166,47 @@ fn put_list(room: &mut [u8], at: usize, listed: &[u32], lengths: &[u32]) -> usiz
 
 // How many bytes the deck takes: each number is counted once, in any order.
 pub(crate) fn deck_size(
-    nodes: u32,
+    n: u32,
     starts: &[u32],
     ends: &[u32],
     delays: &[i32],
     listed: &[u32],
     lengths: &[u32],
-    t: u32,
+    allowed: u32,
 ) -> usize
-    requires { ⌜ Fit (deckOf nodes (now starts) (now ends) (now delays) (now listed) (now lengths) t) ⌝ }
-    ensures { λ r. ⌜ r ≡ length (packedDeck (deckOf nodes (now (starts .entry)) (now (ends .entry)) (now (delays .entry)) (now (listed .entry)) (now (lengths .entry)) t)) ⌝ }
+    requires { ⌜ Fit (deckOf n (now starts) (now ends) (now delays) (now listed) (now lengths) allowed) ⌝ }
+    ensures { λ r.
+        let d = deckOf n (now (starts .entry)) (now (ends .entry)) (now (delays .entry))
+        (now (listed .entry)) (now (lengths .entry)) allowed in
+        ⌜ r ≡ length (packedDeck d) ⌝ }
 {
-    let counts = number_size(nodes)
+    let counts = number_size(n)
         + number_size(starts.len() as u32)
         + number_size(lengths.len() as u32)
-        + number_size(t);
+        + number_size(allowed);
     let edges = numbers_size(starts) + numbers_size(ends) + delays_size(delays);
     let paths = numbers_size(lengths) + numbers_size(listed);
     counts + edges + paths
 }
 
 pub(crate) fn put_deck(
-    nodes: u32,
+    n: u32,
     starts: &[u32],
     ends: &[u32],
     delays: &[i32],
     listed: &[u32],
     lengths: &[u32],
-    t: u32,
+    allowed: u32,
     room: &mut [u8],
 ) -> usize
-    requires { ⌜ Fit (deckOf nodes (now starts) (now ends) (now delays) (now listed) (now lengths) t) ⌝ }
-    requires { ⌜ length (packedDeck (deckOf nodes (now starts) (now ends) (now delays) (now listed) (now lengths) t)) ≤ length (now room) ⌝ }
-    ensures { λ r. ⌜ Wrote (now (room .entry)) (now (room .exit)) 0 r (deckNumbers (deckOf nodes (now (starts .entry)) (now (ends .entry)) (now (delays .entry)) (now (listed .entry)) (now (lengths .entry)) t)) ⌝ }
+    requires { let d = deckOf n (now starts) (now ends) (now delays) (now listed) (now lengths) allowed in
+        ⌜ Fit d × (length (packedDeck d) ≤ length (now room)) ⌝ }
+    ensures { λ r.
+        let d = deckOf n (now (starts .entry)) (now (ends .entry)) (now (delays .entry))
+        (now (listed .entry)) (now (lengths .entry)) allowed in
+        ⌜ Wrote (now (room .entry)) (now (room .exit)) 0 r (deckNumbers d) ⌝ }
 {
-    let at = put_design(room, 0, nodes, starts, ends, delays);
+    let at = put_design(room, 0, n, starts, ends, delays);
     let at = put_list(room, at, listed, lengths);
-    put(room, at, t)
+    put(room, at, allowed)
 }

@@ -27,8 +27,10 @@ fn known(n: u32, starts: &[u32], ends: &[u32], k: usize) -> bool
 }
 
 // 12: an edge names a node not below n.
-pub fn and_known(before: Verdict, n: u32, starts: &[u32], ends: &[u32]) -> Verdict
-    ensures { λ r. ⌜ r ≡ (before then firstBad 12 (strays (design n (now (starts .entry)) (now (ends .entry)) [])) 0 (upto (length (now (starts .entry))) 0)) ⌝ }
+pub(crate) fn and_known(before: Verdict, n: u32, starts: &[u32], ends: &[u32]) -> Verdict
+    ensures { λ r.
+        let D = design n (now (starts .entry)) (now (ends .entry)) [] in
+        ⌜ r ≡ (before then firstBad 12 (strays D) 0 (upto (length (now (starts .entry))) 0)) ⌝ }
 {
     let Verdict::Passed = before else {
         return before;
@@ -50,8 +52,10 @@ fn rises(starts: &[u32], ends: &[u32], k: usize) -> bool
 }
 
 // 13: an edge does not rise.
-pub fn and_rise(before: Verdict, starts: &[u32], ends: &[u32]) -> Verdict
-    ensures { λ r. ⌜ r ≡ (before then firstBad 13 (falls (design 0 (now (starts .entry)) (now (ends .entry)) [])) 0 (upto (length (now (starts .entry))) 0)) ⌝ }
+pub(crate) fn and_rise(before: Verdict, starts: &[u32], ends: &[u32]) -> Verdict
+    ensures { λ r.
+        let D = design 0 (now (starts .entry)) (now (ends .entry)) [] in
+        ⌜ r ≡ (before then firstBad 13 (falls D) 0 (upto (length (now (starts .entry))) 0)) ⌝ }
 {
     let Verdict::Passed = before else {
         return before;
@@ -77,8 +81,10 @@ fn in_range(delays: &[i32], k: usize) -> bool
 }
 
 // 14: the delay of one of the m edges is out of range.
-pub fn and_in_range(before: Verdict, m: usize, delays: &[i32]) -> Verdict
-    ensures { λ r. ⌜ r ≡ (before then firstBad 14 (tooSlow (design 0 [] [] (now (delays .entry)))) 0 (upto m 0)) ⌝ }
+pub(crate) fn and_in_range(before: Verdict, m: usize, delays: &[i32]) -> Verdict
+    ensures { λ r.
+        let D = design 0 [] [] (now (delays .entry)) in
+        ⌜ r ≡ (before then firstBad 14 (tooSlow D) 0 (upto m 0)) ⌝ }
 {
     let Verdict::Passed = before else {
         return before;

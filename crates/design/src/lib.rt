@@ -29,7 +29,9 @@ pub fn and_design_tests(
     ends: &[u32],
     delays: &[i32],
 ) -> Verdict
-    ensures { λ r. ⌜ r ≡ (before then designTests (design n (now (starts .entry)) (now (ends .entry)) (now (delays .entry)))) ⌝ }
+    ensures { λ r.
+        let D = design n (now (starts .entry)) (now (ends .entry)) (now (delays .entry)) in
+        ⌜ r ≡ (before then designTests D) ⌝ }
 {
     let counts = and_design_counts(before, n, starts.len());
     let known = edges::and_known(counts, n, starts, ends);

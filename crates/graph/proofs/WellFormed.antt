@@ -41,15 +41,15 @@ and-after-ten (Refused r) n starts ends ds G h = refl
 
 -- what the passes answer for the edges, and for the copies
 abbrev pub edgesPass : List ℕ → List ℕ → List ℕ → List ℕ → List ℕ → List ℕ → Bool
-edgesPass starts ends nodes gs ge gn =
-    let m = length (edgesOf gs ge gn) in
-    allOf (edgePasses starts ends nodes gs ge gn m) (upto m 0)
+edgesPass starts ends nodes from to via =
+    let m = length (edgesOf from to via) in
+    allOf (edgePasses starts ends nodes from to via m) (upto m 0)
 
 abbrev pub copiesPass : ℕ → List ℕ → List ℕ → List ℕ → List ℕ → List ℕ → List ℕ → Bool
-copiesPass n starts ends nodes gs ge gn =
+copiesPass n starts ends nodes from to via =
     let d = min (length starts) (length ends) in
-    let m = length (edgesOf gs ge gn) in
-    allOf (copyPasses n nodes (stands ends d) (stands starts d) (stands ge m) (stands gs m)) (upto (length nodes) 0)
+    let m = length (edgesOf from to via) in
+    allOf (copyPasses n nodes (stands ends d) (stands starts d) (stands to m) (stands from m)) (upto (length nodes) 0)
 
 not-not : (b : Bool) → not (not b) ≡ b
 not-not true = refl
@@ -75,15 +75,15 @@ six-and a b c d f g p q r s t u =
     and-intro (a && b && c && d && f) g
     (and-intro (a && b && c && d) f (and-intro (a && b && c) d (and-intro (a && b) c (and-intro a b p q) r) s) t) u
 
-module _ (n : ℕ) (starts ends nodes gs ge gn : List ℕ) where
+module _ (n : ℕ) (starts ends nodes from to via : List ℕ) where
   abbrev D : Design
   D = design n starts ends []
 
   abbrev G : Graph
-  G = graphOf (graphSlices nodes gs ge gn)
+  G = graphOf (graphSlices nodes from to via)
 
   abbrev m : ℕ
-  m = length (edgesOf gs ge gn)
+  m = length (edgesOf from to via)
 
   -- which nodes and which copies have an edge in, and out
   abbrev nodeIn : ℕ → Bool
@@ -93,10 +93,10 @@ module _ (n : ℕ) (starts ends nodes gs ge gn : List ℕ) where
   nodeOut = stands starts (min (length starts) (length ends))
 
   abbrev copyIn : ℕ → Bool
-  copyIn = stands ge m
+  copyIn = stands to m
 
   abbrev copyOut : ℕ → Bool
-  copyOut = stands gs m
+  copyOut = stands from m
 
   abbrev node : ℕ → ℕ
   node c = getD nodes c 0
@@ -106,22 +106,22 @@ module _ (n : ℕ) (starts ends nodes gs ge gn : List ℕ) where
       rw (
         source-is n starts ends (node c),
         sink-is n starts ends (node c),
-        in-graph nodes gs ge gn c,
-        out-graph nodes gs ge gn c,
+        in-graph nodes from to via c,
+        out-graph nodes from to via c,
         not-not (copyIn c),
         not-not (copyOut c),
       )
 
   -- where 32 passes, each edge and each copy does
-  edge-passes : T (allOf (edgeFits D G) (G .edges)) → T (eachNext edgeRises (G .edges)) → (k : ℕ) → k < m → T (edgePasses starts ends nodes gs ge gn m k)
+  edge-passes : T (allOf (edgeFits D G) (G .edges)) → T (eachNext edgeRises (G .edges)) → (k : ℕ) → k < m → T (edgePasses starts ends nodes from to via m k)
   edge-passes fits rise k h =
-      and-intro (edgeFits D G (edgeAt gs ge gn k)) (leb m (k + 1) || edgeRises (edgeAt gs ge gn k) (edgeAt gs ge gn (k + 1)))
-      (allOf-elim (edgeFits D G) (G .edges) fits (mem-edge gs ge gn k h))
+      and-intro (edgeFits D G (edgeAt from to via k)) (leb m (k + 1) || edgeRises (edgeAt from to via k) (edgeAt from to via (k + 1)))
+      (allOf-elim (edgeFits D G) (G .edges) fits (mem-edge from to via k h))
       (elim (decLt (k + 1) m) [
         | yes l ↦
-            or-right (leb m (k + 1)) (edgeRises (edgeAt gs ge gn k) (edgeAt gs ge gn (k + 1)))
-            (rw (edge-at gs ge gn k h, edge-at gs ge gn (k + 1) l) at (next-at (edge 0 0 0) edgeRises (G .edges) rise k l))
-        | no l ↦ or-left (leb m (k + 1)) (edgeRises (edgeAt gs ge gn k) (edgeAt gs ge gn (k + 1))) (le→leb m (k + 1) (omega arith))
+            or-right (leb m (k + 1)) (edgeRises (edgeAt from to via k) (edgeAt from to via (k + 1)))
+            (rw (edge-at from to via k h, edge-at from to via (k + 1) l) at (next-at (edge 0 0 0) edgeRises (G .edges) rise k l))
+        | no l ↦ or-left (leb m (k + 1)) (edgeRises (edgeAt from to via k) (edgeAt from to via (k + 1))) (le→leb m (k + 1) (omega arith))
       ])
 
   follow : T (eachNext leb nodes) → T (allOf (oneSinkCopy D G) (upto n 0)) → (c : ℕ) → c + 1 < length nodes → node c < n → T (follows nodeOut (node c) (node (c + 1)))
@@ -164,24 +164,24 @@ module _ (n : ℕ) (starts ends nodes gs ge gn : List ℕ) where
       (and-right i o link)
 
   -- and where they do, 32 passes
-  edges-of : ((k : ℕ) → k < m → T (edgePasses starts ends nodes gs ge gn m k)) → T (allOf (edgeFits D G) (G .edges)) × T (eachNext edgeRises (G .edges))
+  edges-of : ((k : ℕ) → k < m → T (edgePasses starts ends nodes from to via m k)) → T (allOf (edgeFits D G) (G .edges)) × T (eachNext edgeRises (G .edges))
   edges-of f = (
     allOf-intro (edgeFits D G) (G .edges)
         (λ e i.
-        let r = of-edge gs ge gn i in
-        subst (λ (x : Edge). T (edgeFits D G x)) (r .2) (and-left (edgeFits D G (edgeAt gs ge gn (r .0))) (rises (r .0)) (f (r .0) (r .1)))),
+        let r = of-edge from to via i in
+        subst (λ (x : Edge). T (edgeFits D G x)) (r .2) (and-left (edgeFits D G (edgeAt from to via (r .0))) (rises (r .0)) (f (r .0) (r .1)))),
     at-next (edge 0 0 0) edgeRises (G .edges)
         (λ k h.
         let here : k < m = omega arith in
-        rw (edge-at gs ge gn k here, edge-at gs ge gn (k + 1) h)
+        rw (edge-at from to via k here, edge-at from to via (k + 1) h)
         (⊎-elim
         (λ l. absurd (omega (arith, leb→le m (k + 1) l)))
         (λ t. t)
-        (or-cases (leb m (k + 1)) (edgeRises (edgeAt gs ge gn k) (edgeAt gs ge gn (k + 1))) (and-right (edgeFits D G (edgeAt gs ge gn k)) (rises k) (f k here))))),
+        (or-cases (leb m (k + 1)) (edgeRises (edgeAt from to via k) (edgeAt from to via (k + 1))) (and-right (edgeFits D G (edgeAt from to via k)) (rises k) (f k here))))),
   )
     where
       rises : ℕ → Bool
-      rises k = leb m (k + 1) || edgeRises (edgeAt gs ge gn k) (edgeAt gs ge gn (k + 1))
+      rises k = leb m (k + 1) || edgeRises (edgeAt from to via k) (edgeAt from to via (k + 1))
 
   -- what the test of a copy says
   record CopyFits (c : ℕ) : Type 0 where
@@ -223,19 +223,19 @@ module _ (n : ℕ) (starts ends nodes gs ge gn : List ℕ) where
     links-of : T (allOf (linked D G) (upto (length nodes) 0))
     links-of = at-all (linked D G) (length nodes) (λ c h. f c h .link)
 
-  pub formed-is : length nodes ≤ 16384 → length (edgesOf gs ge gn) ≤ 65536
-      → wellFormed (design n starts ends []) (graphOf (graphSlices nodes gs ge gn))
-      ≡ (edgesPass starts ends nodes gs ge gn && copiesPass n starts ends nodes gs ge gn)
+  pub formed-is : length nodes ≤ 16384 → length (edgesOf from to via) ≤ 65536
+      → wellFormed (design n starts ends []) (graphOf (graphSlices nodes from to via))
+      ≡ (edgesPass starts ends nodes from to via && copiesPass n starts ends nodes from to via)
   unfolding wellFormed
   formed-is few few′ =
       same-test (a && b && c && d && s && l) (E && C)
       (λ t.
       let r = and-six a b c d s l t in
       and-intro E C
-      (at-all (edgePasses starts ends nodes gs ge gn m) m (edge-passes (r .2) (r .3)))
+      (at-all (edgePasses starts ends nodes from to via m) m (edge-passes (r .2) (r .3)))
       (at-all (copyPasses n nodes nodeIn nodeOut copyIn copyOut) (length nodes) (copy-passes (r .1) (r .4) (r .5))))
       (λ t.
-      let es = edges-of (all-at (edgePasses starts ends nodes gs ge gn m) m (and-left E C t)) in
+      let es = edges-of (all-at (edgePasses starts ends nodes from to via m) m (and-left E C t)) in
       let cs : (c : ℕ) → c < length nodes → CopyFits c
       = λ c h. copy-fits c (all-at (copyPasses n nodes nodeIn nodeOut copyIn copyOut) (length nodes) (and-right E C t) c h) in
       six-and a b c d s l
@@ -261,23 +261,23 @@ module _ (n : ℕ) (starts ends nodes gs ge gn : List ℕ) where
       l = allOf (linked D G) (upto (length nodes) 0)
 
       E : Bool
-      E = edgesPass starts ends nodes gs ge gn
+      E = edgesPass starts ends nodes from to via
 
       C : Bool
-      C = copiesPass n starts ends nodes gs ge gn
+      C = copiesPass n starts ends nodes from to via
 
   -- a graph that is too large
-  pub too-many-copies : 16384 < length nodes → wellFormed (design n starts ends []) (graphOf (graphSlices nodes gs ge gn)) ≡ false
+  pub too-many-copies : 16384 < length nodes → wellFormed (design n starts ends []) (graphOf (graphSlices nodes from to via)) ≡ false
   unfolding wellFormed
   too-many-copies h = rw (lt-leb (length nodes) 16384 h)
 
-  pub too-many-edges : length nodes ≤ 16384 → 65536 < length (edgesOf gs ge gn) → wellFormed (design n starts ends []) (graphOf (graphSlices nodes gs ge gn)) ≡ false
+  pub too-many-edges : length nodes ≤ 16384 → 65536 < length (edgesOf from to via) → wellFormed (design n starts ends []) (graphOf (graphSlices nodes from to via)) ≡ false
   unfolding wellFormed
-  too-many-edges h k = rw (le-leb (length nodes) 16384 h, lt-leb (length (edgesOf gs ge gn)) 65536 k)
+  too-many-edges h k = rw (le-leb (length nodes) 16384 h, lt-leb (length (edgesOf from to via)) 65536 k)
 
   -- as the code has it, where m and d are the lengths of the shortest lists
-  pub formed-by : (m d : ℕ) → m ≡ length (edgesOf gs ge gn) → d ≡ min (length starts) (length ends) → length nodes ≤ 16384 → m ≤ 65536
-      → (allOf (edgePasses starts ends nodes gs ge gn m) (upto m 0)
-      && allOf (copyPasses n nodes (stands ends d) (stands starts d) (stands ge m) (stands gs m)) (upto (length nodes) 0))
-      ≡ wellFormed (design n starts ends []) (graphOf (graphSlices nodes gs ge gn))
+  pub formed-by : (m d : ℕ) → m ≡ length (edgesOf from to via) → d ≡ min (length starts) (length ends) → length nodes ≤ 16384 → m ≤ 65536
+      → (allOf (edgePasses starts ends nodes from to via m) (upto m 0)
+      && allOf (copyPasses n nodes (stands ends d) (stands starts d) (stands to m) (stands from m)) (upto (length nodes) 0))
+      ≡ wellFormed (design n starts ends []) (graphOf (graphSlices nodes from to via))
   formed-by m d p q few few′ = rw (p, q) (sym (formed-is few (omega arith)))

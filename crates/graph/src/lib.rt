@@ -2,7 +2,7 @@
 ghost use mathlib.Core.Path.{_≡_};
 ghost use mathlib.Core.Bool.{Bool, true, false, not, _&&_, _||_};
 ghost use mathlib.Core.List.{List, []};
-ghost use Prim.Native.Nat.{ℕ, _+_, _≤_, _<_, min};
+ghost use Prim.Native.Nat.{ℕ, _+_, _≤_, _<_};
 ghost use lib.Dec.{leb};
 ghost use lib.ListN.{length, getD, set};
 ghost use Rattle.timing.specs.Lists.{allOf, upto};
@@ -12,6 +12,7 @@ ghost use Rattle.timing.specs.Refusals.{_then_};
 ghost use Rattle.timing.specs.Tests.{nodeCount, graphTest};
 ghost use Rattle.timing.specs.Calls.{graphSlices, graphOf};
 ghost use Rattle.graph.specs.Passes.{Marked, stands, flag, edgePasses, follows, joined, copyPasses};
+use entries::least;
 use entries::number_at;
 use timing::Verdict;
 
@@ -19,12 +20,6 @@ fn both(a: bool, b: bool) -> bool
     ensures { λ r. ⌜ r ≡ (a && b) ⌝ }
 {
     if a { b } else { false }
-}
-
-fn shorter(a: usize, b: usize) -> usize
-    ensures { λ r. ⌜ r ≡ min a b ⌝ }
-{
-    if a <= b { a } else { b }
 }
 
 fn set_flag(flags: &mut [bool], v: usize)
@@ -53,16 +48,18 @@ fn mark(list: &[u32], count: usize, flags: &mut [bool])
 }
 
 fn edge_fits(starts: &[u32], ends: &[u32], nodes: &[u32], s: u32, t: u32, k: u32) -> bool
-    ensures { λ r. ⌜ r ≡ edgeFits (design 0 (now (starts .entry)) (now (ends .entry)) []) (graph (now (nodes .entry)) []) (edge s t k) ⌝ }
+    ensures { λ r.
+        let D = design 0 (now (starts .entry)) (now (ends .entry)) [] in
+        ⌜ r ≡ edgeFits D (graph (now (nodes .entry)) []) (edge s t k) ⌝ }
 {
     let there = both((s as usize) < nodes.len(), (t as usize) < nodes.len());
     let named = both(there, (k as usize) < starts.len());
-    let from = both(
+    let leaves = both(
         named,
         number_at(nodes, s as usize) == number_at(starts, k as usize),
     );
     both(
-        from,
+        leaves,
         number_at(nodes, t as usize) == number_at(ends, k as usize),
     )
 }
@@ -78,17 +75,20 @@ fn edge_rises(t: u32, k: u32, u: u32, l: u32) -> bool
 }
 
 // Edge i of the first m rises to the next, if there is one.
-fn next_rises(ge: &[u32], gn: &[u32], m: usize, i: usize) -> bool
+fn next_rises(to: &[u32], via: &[u32], m: usize, i: usize) -> bool
     requires { ⌜ i < m ⌝ }
-    ensures { λ r. ⌜ r ≡ (leb m (i + 1) || edgeRises (edge 0 (getD (now (ge .entry)) i 0) (getD (now (gn .entry)) i 0)) (edge 0 (getD (now (ge .entry)) (i + 1) 0) (getD (now (gn .entry)) (i + 1) 0))) ⌝ }
+    ensures { λ r.
+        let here = edge 0 (getD (now (to .entry)) i 0) (getD (now (via .entry)) i 0) in
+        let next = edge 0 (getD (now (to .entry)) (i + 1) 0) (getD (now (via .entry)) (i + 1) 0) in
+        ⌜ r ≡ (leb m (i + 1) || edgeRises here next) ⌝ }
 {
     if m <= i + 1 {
         return true;
     }
-    let t = number_at(ge, i);
-    let k = number_at(gn, i);
-    let u = number_at(ge, i + 1);
-    let l = number_at(gn, i + 1);
+    let t = number_at(to, i);
+    let k = number_at(via, i);
+    let u = number_at(to, i + 1);
+    let l = number_at(via, i + 1);
     edge_rises(t, k, u, l)
 }
 
@@ -96,36 +96,41 @@ fn edge_passes(
     starts: &[u32],
     ends: &[u32],
     nodes: &[u32],
-    gs: &[u32],
-    ge: &[u32],
-    gn: &[u32],
+    from: &[u32],
+    to: &[u32],
+    via: &[u32],
     m: usize,
     i: usize,
 ) -> bool
     requires { ⌜ i < m ⌝ }
-    ensures { λ r. ⌜ r ≡ edgePasses (now (starts .entry)) (now (ends .entry)) (now (nodes .entry)) (now (gs .entry)) (now (ge .entry)) (now (gn .entry)) m i ⌝ }
+    ensures { λ r.
+        ⌜ r ≡ edgePasses (now (starts .entry)) (now (ends .entry)) (now (nodes .entry))
+        (now (from .entry)) (now (to .entry)) (now (via .entry)) m i ⌝ }
 {
-    let s = number_at(gs, i);
-    let t = number_at(ge, i);
-    let k = number_at(gn, i);
+    let s = number_at(from, i);
+    let t = number_at(to, i);
+    let k = number_at(via, i);
     let fits = edge_fits(starts, ends, nodes, s, t, k);
-    both(fits, next_rises(ge, gn, m, i))
+    both(fits, next_rises(to, via, m, i))
 }
 
 fn edges_pass(
     starts: &[u32],
     ends: &[u32],
     nodes: &[u32],
-    gs: &[u32],
-    ge: &[u32],
-    gn: &[u32],
+    from: &[u32],
+    to: &[u32],
+    via: &[u32],
     m: usize,
 ) -> bool
-    ensures { λ r. ⌜ r ≡ allOf (edgePasses (now (starts .entry)) (now (ends .entry)) (now (nodes .entry)) (now (gs .entry)) (now (ge .entry)) (now (gn .entry)) m) (upto m 0) ⌝ }
+    ensures { λ r.
+        let passes = edgePasses (now (starts .entry)) (now (ends .entry)) (now (nodes .entry))
+        (now (from .entry)) (now (to .entry)) (now (via .entry)) m in
+        ⌜ r ≡ allOf passes (upto m 0) ⌝ }
 {
     let mut i = 0;
     while i < m {
-        if !edge_passes(starts, ends, nodes, gs, ge, gn, m, i) {
+        if !edge_passes(starts, ends, nodes, from, to, via, m, i) {
             return false;
         }
         i += 1;
@@ -136,7 +141,10 @@ fn edges_pass(
 // Copies go by node, and a sink has one copy.
 fn node_rises(nodes: &[u32], nout: &[bool], c: usize) -> bool
     requires { ⌜ c < length (now nodes) ⌝ }
-    ensures { λ r. ⌜ r ≡ (leb (length (now (nodes .entry))) (c + 1) || follows (flag (now (nout .entry))) (getD (now (nodes .entry)) c 0) (getD (now (nodes .entry)) (c + 1) 0)) ⌝ }
+    ensures { λ r.
+        let here = getD (now (nodes .entry)) c 0 in
+        let next = getD (now (nodes .entry)) (c + 1) 0 in
+        ⌜ r ≡ (leb (length (now (nodes .entry))) (c + 1) || follows (flag (now (nout .entry))) here next) ⌝ }
 {
     if nodes.len() <= c + 1 {
         return true;
@@ -165,7 +173,9 @@ fn copy_passes(
     c: usize,
 ) -> bool
     requires { ⌜ c < length (now nodes) ⌝ }
-    ensures { λ r. ⌜ r ≡ copyPasses n (now (nodes .entry)) (flag (now (nin .entry))) (flag (now (nout .entry))) (flag (now (cin .entry))) (flag (now (cout .entry))) c ⌝ }
+    ensures { λ r.
+        ⌜ r ≡ copyPasses n (now (nodes .entry)) (flag (now (nin .entry))) (flag (now (nout .entry)))
+        (flag (now (cin .entry))) (flag (now (cout .entry))) c ⌝ }
 {
     let v = number_at(nodes, c);
     let there = both(v < n, node_rises(nodes, nout, c));
@@ -182,7 +192,10 @@ fn copies_pass(
     cin: &[bool],
     cout: &[bool],
 ) -> bool
-    ensures { λ r. ⌜ r ≡ allOf (copyPasses n (now (nodes .entry)) (flag (now (nin .entry))) (flag (now (nout .entry))) (flag (now (cin .entry))) (flag (now (cout .entry)))) (upto (length (now (nodes .entry))) 0) ⌝ }
+    ensures { λ r.
+        let passes = copyPasses n (now (nodes .entry)) (flag (now (nin .entry))) (flag (now (nout .entry)))
+        (flag (now (cin .entry))) (flag (now (cout .entry))) in
+        ⌜ r ≡ allOf passes (upto (length (now (nodes .entry))) 0) ⌝ }
 {
     let mut c = 0;
     while c < nodes.len() {
@@ -201,12 +214,15 @@ fn copies_fit(
     ends: &[u32],
     d: usize,
     nodes: &[u32],
-    gs: &[u32],
-    ge: &[u32],
+    from: &[u32],
+    to: &[u32],
     m: usize,
 ) -> bool
     requires { ⌜ (n ≤ 4096) × (length (now nodes) ≤ 16384) ⌝ }
-    ensures { λ r. ⌜ r ≡ allOf (copyPasses n (now (nodes .entry)) (stands (now (ends .entry)) d) (stands (now (starts .entry)) d) (stands (now (ge .entry)) m) (stands (now (gs .entry)) m)) (upto (length (now (nodes .entry))) 0) ⌝ }
+    ensures { λ r.
+        let passes = copyPasses n (now (nodes .entry)) (stands (now (ends .entry)) d) (stands (now (starts .entry)) d)
+        (stands (now (to .entry)) m) (stands (now (from .entry)) m) in
+        ⌜ r ≡ allOf passes (upto (length (now (nodes .entry))) 0) ⌝ }
 {
     let mut nin = [false; 4096];
     let mut nout = [false; 4096];
@@ -214,8 +230,8 @@ fn copies_fit(
     let mut cout = [false; 16384];
     mark(ends, d, &mut nin);
     mark(starts, d, &mut nout);
-    mark(ge, m, &mut cin);
-    mark(gs, m, &mut cout);
+    mark(to, m, &mut cin);
+    mark(from, m, &mut cout);
     copies_pass(n, nodes, &nin, &nout, &cin, &cout)
 }
 
@@ -224,60 +240,69 @@ fn well_formed(
     starts: &[u32],
     ends: &[u32],
     nodes: &[u32],
-    gs: &[u32],
-    ge: &[u32],
-    gn: &[u32],
+    from: &[u32],
+    to: &[u32],
+    via: &[u32],
 ) -> bool
     requires { ⌜ n ≤ 4096 ⌝ }
-    ensures { λ r. ⌜ r ≡ wellFormed (design n (now (starts .entry)) (now (ends .entry)) []) (graphOf (graphSlices (now (nodes .entry)) (now (gs .entry)) (now (ge .entry)) (now (gn .entry)))) ⌝ }
+    ensures { λ r.
+        let D = design n (now (starts .entry)) (now (ends .entry)) [] in
+        let S = graphSlices (now (nodes .entry)) (now (from .entry)) (now (to .entry)) (now (via .entry)) in
+        ⌜ r ≡ wellFormed D (graphOf S) ⌝ }
 {
-    let m = shorter(gs.len(), shorter(ge.len(), gn.len()));
+    let m = least(from.len(), least(to.len(), via.len()));
     if timing::MAX_COPIES < nodes.len() {
         return false;
     }
     if timing::MAX_COPY_EDGES < m {
         return false;
     }
-    let d = shorter(starts.len(), ends.len());
-    let edges = edges_pass(starts, ends, nodes, gs, ge, gn, m);
-    let copies = copies_fit(n, starts, ends, d, nodes, gs, ge, m);
+    let d = least(starts.len(), ends.len());
+    let edges = edges_pass(starts, ends, nodes, from, to, via, m);
+    let copies = copies_fit(n, starts, ends, d, nodes, from, to, m);
     both(edges, copies)
 }
 
 // 10 and 32: the flags of nodes are a local array, which 10 makes large enough. Every call that
 // tests 32 tests 10 before, so that it learns nothing new by it.
-pub fn graph_test(
+fn graph_test(
     n: u32,
     starts: &[u32],
     ends: &[u32],
     nodes: &[u32],
-    gs: &[u32],
-    ge: &[u32],
-    gn: &[u32],
+    from: &[u32],
+    to: &[u32],
+    via: &[u32],
 ) -> Verdict
-    ensures { λ r. ⌜ r ≡ (nodeCount n then graphTest (design n (now (starts .entry)) (now (ends .entry)) []) (graphOf (graphSlices (now (nodes .entry)) (now (gs .entry)) (now (ge .entry)) (now (gn .entry))))) ⌝ }
+    ensures { λ r.
+        let D = design n (now (starts .entry)) (now (ends .entry)) [] in
+        let S = graphSlices (now (nodes .entry)) (now (from .entry)) (now (to .entry)) (now (via .entry)) in
+        ⌜ r ≡ (nodeCount n then graphTest D (graphOf S)) ⌝ }
 {
     if timing::MAX_NODES < n {
         return verdicts::unless(10, false);
     }
-    verdicts::unless(32, well_formed(n, starts, ends, nodes, gs, ge, gn))
+    verdicts::unless(32, well_formed(n, starts, ends, nodes, from, to, via))
 }
 
 // The same after other tests.
 pub fn and_graph_test(
-    v: Verdict,
+    before: Verdict,
     n: u32,
     starts: &[u32],
     ends: &[u32],
     nodes: &[u32],
-    gs: &[u32],
-    ge: &[u32],
-    gn: &[u32],
+    from: &[u32],
+    to: &[u32],
+    via: &[u32],
 ) -> Verdict
-    ensures { λ r. ⌜ r ≡ (v then nodeCount n then graphTest (design n (now (starts .entry)) (now (ends .entry)) []) (graphOf (graphSlices (now (nodes .entry)) (now (gs .entry)) (now (ge .entry)) (now (gn .entry))))) ⌝ }
+    ensures { λ r.
+        let D = design n (now (starts .entry)) (now (ends .entry)) [] in
+        let S = graphSlices (now (nodes .entry)) (now (from .entry)) (now (to .entry)) (now (via .entry)) in
+        ⌜ r ≡ (before then nodeCount n then graphTest D (graphOf S)) ⌝ }
 {
-    let Verdict::Passed = v else {
-        return v;
+    let Verdict::Passed = before else {
+        return before;
     };
-    graph_test(n, starts, ends, nodes, gs, ge, gn)
+    graph_test(n, starts, ends, nodes, from, to, via)
 }

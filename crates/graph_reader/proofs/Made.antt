@@ -125,11 +125,11 @@ map-map {A} {B} {C} f g (x ∷ l) = ap (λ (k : List C). f (g x) ∷ k) (map-map
 
 -- The answer, and the room afterwards.
 abbrev pub Answers : Outcome Graph → GraphMade → List ℕ → List ℕ → List ℕ → List ℕ → List ℕ → List ℕ → List ℕ → List ℕ → Type 0
-Answers o g nodes nodes′ gs gs′ ge ge′ gn gn′ =
-    (g ≡ graphAnswer o) × ((nodes′ ≡ nodesAfter o nodes) × ((gs′ ≡ startsAfter o gs) × ((ge′ ≡ endsAfter o ge) × (gn′ ≡ namesAfter o gn))))
+Answers o g nodes nodes′ from from′ to to′ via via′ =
+    (g ≡ graphAnswer o) × (nodes′ ≡ nodesAfter o nodes) × (from′ ≡ startsAfter o from) × (to′ ≡ endsAfter o to) × (via′ ≡ namesAfter o via)
 
-pub answers-refused : (o : Outcome Graph) (r : Refusal) (nodes gs ge gn : List ℕ) → o ≡ refused r → Answers o (NoGraph r) nodes nodes gs gs ge ge gn gn
-answers-refused o r nodes gs ge gn e = rw e (refl, (refl, (refl, (refl, refl))))
+pub answers-refused : (o : Outcome Graph) (r : Refusal) (nodes from to via : List ℕ) → o ≡ refused r → Answers o (NoGraph r) nodes nodes from from to to via via
+answers-refused o r nodes from to via e = rw e (refl, refl, refl, refl, refl)
 
 column : (s : List ℕ) (c m : ℕ) (end : Edge → ℕ) (part : Row → ℕ) (out out′ : List ℕ) → ((r : Row) → end (edgeOfRow r) ≡ part r) → m ≤ length out
     → out′ ≡ sets out 0 (map part (rowsFrom s m (rowsPlace s c))) → out′ ≡ placed (map end (filledGraph s c m .edges)) out
@@ -143,46 +143,40 @@ column s c m end part out out′ p h e =
     map-same [] = refl
     map-same (r ∷ l) = rw (p r) (ap (λ (k : List ℕ). part r ∷ k) (map-same l))
 
-pub answers-made : (s : List ℕ) (o : Outcome Graph) (c m : ℕ) (nodes nodes′ gs gs′ ge ge′ gn gn′ : List ℕ) → o ≡ made (filledGraph s c m)
-    → c ≤ length nodes → m ≤ length gs → m ≤ length ge → m ≤ length gn
+pub answers-made : (s : List ℕ) (o : Outcome Graph) (c m : ℕ) (nodes nodes′ from from′ to to′ via via′ : List ℕ) → o ≡ made (filledGraph s c m)
+    → c ≤ length nodes → m ≤ length from → m ≤ length to → m ≤ length via
     → nodes′ ≡ sets nodes 0 (numbersFrom s c (nextAt s 0))
-    → gs′ ≡ sets gs 0 (map (λ q. q .first) (rowsFrom s m (rowsPlace s c)))
-    → ge′ ≡ sets ge 0 (map (λ q. q .second) (rowsFrom s m (rowsPlace s c)))
-    → gn′ ≡ sets gn 0 (map (λ q. q .third) (rowsFrom s m (rowsPlace s c)))
-    → Answers o (Counts c m) nodes nodes′ gs gs′ ge ge′ gn gn′
-answers-made s o c m nodes nodes′ gs gs′ ge ge′ gn gn′ e h i j k p q r t =
+    → from′ ≡ sets from 0 (map (λ q. q .first) (rowsFrom s m (rowsPlace s c)))
+    → to′ ≡ sets to 0 (map (λ q. q .second) (rowsFrom s m (rowsPlace s c)))
+    → via′ ≡ sets via 0 (map (λ q. q .third) (rowsFrom s m (rowsPlace s c)))
+    → Answers o (Counts c m) nodes nodes′ from from′ to to′ via via′
+answers-made s o c m nodes nodes′ from from′ to to′ via via′ e h i j k p q r t =
     let n = things-length (valueAt s) (nextAt s) c (nextAt s 0) in
     let l = length-map (rowsFrom s m (rowsPlace s c)) edgeOfRow ∙ things-length (rowAt s) (rowEnd s) m (rowsPlace s c) in
     rw e (
       rw (n, l),
-      (
-        p ∙ sets-placed (numbersFrom s c (nextAt s 0)) nodes (omega arith),
-        (
-          column s c m (λ x. x .start) (λ x. x .first) gs gs′ (λ x. refl) i q,
-          (
-            column s c m (λ x. x .end) (λ x. x .second) ge ge′ (λ x. refl) j r,
-            column s c m (λ x. x .name) (λ x. x .third) gn gn′ (λ x. refl) k t,
-          ),
-        ),
-      ),
+      p ∙ sets-placed (numbersFrom s c (nextAt s 0)) nodes (omega arith),
+      column s c m (λ x. x .start) (λ x. x .first) from from′ (λ x. refl) i q,
+      column s c m (λ x. x .end) (λ x. x .second) to to′ (λ x. refl) j r,
+      column s c m (λ x. x .name) (λ x. x .third) via via′ (λ x. refl) k t,
     )
 
 -- a graph read into a room whose three slices of edges are as long as each other, and into one where they are not
-module _ (s nodes gs ge gn : List ℕ) where
-  pub sizes-passed : sameSizes (length gs) (length ge) (length gn) ≡ Passed → graphRead s (roomOf (graphSlices nodes gs ge gn)) ≡ parsed (readGraph s (length nodes) (length gs))
+module _ (s nodes from to via : List ℕ) where
+  pub sizes-passed : sameSizes (length from) (length to) (length via) ≡ Passed → graphRead s (roomOf (graphSlices nodes from to via)) ≡ parsed (readGraph s (length nodes) (length from))
   unfolding graphRead
   sizes-passed e = rw e
 
-  pub sizes-refused : (r : Refusal) → sameSizes (length gs) (length ge) (length gn) ≡ NotPassed r → graphRead s (roomOf (graphSlices nodes gs ge gn)) ≡ refused r
+  pub sizes-refused : (r : Refusal) → sameSizes (length from) (length to) (length via) ≡ NotPassed r → graphRead s (roomOf (graphSlices nodes from to via)) ≡ refused r
   unfolding graphRead
   sizes-refused r e = rw e
 
-  pub sizes-same : sameSizes (length gs) (length ge) (length gn) ≡ Passed → (length gs ≡ length ge) × (length gs ≡ length gn)
+  pub sizes-same : sameSizes (length from) (length to) (length via) ≡ Passed → (length from ≡ length to) × (length from ≡ length via)
   sizes-same e =
-      let a = eqb (length gs) (length ge) in
-      let b = eqb (length gs) (length gn) in
+      let a = eqb (length from) (length to) in
+      let b = eqb (length from) (length via) in
       let t = holds (a && b) (unless-passed 30 (a && b) e) in
-      (eqb→eq (length gs) (length ge) (and-left a b t), eqb→eq (length gs) (length gn) (and-right a b t))
+      (eqb→eq (length from) (length to) (and-left a b t), eqb→eq (length from) (length via) (and-right a b t))
 
 pub read-stopped : (p : Outcome Graph) (r : Refusal) → graphAnswer p ≡ NoGraph r → p ≡ refused r
 read-stopped (made G) r e = absurd (let z : _≡_ {A = ℕ} 0 1 = cc in omega arith)

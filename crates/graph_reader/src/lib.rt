@@ -1,6 +1,7 @@
 // Reading a packed true graph.
 ghost use mathlib.Core.Path.{_≡_};
-ghost use Rattle.timing.specs.Calls.{graphSlices, roomOf, graphRead, graphAnswer, nodesAfter, startsAfter, endsAfter, namesAfter};
+ghost use Rattle.timing.specs.Calls.{graphSlices, roomOf, graphRead, graphAnswer};
+ghost use Rattle.timing.specs.Calls.{nodesAfter, startsAfter, endsAfter, namesAfter};
 use timing::GraphMade;
 use timing::Verdict;
 
@@ -9,28 +10,32 @@ mod reader;
 // Reads a packed true graph into the room, or refuses and leaves the room as it is.
 pub fn read_graph(
     s: &[u8],
-    nodes: &mut [u32],
-    gs: &mut [u32],
-    ge: &mut [u32],
-    gn: &mut [u32],
+    room_nodes: &mut [u32],
+    room_from: &mut [u32],
+    room_to: &mut [u32],
+    room_via: &mut [u32],
 ) -> GraphMade
-    ensures { λ r. ⌜ r ≡ graphAnswer (graphRead (now (s .entry)) (roomOf (graphSlices (now (nodes .entry)) (now (gs .entry)) (now (ge .entry)) (now (gn .entry))))) ⌝ }
-    ensures { λ r. ⌜ now (nodes .exit) ≡ nodesAfter (graphRead (now (s .entry)) (roomOf (graphSlices (now (nodes .entry)) (now (gs .entry)) (now (ge .entry)) (now (gn .entry))))) (now (nodes .entry)) ⌝ }
-    ensures { λ r. ⌜ now (gs .exit) ≡ startsAfter (graphRead (now (s .entry)) (roomOf (graphSlices (now (nodes .entry)) (now (gs .entry)) (now (ge .entry)) (now (gn .entry))))) (now (gs .entry)) ⌝ }
-    ensures { λ r. ⌜ now (ge .exit) ≡ endsAfter (graphRead (now (s .entry)) (roomOf (graphSlices (now (nodes .entry)) (now (gs .entry)) (now (ge .entry)) (now (gn .entry))))) (now (ge .entry)) ⌝ }
-    ensures { λ r. ⌜ now (gn .exit) ≡ namesAfter (graphRead (now (s .entry)) (roomOf (graphSlices (now (nodes .entry)) (now (gs .entry)) (now (ge .entry)) (now (gn .entry))))) (now (gn .entry)) ⌝ }
+    ensures { λ r.
+        let S = graphSlices (now («room_nodes» .entry)) (now («room_from» .entry))
+        (now («room_to» .entry)) (now («room_via» .entry)) in
+        let o = graphRead (now (s .entry)) (roomOf S) in
+        ⌜ (r ≡ graphAnswer o)
+        × (now («room_nodes» .exit) ≡ nodesAfter o (now («room_nodes» .entry)))
+        × (now («room_from» .exit) ≡ startsAfter o (now («room_from» .entry)))
+        × (now («room_to» .exit) ≡ endsAfter o (now («room_to» .entry)))
+        × (now («room_via» .exit) ≡ namesAfter o (now («room_via» .entry))) ⌝ }
 {
-    let v = verdicts::same_sizes(gs.len(), ge.len(), gn.len());
+    let v = verdicts::same_sizes(room_from.len(), room_to.len(), room_via.len());
     match v {
         Verdict::Refused(r) => {
             return GraphMade::Refused(r);
         }
         Verdict::Passed => {}
     }
-    let g = reader::look(s, nodes.len(), gs.len());
+    let g = reader::look(s, room_nodes.len(), room_from.len());
     match g {
         GraphMade::Counts { copies, edges } => {
-            reader::fill(s, copies, edges, nodes, gs, ge, gn);
+            reader::fill(s, copies, edges, room_nodes, room_from, room_to, room_via);
             GraphMade::Counts { copies, edges }
         }
         GraphMade::Refused(r) => GraphMade::Refused(r),

@@ -10,7 +10,9 @@ ghost use Rattle.timing.specs.Refusals.{unless as passedIf};
 ghost use Rattle.timing.specs.GraphBytes.{readGraph};
 ghost use Rattle.timing.specs.Calls.{parsed, graphAnswer};
 ghost use Rattle.timing.specs.Looks.{numberOf, nextAt, rowAt, rowEnd};
-ghost use Rattle.graph_reader.specs.Reading.{countIn, madeOf, edgesIn, numbersFrom, numbersEnd, rowsFrom, rowsPlace};
+ghost use Rattle.graph_reader.specs.Reading.{countIn, madeOf, edgesIn};
+ghost use Rattle.graph_reader.specs.Reading.{numbersFrom, numbersEnd, rowsFrom, rowsPlace};
+use entries::wide;
 use packed_lists::look_numbers;
 use packed_lists::look_rows;
 use packed_lists::take_number;
@@ -18,12 +20,6 @@ use timing::GraphMade;
 use timing::Looked;
 use timing::NumberRead;
 use timing::Verdict;
-
-fn wide(x: u32) -> usize
-    ensures { λ r. ⌜ r ≡ x ⌝ }
-{
-    x as usize
-}
 
 // 32, and then the number of the room.
 fn count_test(n: u32, limit: usize, full: u32, room: usize) -> Verdict
@@ -102,8 +98,9 @@ pub(crate) fn next_at(s: &[u8], at: usize) -> usize
 
 pub(crate) fn fill_numbers(s: &[u8], at: usize, k: usize, out: &mut [u32]) -> usize
     requires { ⌜ k ≤ length (now out) ⌝ }
-    ensures { λ r. ⌜ r ≡ numbersEnd (now (s .entry)) k at ⌝ }
-    ensures { λ r. ⌜ now (out .exit) ≡ sets (now (out .entry)) 0 (numbersFrom (now (s .entry)) k at) ⌝ }
+    ensures { λ r.
+        ⌜ (r ≡ numbersEnd (now (s .entry)) k at)
+        × (now (out .exit) ≡ sets (now (out .entry)) 0 (numbersFrom (now (s .entry)) k at)) ⌝ }
 {
     let mut here = at;
     let mut i = 0;
@@ -117,34 +114,52 @@ pub(crate) fn fill_numbers(s: &[u8], at: usize, k: usize, out: &mut [u32]) -> us
 }
 
 // Row i of three slices.
-fn fill_row(s: &[u8], at: usize, i: usize, gs: &mut [u32], ge: &mut [u32], gn: &mut [u32]) -> usize
-    requires { ⌜ (i < length (now gs)) × (i < length (now ge)) × (i < length (now gn)) ⌝ }
-    ensures { λ r. ⌜ r ≡ rowEnd (now (s .entry)) at ⌝ }
-    ensures { λ r. ⌜ now (gs .exit) ≡ set (now (gs .entry)) i (rowAt (now (s .entry)) at .first) ⌝ }
-    ensures { λ r. ⌜ now (ge .exit) ≡ set (now (ge .entry)) i (rowAt (now (s .entry)) at .second) ⌝ }
-    ensures { λ r. ⌜ now (gn .exit) ≡ set (now (gn .entry)) i (rowAt (now (s .entry)) at .third) ⌝ }
+fn fill_row(
+    s: &[u8],
+    at: usize,
+    i: usize,
+    room_from: &mut [u32],
+    room_to: &mut [u32],
+    room_via: &mut [u32],
+) -> usize
+    requires { ⌜ (i < length (now «room_from»)) × (i < length (now «room_to»)) × (i < length (now «room_via»)) ⌝ }
+    ensures { λ r.
+        let row = rowAt (now (s .entry)) at in
+        ⌜ (r ≡ rowEnd (now (s .entry)) at)
+        × (now («room_from» .exit) ≡ set (now («room_from» .entry)) i (row .first))
+        × (now («room_to» .exit) ≡ set (now («room_to» .entry)) i (row .second))
+        × (now («room_via» .exit) ≡ set (now («room_via» .entry)) i (row .third)) ⌝ }
 {
     let a = take_number(s, at);
     let second = a.next;
     let b = take_number(s, second);
     let third = b.next;
     let c = take_number(s, third);
-    gs[i] = a.value;
-    ge[i] = b.value;
-    gn[i] = c.value;
+    room_from[i] = a.value;
+    room_to[i] = b.value;
+    room_via[i] = c.value;
     c.next
 }
 
-fn fill_rows(s: &[u8], at: usize, m: usize, gs: &mut [u32], ge: &mut [u32], gn: &mut [u32])
-    requires { ⌜ (m ≤ length (now gs)) × (m ≤ length (now ge)) × (m ≤ length (now gn)) ⌝ }
-    ensures { λ r. ⌜ now (gs .exit) ≡ sets (now (gs .entry)) 0 (map (λ q. q .first) (rowsFrom (now (s .entry)) m at)) ⌝ }
-    ensures { λ r. ⌜ now (ge .exit) ≡ sets (now (ge .entry)) 0 (map (λ q. q .second) (rowsFrom (now (s .entry)) m at)) ⌝ }
-    ensures { λ r. ⌜ now (gn .exit) ≡ sets (now (gn .entry)) 0 (map (λ q. q .third) (rowsFrom (now (s .entry)) m at)) ⌝ }
+fn fill_rows(
+    s: &[u8],
+    at: usize,
+    m: usize,
+    room_from: &mut [u32],
+    room_to: &mut [u32],
+    room_via: &mut [u32],
+)
+    requires { ⌜ (m ≤ length (now «room_from»)) × (m ≤ length (now «room_to»)) × (m ≤ length (now «room_via»)) ⌝ }
+    ensures { λ r.
+        let rows = rowsFrom (now (s .entry)) m at in
+        ⌜ (now («room_from» .exit) ≡ sets (now («room_from» .entry)) 0 (map (λ q. q .first) rows))
+        × (now («room_to» .exit) ≡ sets (now («room_to» .entry)) 0 (map (λ q. q .second) rows))
+        × (now («room_via» .exit) ≡ sets (now («room_via» .entry)) 0 (map (λ q. q .third) rows)) ⌝ }
 {
     let mut here = at;
     let mut i = 0;
     while i < m {
-        here = fill_row(s, here, i, gs, ge, gn);
+        here = fill_row(s, here, i, room_from, room_to, room_via);
         i += 1;
     }
 }
@@ -154,19 +169,25 @@ pub(crate) fn fill(
     s: &[u8],
     n: usize,
     m: usize,
-    nodes: &mut [u32],
-    gs: &mut [u32],
-    ge: &mut [u32],
-    gn: &mut [u32],
+    room_nodes: &mut [u32],
+    room_from: &mut [u32],
+    room_to: &mut [u32],
+    room_via: &mut [u32],
 )
-    requires { ⌜ (n ≤ length (now nodes)) × (m ≤ length (now gs)) × (m ≤ length (now ge)) × (m ≤ length (now gn)) ⌝ }
-    ensures { λ r. ⌜ now (nodes .exit) ≡ sets (now (nodes .entry)) 0 (numbersFrom (now (s .entry)) n (nextAt (now (s .entry)) 0)) ⌝ }
-    ensures { λ r. ⌜ now (gs .exit) ≡ sets (now (gs .entry)) 0 (map (λ q. q .first) (rowsFrom (now (s .entry)) m (rowsPlace (now (s .entry)) n))) ⌝ }
-    ensures { λ r. ⌜ now (ge .exit) ≡ sets (now (ge .entry)) 0 (map (λ q. q .second) (rowsFrom (now (s .entry)) m (rowsPlace (now (s .entry)) n))) ⌝ }
-    ensures { λ r. ⌜ now (gn .exit) ≡ sets (now (gn .entry)) 0 (map (λ q. q .third) (rowsFrom (now (s .entry)) m (rowsPlace (now (s .entry)) n))) ⌝ }
+    requires { ⌜ (n ≤ length (now «room_nodes»))
+        × (m ≤ length (now «room_from»))
+        × (m ≤ length (now «room_to»))
+        × (m ≤ length (now «room_via»)) ⌝ }
+    ensures { λ r.
+        let numbers = numbersFrom (now (s .entry)) n (nextAt (now (s .entry)) 0) in
+        let rows = rowsFrom (now (s .entry)) m (rowsPlace (now (s .entry)) n) in
+        ⌜ (now («room_nodes» .exit) ≡ sets (now («room_nodes» .entry)) 0 numbers)
+        × (now («room_from» .exit) ≡ sets (now («room_from» .entry)) 0 (map (λ q. q .first) rows))
+        × (now («room_to» .exit) ≡ sets (now («room_to» .entry)) 0 (map (λ q. q .second) rows))
+        × (now («room_via» .exit) ≡ sets (now («room_via» .entry)) 0 (map (λ q. q .third) rows)) ⌝ }
 {
     let copies = next_at(s, 0);
-    let count = fill_numbers(s, copies, n, nodes);
+    let count = fill_numbers(s, copies, n, room_nodes);
     let rows = next_at(s, count);
-    fill_rows(s, rows, m, gs, ge, gn);
+    fill_rows(s, rows, m, room_from, room_to, room_via);
 }

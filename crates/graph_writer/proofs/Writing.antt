@@ -129,13 +129,13 @@ all-fit room xs h =
     (r .0 ∙ sym (answer-fits room 0 (flatMap packed xs) f), r .1 ∙ sym (written-sets room 0 (flatMap packed xs) f))
 
 -- The numbers of a graph whose slices of edges are as long as each other.
-module _ (nodes gs ge gn : List ℕ) (e : length ge ≡ length gs) (f : length gn ≡ length gs) where
-  pub edge-count : length (edgesOf gs ge gn) ≡ length gs
-  edge-count = omega (arith, length-edges gs ge gn)
+module _ (nodes from to via : List ℕ) (e : length to ≡ length from) (f : length via ≡ length from) where
+  pub edge-count : length (edgesOf from to via) ≡ length from
+  edge-count = omega (arith, length-edges from to via)
 
-  pub graph-numbers : graphNumbers (graphOf (graphSlices nodes gs ge gn)) ≡ (length nodes ∷ []) ++ nodes ++ (length gs ∷ []) ++ rowsOf gs ge gn
+  pub graph-numbers : graphNumbers (graphOf (graphSlices nodes from to via)) ≡ (length nodes ∷ []) ++ nodes ++ (length from ∷ []) ++ rowsOf from to via
   unfolding graphNumbers
-  graph-numbers = rw edge-count (ap (λ (l : List ℕ). length nodes ∷ l) (sym (append-assoc nodes (length gs ∷ []) (rowsOf gs ge gn))))
+  graph-numbers = rw edge-count (ap (λ (l : List ℕ). length nodes ∷ l) (sym (append-assoc nodes (length from ∷ []) (rowsOf from to via))))
 
 size-rows : (s t n : List ℕ) → length t ≡ length s → length n ≡ length s
     → length (flatMap packed (rowsOf s t n)) ≡ length (flatMap packed s) + length (flatMap packed t) + length (flatMap packed n)
@@ -157,20 +157,20 @@ size-rows (x ∷ s) (y ∷ t) (z ∷ n) e f =
       size-rows s t n (omega arith) (omega arith),
     )
 
-pub size-graph : (nodes gs ge gn : List ℕ) → length ge ≡ length gs → length gn ≡ length gs
-    → length (packed (length nodes)) + length (flatMap packed nodes) + (length (packed (length gs)) + length (flatMap packed gs)) + length (flatMap packed ge) + length (flatMap packed gn)
-    ≡ length (packedGraph (graphOf (graphSlices nodes gs ge gn)))
+pub size-graph : (nodes from to via : List ℕ) → length to ≡ length from → length via ≡ length from
+    → length (packed (length nodes)) + length (flatMap packed nodes) + (length (packed (length from)) + length (flatMap packed from)) + length (flatMap packed to) + length (flatMap packed via)
+    ≡ length (packedGraph (graphOf (graphSlices nodes from to via)))
 unfolding packedGraph
-size-graph nodes gs ge gn e f =
-    rw (graph-numbers nodes gs ge gn e f)
+size-graph nodes from to via e f =
+    rw (graph-numbers nodes from to via e f)
     (omega (
       arith,
-      size-append ((length nodes ∷ []) ++ nodes ++ (length gs ∷ [])) (rowsOf gs ge gn),
-      size-append ((length nodes ∷ []) ++ nodes) (length gs ∷ []),
+      size-append ((length nodes ∷ []) ++ nodes ++ (length from ∷ [])) (rowsOf from to via),
+      size-append ((length nodes ∷ []) ++ nodes) (length from ∷ []),
       size-cons (length nodes) nodes,
-      size-cons (length gs) [],
+      size-cons (length from) [],
       size-none,
-      size-rows gs ge gn e f,
+      size-rows from to via e f,
     ))
 
 -- A test that refused, and one that passed.
@@ -181,43 +181,43 @@ pub then-next : (v w x y : Verdict) → x ≡ v → x ≡ Passed → y ≡ w →
 then-next v w x y p q e = rw (sym p, q) e
 
 -- The writer's tests by the four lengths, and what they say where they pass.
-pub tests-are : (nodes gs ge gn : List ℕ)
-    → graphWriteTests (graphSlices nodes gs ge gn)
-    ≡ (sameSizes (length gs) (length ge) (length gn) then passedIf 32 (leb (length nodes) 16384 && leb (length gs) 65536))
+pub tests-are : (nodes from to via : List ℕ)
+    → graphWriteTests (graphSlices nodes from to via)
+    ≡ (sameSizes (length from) (length to) (length via) then passedIf 32 (leb (length nodes) 16384 && leb (length from) 65536))
 unfolding graphWriteTests
-tests-are nodes gs ge gn = go (eqb (length gs) (length ge) && eqb (length gs) (length gn)) refl
+tests-are nodes from to via = go (eqb (length from) (length to) && eqb (length from) (length via)) refl
   where
-    go : (b : Bool) → (eqb (length gs) (length ge) && eqb (length gs) (length gn)) ≡ b
-        → (passedIf 30 b then passedIf 32 (leb (length nodes) 16384 && leb (length (edgesOf gs ge gn)) 65536))
-        ≡ (passedIf 30 b then passedIf 32 (leb (length nodes) 16384 && leb (length gs) 65536))
+    go : (b : Bool) → (eqb (length from) (length to) && eqb (length from) (length via)) ≡ b
+        → (passedIf 30 b then passedIf 32 (leb (length nodes) 16384 && leb (length (edgesOf from to via)) 65536))
+        ≡ (passedIf 30 b then passedIf 32 (leb (length nodes) 16384 && leb (length from) 65536))
     go true q =
-        let t = holds (eqb (length gs) (length ge) && eqb (length gs) (length gn)) q in
-        let s₁ = eqb→eq (length gs) (length ge) (and-left (eqb (length gs) (length ge)) (eqb (length gs) (length gn)) t) in
-        let s₂ = eqb→eq (length gs) (length gn) (and-right (eqb (length gs) (length ge)) (eqb (length gs) (length gn)) t) in
-        rw (edge-count nodes gs ge gn (sym s₁) (sym s₂))
+        let t = holds (eqb (length from) (length to) && eqb (length from) (length via)) q in
+        let s₁ = eqb→eq (length from) (length to) (and-left (eqb (length from) (length to)) (eqb (length from) (length via)) t) in
+        let s₂ = eqb→eq (length from) (length via) (and-right (eqb (length from) (length to)) (eqb (length from) (length via)) t) in
+        rw (edge-count nodes from to via (sym s₁) (sym s₂))
     go false q = refl
 
-pub record Fits (nodes gs ge gn : List ℕ) : Type 0 where
+pub record Fits (nodes from to via : List ℕ) : Type 0 where
   pub copies : length nodes ≤ 16384
-  pub edges : length gs ≤ 65536
-  pub ends : length ge ≡ length gs
-  pub names : length gn ≡ length gs
+  pub edges : length from ≤ 65536
+  pub ends : length to ≡ length from
+  pub names : length via ≡ length from
 
-pub tests-fit : (nodes gs ge gn : List ℕ)
-    → (sameSizes (length gs) (length ge) (length gn) then passedIf 32 (leb (length nodes) 16384 && leb (length gs) 65536)) ≡ Passed → Fits nodes gs ge gn
-tests-fit nodes gs ge gn q =
-    let a = eqb (length gs) (length ge) in
-    let b = eqb (length gs) (length gn) in
+pub tests-fit : (nodes from to via : List ℕ)
+    → (sameSizes (length from) (length to) (length via) then passedIf 32 (leb (length nodes) 16384 && leb (length from) 65536)) ≡ Passed → Fits nodes from to via
+tests-fit nodes from to via q =
+    let a = eqb (length from) (length to) in
+    let b = eqb (length from) (length via) in
     let c = leb (length nodes) 16384 in
-    let d = leb (length gs) 65536 in
-    let r = then-passed (sameSizes (length gs) (length ge) (length gn)) (passedIf 32 (c && d)) q in
+    let d = leb (length from) 65536 in
+    let r = then-passed (sameSizes (length from) (length to) (length via)) (passedIf 32 (c && d)) q in
     let s = holds (a && b) (unless-passed 30 (a && b) (r .0)) in
     let t = holds (c && d) (unless-passed 32 (c && d) (r .1)) in
     record {
       copies = leb→le (length nodes) 16384 (and-left c d t);
-      edges = leb→le (length gs) 65536 (and-right c d t);
-      ends = sym (eqb→eq (length gs) (length ge) (and-left a b s));
-      names = sym (eqb→eq (length gs) (length gn) (and-right a b s));
+      edges = leb→le (length from) 65536 (and-right c d t);
+      ends = sym (eqb→eq (length from) (length to) (and-left a b s));
+      names = sym (eqb→eq (length from) (length via) (and-right a b s));
     }
 
 -- What the writer answers and leaves, where the graph is written.

@@ -30,4 +30,4 @@ pub record Wrote (w : Written) (room xs : List ℕ) (w′ : Written) (room′ : 
 
 -- start copy, end copy and design edge of each edge
 abbrev pub rowsOf : List ℕ → List ℕ → List ℕ → List ℕ
-rowsOf gs ge gn = flatMap (λ e. e .start ∷ e .end ∷ e .name ∷ []) (edgesOf gs ge gn)
+rowsOf from to via = flatMap (λ e. e .start ∷ e .end ∷ e .name ∷ []) (edgesOf from to via)

@@ -8,20 +8,23 @@ use timing::Written;
 mod writer;
 
 // Writes a packed true graph at the front of the room, or refuses and leaves the room as it is.
-pub fn write_graph(nodes: &[u32], gs: &[u32], ge: &[u32], gn: &[u32], room: &mut [u8]) -> Written
-    ensures { λ r. ⌜ r ≡ writing (graphWriteTests (graphSlices (now (nodes .entry)) (now (gs .entry)) (now (ge .entry)) (now (gn .entry)))) (now (room .entry)) (packedGraph (graphOf (graphSlices (now (nodes .entry)) (now (gs .entry)) (now (ge .entry)) (now (gn .entry))))) ⌝ }
-    ensures { λ r. ⌜ now (room .exit) ≡ roomAfterWriting (graphWriteTests (graphSlices (now (nodes .entry)) (now (gs .entry)) (now (ge .entry)) (now (gn .entry)))) (now (room .entry)) (packedGraph (graphOf (graphSlices (now (nodes .entry)) (now (gs .entry)) (now (ge .entry)) (now (gn .entry))))) ⌝ }
+pub fn write_graph(nodes: &[u32], from: &[u32], to: &[u32], via: &[u32], room: &mut [u8]) -> Written
+    ensures { λ r.
+        let S = graphSlices (now (nodes .entry)) (now (from .entry)) (now (to .entry)) (now (via .entry)) in
+        let bytes = packedGraph (graphOf S) in
+        ⌜ (r ≡ writing (graphWriteTests S) (now (room .entry)) bytes)
+        × (now (room .exit) ≡ roomAfterWriting (graphWriteTests S) (now (room .entry)) bytes) ⌝ }
 {
-    let v = writer::write_tests(nodes.len(), gs.len(), ge.len(), gn.len());
+    let v = writer::write_tests(nodes.len(), from.len(), to.len(), via.len());
     match v {
         Verdict::Refused(r) => {
             return Written::Refused(r);
         }
         Verdict::Passed => {}
     }
-    let size = writer::graph_size(nodes, gs, ge, gn);
+    let size = writer::graph_size(nodes, from, to, via);
     if room.len() < size {
         return Written::Refused(verdicts::refuse(35, 0));
     }
-    writer::write_all(nodes, gs, ge, gn, room)
+    writer::write_all(nodes, from, to, via, room)
 }

@@ -35,13 +35,18 @@ pub(crate) fn write_tests(copies: usize, a: usize, b: usize, c: usize) -> Verdic
 }
 
 // How many bytes the graph takes: each number is counted once, in any order.
-pub(crate) fn graph_size(nodes: &[u32], gs: &[u32], ge: &[u32], gn: &[u32]) -> usize
-    requires { ⌜ (length (now nodes) ≤ 16384) × (length (now gs) ≤ 65536) × (length (now ge) ≡ length (now gs)) × (length (now gn) ≡ length (now gs)) ⌝ }
-    ensures { λ r. ⌜ r ≡ length (packedGraph (graphOf (graphSlices (now (nodes .entry)) (now (gs .entry)) (now (ge .entry)) (now (gn .entry))))) ⌝ }
+pub(crate) fn graph_size(nodes: &[u32], from: &[u32], to: &[u32], via: &[u32]) -> usize
+    requires { ⌜ (length (now nodes) ≤ 16384)
+        × (length (now from) ≤ 65536)
+        × (length (now to) ≡ length (now from))
+        × (length (now via) ≡ length (now from)) ⌝ }
+    ensures { λ r.
+        let S = graphSlices (now (nodes .entry)) (now (from .entry)) (now (to .entry)) (now (via .entry)) in
+        ⌜ r ≡ length (packedGraph (graphOf S)) ⌝ }
 {
     let copies = packed::number_size(nodes.len() as u32) + packed_lists::numbers_size(nodes);
-    let starts = packed::number_size(gs.len() as u32) + packed_lists::numbers_size(gs);
-    copies + starts + packed_lists::numbers_size(ge) + packed_lists::numbers_size(gn)
+    let starts = packed::number_size(from.len() as u32) + packed_lists::numbers_size(from);
+    copies + starts + packed_lists::numbers_size(to) + packed_lists::numbers_size(via)
 }
 
 // One number more behind what was written.
@@ -75,14 +80,16 @@ fn write_numbers(w: Written, s: &[u32], room: &mut [u8]) -> Written
 }
 
 // The start copy, the end copy and the design edge of each edge.
-fn write_edges(w: Written, gs: &[u32], ge: &[u32], gn: &[u32], room: &mut [u8]) -> Written
-    requires { ⌜ (length (now ge) ≡ length (now gs)) × (length (now gn) ≡ length (now gs)) ⌝ }
-    ensures { λ r. ⌜ Wrote w (now (room .entry)) (rowsOf (now (gs .entry)) (now (ge .entry)) (now (gn .entry))) r (now (room .exit)) ⌝ }
+fn write_edges(w: Written, from: &[u32], to: &[u32], via: &[u32], room: &mut [u8]) -> Written
+    requires { ⌜ (length (now to) ≡ length (now from)) × (length (now via) ≡ length (now from)) ⌝ }
+    ensures { λ r.
+        let numbers = rowsOf (now (from .entry)) (now (to .entry)) (now (via .entry)) in
+        ⌜ Wrote w (now (room .entry)) numbers r (now (room .exit)) ⌝ }
 {
     let mut w = w;
     let mut k = 0;
-    while k < gs.len() {
-        w = write_row(w, gs[k], ge[k], gn[k], room);
+    while k < from.len() {
+        w = write_row(w, from[k], to[k], via[k], room);
         k += 1;
     }
     w
@@ -91,16 +98,21 @@ fn write_edges(w: Written, gs: &[u32], ge: &[u32], gn: &[u32], room: &mut [u8]) 
 // Writes the graph, where nothing has refused it.
 pub(crate) fn write_all(
     nodes: &[u32],
-    gs: &[u32],
-    ge: &[u32],
-    gn: &[u32],
+    from: &[u32],
+    to: &[u32],
+    via: &[u32],
     room: &mut [u8],
 ) -> Written
-    requires { ⌜ (length (now nodes) ≤ 16384) × (length (now gs) ≤ 65536) × (length (now ge) ≡ length (now gs)) × (length (now gn) ≡ length (now gs)) ⌝ }
-    ensures { λ r. ⌜ Wrote (End 0) (now (room .entry)) (graphNumbers (graphOf (graphSlices (now (nodes .entry)) (now (gs .entry)) (now (ge .entry)) (now (gn .entry))))) r (now (room .exit)) ⌝ }
+    requires { ⌜ (length (now nodes) ≤ 16384)
+        × (length (now from) ≤ 65536)
+        × (length (now to) ≡ length (now from))
+        × (length (now via) ≡ length (now from)) ⌝ }
+    ensures { λ r.
+        let S = graphSlices (now (nodes .entry)) (now (from .entry)) (now (to .entry)) (now (via .entry)) in
+        ⌜ Wrote (End 0) (now (room .entry)) (graphNumbers (graphOf S)) r (now (room .exit)) ⌝ }
 {
     let w = and_write(Written::End(0), nodes.len() as u32, room);
     let w = write_numbers(w, nodes, room);
-    let w = and_write(w, gs.len() as u32, room);
-    write_edges(w, gs, ge, gn, room)
+    let w = and_write(w, from.len() as u32, room);
+    write_edges(w, from, to, via, room)
 }

@@ -63,7 +63,11 @@ struct Five {
 }
 
 fn pack(x: u32) -> Five
-    ensures { λ r. ⌜ (take (r .len) (r .bytes) ≡ packed x) × (r .len ≡ length (packed x)) × (r .len ≤ 5) × (length (r .bytes) ≡ 5) ⌝ }
+    ensures { λ r.
+        ⌜ (take (r .len) (r .bytes) ≡ packed x)
+        × (r .len ≡ length (packed x))
+        × (r .len ≤ 5)
+        × (length (r .bytes) ≡ 5) ⌝ }
 {
     let mut b = [0u8; 5];
     let mut n: usize = 0;
@@ -82,8 +86,9 @@ fn pack(x: u32) -> Five
 
 // Writes the packed form of `x` from a place of the room on, or refuses and leaves the room as it is.
 pub fn write_number(room: &mut [u8], at: usize, x: u32) -> Written
-    ensures { λ r. ⌜ r ≡ writeAnswer (now (room .entry)) at (packed x) ⌝ }
-    ensures { λ r. ⌜ now (room .exit) ≡ writtenRoom (now (room .entry)) at (packed x) ⌝ }
+    ensures { λ r.
+        ⌜ (r ≡ writeAnswer (now (room .entry)) at (packed x))
+        × (now (room .exit) ≡ writtenRoom (now (room .entry)) at (packed x)) ⌝ }
 {
     let five = pack(x);
     let b = five.bytes;

@@ -56,7 +56,9 @@ pub fn look_rows(s: &[u8], at: usize, m: u32) -> Looked
 
 // The number at a place, where a look has passed over it.
 pub fn take_number(s: &[u8], at: usize) -> Taken
-    ensures { λ r. ⌜ (r .value ≡ valueAt (now (s .entry)) at) × (r .next ≡ nextAt (now (s .entry)) at) ⌝ }
+    ensures { λ r.
+        ⌜ (r .value ≡ valueAt (now (s .entry)) at)
+        × (r .next ≡ nextAt (now (s .entry)) at) ⌝ }
 {
     let r = read_number(s, at);
     match r {

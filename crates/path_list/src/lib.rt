@@ -34,7 +34,10 @@ pub fn and_list_tests(
     listed: &[u32],
     lengths: &[u32],
 ) -> Verdict
-    ensures { λ r. ⌜ ((n : ℕ) (delays : List ℤ) → r ≡ (before then listTests (design n (now (starts .entry)) (now (ends .entry)) delays) (pathList (now (listed .entry)) (now (lengths .entry))))) ⌝ }
+    ensures { λ r.
+        let L = pathList (now (listed .entry)) (now (lengths .entry)) in
+        ⌜ ((n : ℕ) (delays : List ℤ)
+        → r ≡ (before then listTests (design n (now (starts .entry)) (now (ends .entry)) delays) L)) ⌝ }
 {
     let counts = and_list_counts(before, lengths.len(), listed.len());
     let filled = paths::and_filled(counts, listed, lengths);

@@ -25,8 +25,10 @@ fn path_end(size: usize, from: usize, k: u32) -> usize
 }
 
 // 22: a path is empty.
-pub fn and_filled(before: Verdict, listed: &[u32], lengths: &[u32]) -> Verdict
-    ensures { λ r. ⌜ r ≡ (before then firstBad 22 isNil 0 (pathsOf (pathList (now (listed .entry)) (now (lengths .entry))))) ⌝ }
+pub(crate) fn and_filled(before: Verdict, listed: &[u32], lengths: &[u32]) -> Verdict
+    ensures { λ r.
+        let L = pathList (now (listed .entry)) (now (lengths .entry)) in
+        ⌜ r ≡ (before then firstBad 22 isNil 0 (pathsOf L)) ⌝ }
 {
     let Verdict::Passed = before else {
         return before;
@@ -60,8 +62,10 @@ fn names_unknown(path: &[u32], m: usize) -> bool
 }
 
 // 23: a path names an edge not below m.
-pub fn and_named(before: Verdict, m: usize, listed: &[u32], lengths: &[u32]) -> Verdict
-    ensures { λ r. ⌜ r ≡ (before then firstBad 23 (anyOf (λ k. not (ltb k m))) 0 (pathsOf (pathList (now (listed .entry)) (now (lengths .entry))))) ⌝ }
+pub(crate) fn and_named(before: Verdict, m: usize, listed: &[u32], lengths: &[u32]) -> Verdict
+    ensures { λ r.
+        let L = pathList (now (listed .entry)) (now (lengths .entry)) in
+        ⌜ r ≡ (before then firstBad 23 (anyOf (λ k. not (ltb k m))) 0 (pathsOf L)) ⌝ }
 {
     let Verdict::Passed = before else {
         return before;
@@ -82,7 +86,9 @@ pub fn and_named(before: Verdict, m: usize, listed: &[u32], lengths: &[u32]) -> 
 // Edge i + 1 of a path starts where edge i ends.
 fn joins(starts: &[u32], ends: &[u32], path: &[u32], i: usize) -> bool
     requires { ⌜ i + 1 ≤ length (now path) ⌝ }
-    ensures { λ r. ⌜ r ≡ meets (design 0 (now (starts .entry)) (now (ends .entry)) []) (getD (now (path .entry)) i 0) (getD (now (path .entry)) (i + 1) 0) ⌝ }
+    ensures { λ r.
+        let D = design 0 (now (starts .entry)) (now (ends .entry)) [] in
+        ⌜ r ≡ meets D (getD (now (path .entry)) i 0) (getD (now (path .entry)) (i + 1) 0) ⌝ }
 {
     let j = number_at(path, i) as usize;
     let k = number_at(path, i + 1) as usize;
@@ -90,14 +96,17 @@ fn joins(starts: &[u32], ends: &[u32], path: &[u32], i: usize) -> bool
 }
 
 // 24: the edges of a path do not join; the search stops at the first such place.
-pub fn and_joined(
+pub(crate) fn and_joined(
     before: Verdict,
     starts: &[u32],
     ends: &[u32],
     listed: &[u32],
     lengths: &[u32],
 ) -> Verdict
-    ensures { λ r. ⌜ r ≡ (before then firstBad 24 (λ p. not (eachNext (meets (design 0 (now (starts .entry)) (now (ends .entry)) [])) p)) 0 (pathsOf (pathList (now (listed .entry)) (now (lengths .entry))))) ⌝ }
+    ensures { λ r.
+        let D = design 0 (now (starts .entry)) (now (ends .entry)) [] in
+        let L = pathList (now (listed .entry)) (now (lengths .entry)) in
+        ⌜ r ≡ (before then firstBad 24 (λ p. not (eachNext (meets D) p)) 0 (pathsOf L)) ⌝ }
 {
     let Verdict::Passed = before else {
         return before;

@@ -12,7 +12,9 @@ use verdicts::unless;
 
 // 30 for the three slices of a design.
 pub fn design_sizes(starts: &[u32], ends: &[u32], delays: &[i32]) -> Verdict
-    ensures { λ r. ⌜ ((n : ℕ) → r ≡ designSizes (design n (now (starts .entry)) (now (ends .entry)) (now (delays .entry)))) ⌝ }
+    ensures { λ r.
+        ⌜ ((n : ℕ)
+        → r ≡ designSizes (design n (now (starts .entry)) (now (ends .entry)) (now (delays .entry)))) ⌝ }
 {
     same_sizes(starts.len(), ends.len(), delays.len())
 }

@@ -13,7 +13,9 @@ use verdicts::and_unless;
 
 // Tests a design: 30, and 10 to 14.
 pub fn test_design(n: u32, starts: &[u32], ends: &[u32], delays: &[i32]) -> Verdict
-    ensures { λ r. ⌜ r ≡ testDesign (design n (now (starts .entry)) (now (ends .entry)) (now (delays .entry))) ⌝ }
+    ensures { λ r.
+        let D = design n (now (starts .entry)) (now (ends .entry)) (now (delays .entry)) in
+        ⌜ r ≡ testDesign D ⌝ }
 {
     let sizes = design_sizes(starts, ends, delays);
     and_design_tests(sizes, n, starts, ends, delays)
@@ -28,7 +30,10 @@ pub fn test_list(
     listed: &[u32],
     lengths: &[u32],
 ) -> Verdict
-    ensures { λ r. ⌜ r ≡ testList (design n (now (starts .entry)) (now (ends .entry)) (now (delays .entry))) (pathList (now (listed .entry)) (now (lengths .entry))) ⌝ }
+    ensures { λ r.
+        let D = design n (now (starts .entry)) (now (ends .entry)) (now (delays .entry)) in
+        let L = pathList (now (listed .entry)) (now (lengths .entry)) in
+        ⌜ r ≡ testList D L ⌝ }
 {
     let slices = design_sizes(starts, ends, delays);
     let sizes = and_list_sizes(slices, listed, lengths);
@@ -44,10 +49,13 @@ pub fn test_deck(
     delays: &[i32],
     listed: &[u32],
     lengths: &[u32],
-    t: u32,
+    allowed: u32,
 ) -> Verdict
-    ensures { λ r. ⌜ r ≡ testDeck (design n (now (starts .entry)) (now (ends .entry)) (now (delays .entry))) (pathList (now (listed .entry)) (now (lengths .entry))) t ⌝ }
+    ensures { λ r.
+        let D = design n (now (starts .entry)) (now (ends .entry)) (now (delays .entry)) in
+        let L = pathList (now (listed .entry)) (now (lengths .entry)) in
+        ⌜ r ≡ testDeck D L allowed ⌝ }
 {
     let fit = test_list(n, starts, ends, delays, listed, lengths);
-    and_unless(fit, 25, t <= MAX_ALLOWED_TIME)
+    and_unless(fit, 25, allowed <= MAX_ALLOWED_TIME)
 }

@@ -55,12 +55,12 @@ returns c =
     let s = k1 .before .before .before .before .before .before .before in
     let a = s .args in
     c .copies-pass .ensures
-    ∙ copies-agree (a .n) 4096 (a .nodes .now) _ _ _ _ (stands (a .ends .now) (a .d)) (stands (a .starts .now) (a .d)) (stands (a .ge .now) (a .m)) (stands (a .gs .now) (a .m))
+    ∙ copies-agree (a .n) 4096 (a .nodes .now) _ _ _ _ (stands (a .ends .now) (a .d)) (stands (a .starts .now) (a .d)) (stands (a .to .now) (a .m)) (stands (a .from .now) (a .m))
     16384 (s .pre .0) (s .pre .1)
     (marked-clear 4096 (a .ends .now) (a .d) _ (k1 .mark .ensures))
     (marked-clear 4096 (a .starts .now) (a .d) _ (k2 .mark2 .ensures))
-    (marked-clear 16384 (a .ge .now) (a .m) _ (k3 .mark3 .ensures))
-    (marked-clear 16384 (a .gs .now) (a .m) _ (k4 .mark4 .ensures))
+    (marked-clear 16384 (a .to .now) (a .m) _ (k3 .mark3 .ensures))
+    (marked-clear 16384 (a .from .now) (a .m) _ (k4 .mark4 .ensures))
 
 pub copies-fit-spec : {M : Type 1} → statement M
 copies-fit-spec =

@@ -37,8 +37,8 @@ returns c =
     let h = k .before .before .before in
     let a = h .before .before .before .before .before .args in
     let named = h .both2 .ensures ∙ (λ i. h .before .both .ensures i && ltb (a .k) (length (a .starts .now))) in
-    let from = k .both3 .ensures ∙ (λ i. named i && eqb (k .before .before .number-at .ensures i) (k .before .number-at2 .ensures i)) in
-    c .both4 .ensures ∙ (λ i. from i && eqb (c .before .before .number-at3 .ensures i) (c .before .number-at4 .ensures i))
+    let leaves = k .both3 .ensures ∙ (λ i. named i && eqb (k .before .before .number-at .ensures i) (k .before .number-at2 .ensures i)) in
+    c .both4 .ensures ∙ (λ i. leaves i && eqb (c .before .before .number-at3 .ensures i) (c .before .number-at4 .ensures i))
 
 pub edge-fits-spec : {M : Type 1} → statement M
 edge-fits-spec =

@@ -10,15 +10,15 @@ use Rattle.graph.proofs.edges_pass.Statement.{statement}
 use Rattle.graph.proofs.edges_pass.Tie as tie
 
 abbrev Inv-loop : tie.InvT-loop
-Inv-loop starts ends nodes gs ge gn m i₀ i = (i ≤ m) × (allOf (edgePasses starts ends nodes gs ge gn m) (upto (m - i) i) ≡ allOf (edgePasses starts ends nodes gs ge gn m) (upto m 0))
+Inv-loop starts ends nodes from to via m i₀ i = (i ≤ m) × (allOf (edgePasses starts ends nodes from to via m) (upto (m - i) i) ≡ allOf (edgePasses starts ends nodes from to via m) (upto m 0))
 
 abbrev μ-loop : tie.MeasureT-loop
-μ-loop starts ends nodes gs ge gn m i₀ i = m - i
+μ-loop starts ends nodes from to via m i₀ i = m - i
 
 loop-holds : tie.Need-loop-holds Inv-loop μ-loop
 loop-holds c =
     let a = c .before .before .before .before .before .before .args in
-    (omega arith, all-left (edgePasses (a .starts .now) (a .ends .now) (a .nodes .now) (a .gs .now) (a .ge .now) (a .gn .now) (a .m)) (a .m))
+    (omega arith, all-left (edgePasses (a .starts .now) (a .ends .now) (a .nodes .now) (a .from .now) (a .to .now) (a .via .now) (a .m)) (a .m))
 
 edge-passes-requires : tie.Need-edge-passes-requires Inv-loop μ-loop
 edge-passes-requires c κs = omega arith

@@ -12,32 +12,32 @@ use Rattle.graph.proofs.well_formed.Statement.{statement}
 use Rattle.graph.proofs.well_formed.Tie as tie
 
 -- m is the count of the graph's edges
-count-is : (c : tie.After-shorter2) →
+count-is : (c : tie.After-least2) →
     let a = c .before .before .before .before .before .before .before .before .args in
-    (c .shorter2 .result ≡ length (edgesOf (a .gs .now) (a .ge .now) (a .gn .now)))
+    (c .least2 .result ≡ length (edgesOf (a .from .now) (a .to .now) (a .via .now)))
 count-is c =
     let a = c .before .before .before .before .before .before .before .before .args in
-    c .shorter2 .ensures ∙ ap (min (length (a .gs .now))) (c .before .shorter .ensures) ∙ sym (length-edges (a .gs .now) (a .ge .now) (a .gn .now))
+    c .least2 .ensures .0 ∙ ap (min (length (a .from .now))) (c .before .least .ensures .0) ∙ sym (length-edges (a .from .now) (a .to .now) (a .via .now))
 
-shorter-requires : tie.Need-shorter-requires
-shorter-requires c κs = search needs
+least-requires : tie.Need-least-requires
+least-requires c κs = search needs
 
-shorter-requires-2 : tie.Need-shorter-requires-2
-shorter-requires-2 c κs = search needs
+least-requires-2 : tie.Need-least-requires-2
+least-requires-2 c κs = search needs
 
 returns : tie.Need-returns
 returns c =
     let a = c .before .before .before .before .before .before .before .before .before .args in
-    sym (too-many-copies (a .n) (a .starts .now) (a .ends .now) (a .nodes .now) (a .gs .now) (a .ge .now) (a .gn .now) (c .if1 .taken))
+    sym (too-many-copies (a .n) (a .starts .now) (a .ends .now) (a .nodes .now) (a .from .now) (a .to .now) (a .via .now) (c .if1 .taken))
 
 returns-2 : tie.Need-returns-2
 returns-2 c =
     let k = c .before .before in
     let a = k .before .before .before .before .before .before .before .before .args in
-    sym (too-many-edges (a .n) (a .starts .now) (a .ends .now) (a .nodes .now) (a .gs .now) (a .ge .now) (a .gn .now) (omega arith) (omega (arith, count-is k)))
+    sym (too-many-edges (a .n) (a .starts .now) (a .ends .now) (a .nodes .now) (a .from .now) (a .to .now) (a .via .now) (omega arith) (omega (arith, count-is k)))
 
-shorter-requires-3 : tie.Need-shorter-requires-3
-shorter-requires-3 c κs = search needs
+least-requires-3 : tie.Need-least-requires-3
+least-requires-3 c κs = search needs
 
 edges-pass-requires : tie.Need-edges-pass-requires
 edges-pass-requires c κs = search needs
@@ -55,17 +55,17 @@ returns-3 c =
     let a = k .before .before .before .before .before .before .before .before .args in
     c .both .ensures
     ∙ ap₂ _&&_ (c .before .before .edges-pass .ensures) (c .before .copies-fit .ensures)
-    ∙ formed-by (a .n) (a .starts .now) (a .ends .now) (a .nodes .now) (a .gs .now) (a .ge .now) (a .gn .now) (k .shorter2 .result) (h .shorter3 .result) (count-is k) (h .shorter3 .ensures) (omega arith) (omega arith)
+    ∙ formed-by (a .n) (a .starts .now) (a .ends .now) (a .nodes .now) (a .from .now) (a .to .now) (a .via .now) (k .least2 .result) (h .least3 .result) (count-is k) (h .least3 .ensures .0) (omega arith) (omega arith)
 
 pub well-formed-spec : {M : Type 1} → statement M
 well-formed-spec =
     tie.close
     (tie.spec
-    shorter-requires
-    shorter-requires-2
+    least-requires
+    least-requires-2
     returns
     returns-2
-    shorter-requires-3
+    least-requires-3
     edges-pass-requires
     copies-fit-requires
     both-requires

@@ -10,7 +10,7 @@ use Rattle.graph_reader.proofs.read_graph.Statement.{statement}
 use Rattle.graph_reader.proofs.read_graph.Tie as tie
 
 -- the three slices of the room are as long as each other
-sizes : (c : tie.After-enum-told) → let a = c .before .before .before .before .before .before .before .before .args in sameSizes (length (a .gs .now)) (length (a .ge .now)) (length (a .gn .now)) ≡ Passed
+sizes : (c : tie.After-enum-told) → let a = c .before .before .before .before .before .before .before .before .args in sameSizes (length (a .room-from .now)) (length (a .room-to .now)) (length (a .room-via .now)) ≡ Passed
 sizes c = sym (c .before .before .same-sizes .ensures) ∙ c .enum-told .given .1
 
 same-sizes-requires : tie.Need-same-sizes-requires
@@ -23,8 +23,8 @@ returns : tie.Need-returns
 returns c =
     let z = c .before .before .before in
     let a = z .before .before .before .before .before .before .args in
-    answers-refused _ _ (a .nodes .now) (a .gs .now) (a .ge .now) (a .gn .now)
-    (sizes-refused (a .s .now) (a .nodes .now) (a .gs .now) (a .ge .now) (a .gn .now) _ (sym (z .same-sizes .ensures) ∙ c .before .v .given .1))
+    answers-refused _ _ (a .room-nodes .now) (a .room-from .now) (a .room-to .now) (a .room-via .now)
+    (sizes-refused (a .s .now) (a .room-nodes .now) (a .room-from .now) (a .room-to .now) (a .room-via .now) _ (sym (z .same-sizes .ensures) ∙ c .before .v .given .1))
 
 enum-told : tie.Need-enum-told
 enum-told c = search needs
@@ -40,8 +40,8 @@ fill-requires c κs =
     let k = c .before .before .before .before .before .before .before in
     let t = k .before in
     let a = t .before .before .before .before .before .before .before .before .args in
-    let g = graph-read (a .s .now) (length (a .nodes .now)) (length (a .gs .now)) _ _ (sym (k .look .ensures) ∙ c .before .before .before .before .before .g .given .1) in
-    let e = sizes-same (a .s .now) (a .nodes .now) (a .gs .now) (a .ge .now) (a .gn .now) (sizes t) in
+    let g = graph-read (a .s .now) (length (a .room-nodes .now)) (length (a .room-from .now)) _ _ (sym (k .look .ensures) ∙ c .before .before .before .before .before .g .given .1) in
+    let e = sizes-same (a .s .now) (a .room-nodes .now) (a .room-from .now) (a .room-to .now) (a .room-via .now) (sizes t) in
     (g .few, g .few-edges, omega (arith, g .few-edges, e .0), omega (arith, g .few-edges, e .1))
 
 enum-known-g-2 : tie.Need-enum-known-g-2
@@ -65,20 +65,20 @@ returns-2 c =
     let k = w .before .before .before .before .before .before .before .before in
     let t = k .before in
     let a = t .before .before .before .before .before .before .before .before .args in
-    let g = graph-read (a .s .now) (length (a .nodes .now)) (length (a .gs .now)) _ _ (sym (k .look .ensures) ∙ w .before .before .before .before .before .before .g .given .1) in
-    let e = sizes-same (a .s .now) (a .nodes .now) (a .gs .now) (a .ge .now) (a .gn .now) (sizes t) in
+    let g = graph-read (a .s .now) (length (a .room-nodes .now)) (length (a .room-from .now)) _ _ (sym (k .look .ensures) ∙ w .before .before .before .before .before .before .g .given .1) in
+    let e = sizes-same (a .s .now) (a .room-nodes .now) (a .room-from .now) (a .room-to .now) (a .room-via .now) (sizes t) in
     let f = w .fill .ensures in
-    answers-made (a .s .now) _ _ _ (a .nodes .now) _ (a .gs .now) _ (a .ge .now) _ (a .gn .now) _
-    (sizes-passed (a .s .now) (a .nodes .now) (a .gs .now) (a .ge .now) (a .gn .now) (sizes t) ∙ g .is)
-    (g .few) (g .few-edges) (omega (arith, g .few-edges, e .0)) (omega (arith, g .few-edges, e .1)) (f .0) (f .1 .0) (f .1 .1 .0) (f .1 .1 .1)
+    answers-made (a .s .now) _ _ _ (a .room-nodes .now) _ (a .room-from .now) _ (a .room-to .now) _ (a .room-via .now) _
+    (sizes-passed (a .s .now) (a .room-nodes .now) (a .room-from .now) (a .room-to .now) (a .room-via .now) (sizes t) ∙ g .is)
+    (g .few) (g .few-edges) (omega (arith, g .few-edges, e .0)) (omega (arith, g .few-edges, e .1)) (f .0) (f .1) (f .2) (f .3)
 
 returns-3 : tie.Need-returns-3
 returns-3 c =
     let k = c .before .before .before in
     let t = k .before in
     let a = t .before .before .before .before .before .before .before .before .args in
-    answers-refused _ _ (a .nodes .now) (a .gs .now) (a .ge .now) (a .gn .now)
-    (sizes-passed (a .s .now) (a .nodes .now) (a .gs .now) (a .ge .now) (a .gn .now) (sizes t) ∙ read-stopped _ _ (sym (k .look .ensures) ∙ c .before .g2 .given .1))
+    answers-refused _ _ (a .room-nodes .now) (a .room-from .now) (a .room-to .now) (a .room-via .now)
+    (sizes-passed (a .s .now) (a .room-nodes .now) (a .room-from .now) (a .room-to .now) (a .room-via .now) (sizes t) ∙ read-stopped _ _ (sym (k .look .ensures) ∙ c .before .g2 .given .1))
 
 pub read-graph-spec : {M : Type 1} → statement M
 read-graph-spec =

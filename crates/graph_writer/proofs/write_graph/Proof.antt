@@ -12,16 +12,16 @@ use Rattle.graph_writer.proofs.write_graph.Tie as tie
 
 -- the graph that is written, and its tests
 abbrev slicesAt : tie.Start → GraphSlices
-slicesAt s = let a = s .args in graphSlices (a .nodes .now) (a .gs .now) (a .ge .now) (a .gn .now)
+slicesAt s = let a = s .args in graphSlices (a .nodes .now) (a .from .now) (a .to .now) (a .via .now)
 
 abbrev start : tie.After-write-tests → tie.Start
 start c = c .before .before .before .before .before .before
 
 tested : (c : tie.After-write-tests) → graphWriteTests (slicesAt (start c)) ≡ c .write-tests .result
-tested c = let a = start c .args in tests-are (a .nodes .now) (a .gs .now) (a .ge .now) (a .gn .now) ∙ sym (c .write-tests .ensures)
+tested c = let a = start c .args in tests-are (a .nodes .now) (a .from .now) (a .to .now) (a .via .now) ∙ sym (c .write-tests .ensures)
 
-fits : (c : tie.After-write-tests) → c .write-tests .result ≡ Passed → let a = start c .args in Fits (a .nodes .now) (a .gs .now) (a .ge .now) (a .gn .now)
-fits c e = let a = start c .args in tests-fit (a .nodes .now) (a .gs .now) (a .ge .now) (a .gn .now) (sym (c .write-tests .ensures) ∙ e)
+fits : (c : tie.After-write-tests) → c .write-tests .result ≡ Passed → let a = start c .args in Fits (a .nodes .now) (a .from .now) (a .to .now) (a .via .now)
+fits c e = let a = start c .args in tests-fit (a .nodes .now) (a .from .now) (a .to .now) (a .via .now) (sym (c .write-tests .ensures) ∙ e)
 
 write-tests-requires : tie.Need-write-tests-requires
 write-tests-requires c κs = search needs

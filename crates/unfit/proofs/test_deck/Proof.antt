@@ -20,7 +20,7 @@ returns c =
     let a = fit .before .before .before .before .before .args in
     let D = design (a .n) (a .starts .now) (a .ends .now) (a .delays .now) in
     let L = pathList (a .listed .now) (a .lengths .now) in
-    after-four (designSizes D) (listSizes L) (designTests D) (listTests D L) (allowedTest (a .t)) (fit .test-list .ensures) (c .and-unless .ensures)
+    after-four (designSizes D) (listSizes L) (designTests D) (listTests D L) (allowedTest (a .allowed)) (fit .test-list .ensures) (c .and-unless .ensures)
 
 pub test-deck-spec : {M : Type 1} → statement M
 test-deck-spec = tie.close (tie.spec test-list-requires and-unless-requires returns)

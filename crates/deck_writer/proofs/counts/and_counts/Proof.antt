@@ -21,7 +21,7 @@ and-unless-requires-4 c κs = search needs
 returns : tie.Need-returns
 returns c =
     let a = c .before .before .before .before .args in
-    then-counts (a .v) (unless 10 (leb (a .nodes) 4096)) (unless 11 (leb (a .edges) 16384)) (unless 20 (leb (a .paths) 1024)) (unless 21 (leb (a .listed) 8192)) _ _ _ _
+    then-counts (a .before) (unless 10 (leb (a .n) 4096)) (unless 11 (leb (a .edges) 16384)) (unless 20 (leb (a .paths) 1024)) (unless 21 (leb (a .listed) 8192)) _ _ _ _
     (c .before .before .before .and-unless .ensures) (c .before .before .and-unless2 .ensures) (c .before .and-unless3 .ensures) (c .and-unless4 .ensures)
 
 pub and-counts-spec : {M : Type 1} → statement M

@@ -21,7 +21,7 @@ returns : tie.Need-returns
 returns c =
     let t = c .before .before .before in
     let a = t .before .before .before .before .before .args in
-    then-tests (deckOf (a .nodes) (a .starts .now) (a .ends .now) (a .delays .now) (a .listed .now) (a .lengths .now) 0) _ _ _ _ (t .same-sizes .ensures) (c .before .before .adds-up .ensures) (c .before .and-unless .ensures) (c .and-counts .ensures)
+    then-tests (deckOf (a .n) (a .starts .now) (a .ends .now) (a .delays .now) (a .listed .now) (a .lengths .now) 0) _ _ _ _ (t .same-sizes .ensures) (c .before .before .adds-up .ensures) (c .before .and-unless .ensures) (c .and-counts .ensures)
 
 pub write-tests-spec : {M : Type 1} → statement M
 write-tests-spec =

@@ -68,7 +68,7 @@ returns c =
     let k4 = c .before .before .before .before .before in
     let s = k4 .before .before .before .before .before .before .before .before in
     let a = s .args in
-    let d = deckOf (a .nodes) (a .starts .now) (a .ends .now) (a .delays .now) (a .listed .now) (a .lengths .now) (a .t) in
+    let d = deckOf (a .n) (a .starts .now) (a .ends .now) (a .delays .now) (a .listed .now) (a .lengths .now) (a .allowed) in
     omega (
       arith,
       size-deck d (s .pre),

@@ -9,7 +9,7 @@ use Rattle.deck_writer.proofs.writer.put_deck.Tie as tie
 
 -- the deck that is written
 abbrev deckAt : tie.Start → Deck
-deckAt s = let a = s .args in deckOf (a .nodes) (a .starts .now) (a .ends .now) (a .delays .now) (a .listed .now) (a .lengths .now) (a .t)
+deckAt s = let a = s .args in deckOf (a .n) (a .starts .now) (a .ends .now) (a .delays .now) (a .listed .now) (a .lengths .now) (a .allowed)
 
 put-design-requires : tie.Need-put-design-requires
 put-design-requires c κs =

@@ -43,11 +43,10 @@ returns c =
     let n = first .next-at .ensures in
     let at = place .next-at2 .ensures ∙ ap (nextAt s) (numbers .fill-numbers .ensures .0 ∙ ap (numbersEnd s (a .n)) n) in
     let r = rows .fill-rows .ensures in (
-      numbers .fill-numbers .ensures .1 ∙ (λ i. sets (a .nodes .now) 0 (numbersFrom s (a .n) (n i))),
-      (
-        r .0 ∙ (λ i. sets (a .gs .now) 0 (map (λ q. q .first) (rowsFrom s (a .m) (at i)))),
-        (r .1 .0 ∙ (λ i. sets (a .ge .now) 0 (map (λ q. q .second) (rowsFrom s (a .m) (at i)))), r .1 .1 ∙ (λ i. sets (a .gn .now) 0 (map (λ q. q .third) (rowsFrom s (a .m) (at i))))),
-      ),
+      numbers .fill-numbers .ensures .1 ∙ (λ i. sets (a .room-nodes .now) 0 (numbersFrom s (a .n) (n i))),
+      r .0 ∙ (λ i. sets (a .room-from .now) 0 (map (λ q. q .first) (rowsFrom s (a .m) (at i)))),
+      r .1 ∙ (λ i. sets (a .room-to .now) 0 (map (λ q. q .second) (rowsFrom s (a .m) (at i)))),
+      r .2 ∙ (λ i. sets (a .room-via .now) 0 (map (λ q. q .third) (rowsFrom s (a .m) (at i)))),
     )
 
 pub fill-spec : {M : Type 1} → statement M

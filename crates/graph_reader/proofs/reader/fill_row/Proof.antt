@@ -15,23 +15,23 @@ take-number-requires-2 c κs = search needs
 take-number-requires-3 : tie.Need-take-number-requires-3
 take-number-requires-3 c κs = search needs
 
-mul-gs : tie.Need-mul-gs
-mul-gs c = search needs
+mul-room-from : tie.Need-mul-room-from
+mul-room-from c = search needs
 
-slice-write-gs : tie.Need-slice-write-gs
-slice-write-gs c = search needs
+slice-write-room-from : tie.Need-slice-write-room-from
+slice-write-room-from c = search needs
 
-mul-ge : tie.Need-mul-ge
-mul-ge c = search needs
+mul-room-to : tie.Need-mul-room-to
+mul-room-to c = search needs
 
-slice-write-ge : tie.Need-slice-write-ge
-slice-write-ge c = search needs
+slice-write-room-to : tie.Need-slice-write-room-to
+slice-write-room-to c = search needs
 
-mul-gn : tie.Need-mul-gn
-mul-gn c = search needs
+mul-room-via : tie.Need-mul-room-via
+mul-room-via c = search needs
 
-slice-write-gn : tie.Need-slice-write-gn
-slice-write-gn c = search needs
+slice-write-room-via : tie.Need-slice-write-room-via
+slice-write-room-via c = search needs
 
 same-length : tie.Need-same-length
 same-length c = search needs
@@ -53,7 +53,7 @@ returns c =
     let ends = t3 .take-number3 .ensures .1 ∙ ap (nextAt (a .s .now)) third in
     let v2 = t2 .take-number2 .ensures .0 ∙ ap (valueAt (a .s .now)) second in
     let v3 = t3 .take-number3 .ensures .0 ∙ ap (valueAt (a .s .now)) third in
-    (ends, ((λ i. set (a .gs .now) (a .i) (t1 .take-number .ensures .0 i)), ((λ i. set (a .ge .now) (a .i) (v2 i)), (λ i. set (a .gn .now) (a .i) (v3 i)))))
+    (ends, (λ i. set (a .room-from .now) (a .i) (t1 .take-number .ensures .0 i)), (λ i. set (a .room-to .now) (a .i) (v2 i)), (λ i. set (a .room-via .now) (a .i) (v3 i)))
 
 pub fill-row-spec : {M : Type 1} → statement M
 fill-row-spec =
@@ -62,12 +62,12 @@ fill-row-spec =
     take-number-requires
     take-number-requires-2
     take-number-requires-3
-    mul-gs
-    slice-write-gs
-    mul-ge
-    slice-write-ge
-    mul-gn
-    slice-write-gn
+    mul-room-from
+    slice-write-room-from
+    mul-room-to
+    slice-write-room-to
+    mul-room-via
+    slice-write-room-via
     same-length
     same-length-2
     same-length-3

@@ -38,13 +38,13 @@ add-starts : tie.Need-add-starts
 add-starts c =
     let s = c .before .before .before .before .before .before .before .before in
     let a = s .args in
-    omega (arith, s .pre .1, size-most (a .gs .now), packed-size 4 (length (a .gs .now)) .1)
+    omega (arith, s .pre .1, size-most (a .from .now), packed-size 4 (length (a .from .now)) .1)
 
 add-result : tie.Need-add-result
 add-result c =
     let s = c .before .before .before .before .before .before .before .before in
     let a = s .args in
-    omega (arith, s .pre .0, s .pre .1, size-most (a .nodes .now), packed-size 4 (length (a .nodes .now)) .1, size-most (a .gs .now), packed-size 4 (length (a .gs .now)) .1)
+    omega (arith, s .pre .0, s .pre .1, size-most (a .nodes .now), packed-size 4 (length (a .nodes .now)) .1, size-most (a .from .now), packed-size 4 (length (a .from .now)) .1)
 
 numbers-size-requires-3 : tie.Need-numbers-size-requires-3
 numbers-size-requires-3 c κs = search needs
@@ -53,7 +53,7 @@ add-result-2 : tie.Need-add-result-2
 add-result-2 c =
     let s = c .before .before .before .before .before .before .before .before .before in
     let a = s .args in
-    omega (arith, s .pre, size-most (a .nodes .now), packed-size 4 (length (a .nodes .now)) .1, size-most (a .gs .now), packed-size 4 (length (a .gs .now)) .1, size-most (a .ge .now))
+    omega (arith, s .pre, size-most (a .nodes .now), packed-size 4 (length (a .nodes .now)) .1, size-most (a .from .now), packed-size 4 (length (a .from .now)) .1, size-most (a .to .now))
 
 numbers-size-requires-4 : tie.Need-numbers-size-requires-4
 numbers-size-requires-4 c κs = search needs
@@ -62,7 +62,7 @@ add-result-3 : tie.Need-add-result-3
 add-result-3 c =
     let s = c .before .before .before .before .before .before .before .before .before .before in
     let a = s .args in
-    omega (arith, s .pre, size-most (a .nodes .now), packed-size 4 (length (a .nodes .now)) .1, size-most (a .gs .now), packed-size 4 (length (a .gs .now)) .1, size-most (a .ge .now), size-most (a .gn .now))
+    omega (arith, s .pre, size-most (a .nodes .now), packed-size 4 (length (a .nodes .now)) .1, size-most (a .from .now), packed-size 4 (length (a .from .now)) .1, size-most (a .to .now), size-most (a .via .now))
 
 returns : tie.Need-returns
 returns c =
@@ -71,7 +71,7 @@ returns c =
     let copies = c .before .before .before .before in
     let starts = c .before .before in
     (λ i. copies .before .number-size .ensures i + copies .numbers-size .ensures i + (starts .before .number-size2 .ensures i + starts .numbers-size2 .ensures i) + c .before .numbers-size3 .ensures i + c .numbers-size4 .ensures i)
-    ∙ size-graph (a .nodes .now) (a .gs .now) (a .ge .now) (a .gn .now) (s .pre .2) (s .pre .3)
+    ∙ size-graph (a .nodes .now) (a .from .now) (a .to .now) (a .via .now) (s .pre .2) (s .pre .3)
 
 pub graph-size-spec : {M : Type 1} → statement M
 graph-size-spec =

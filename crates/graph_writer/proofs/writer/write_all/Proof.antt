@@ -36,12 +36,12 @@ returns c =
     let first = second .before .before .before .before in
     let s = first .before .before .before .before .before .before .before in
     let ns = s .args .nodes .now in
-    let gs = s .args .gs .now in
-    let ge = s .args .ge .now in
-    let gn = s .args .gn .now in
-    rw (graph-numbers ns gs ge gn (s .pre .2) (s .pre .3))
-    (wrote-both ((length ns ∷ []) ++ ns ++ (length gs ∷ [])) (rowsOf gs ge gn)
-    (wrote-both ((length ns ∷ []) ++ ns) (length gs ∷ [])
+    let from = s .args .from .now in
+    let to = s .args .to .now in
+    let via = s .args .via .now in
+    rw (graph-numbers ns from to via (s .pre .2) (s .pre .3))
+    (wrote-both ((length ns ∷ []) ++ ns ++ (length from ∷ [])) (rowsOf from to via)
+    (wrote-both ((length ns ∷ []) ++ ns) (length from ∷ [])
     (wrote-both (length ns ∷ []) ns (first .and-write .ensures) (second .write-numbers .ensures))
     (third .and-write2 .ensures))
     (fourth .write-edges .ensures))

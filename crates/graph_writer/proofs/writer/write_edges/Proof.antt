@@ -10,10 +10,10 @@ use Rattle.graph_writer.proofs.writer.write_edges.Statement.{statement}
 use Rattle.graph_writer.proofs.writer.write_edges.Tie as tie
 
 abbrev Inv-loop : tie.InvT-loop
-Inv-loop gs ge gn room₀ w₀ k₀ room w k = (k ≤ length gs) × Left w₀ room₀ (rowsOf gs ge gn) w room (rowsOf (drop k gs) (drop k ge) (drop k gn))
+Inv-loop from to via room₀ w₀ k₀ room w k = (k ≤ length from) × Left w₀ room₀ (rowsOf from to via) w room (rowsOf (drop k from) (drop k to) (drop k via))
 
 abbrev μ-loop : tie.MeasureT-loop
-μ-loop gs ge gn room₀ w₀ k₀ room w k = length gs - k
+μ-loop from to via room₀ w₀ k₀ room w k = length from - k
 
 loop-holds : tie.Need-loop-holds Inv-loop μ-loop
 loop-holds c = (omega arith, left-all _ _ _)
@@ -52,10 +52,10 @@ loop-again c =
     let s = l .before .before .before .before .before in
     let a = s .args in
     let k = l .loop .k in
-    let h : k < length (a .gs .now) = r .before .before .before .before .before .loop-test .taken in
-    let rest = rw (rows-turn (a .gs .now) (a .ge .now) (a .gn .now) k h (omega (arith, s .pre .0)) (omega (arith, s .pre .1))) at (l .loop .inv .1) in (
+    let h : k < length (a .from .now) = r .before .before .before .before .before .loop-test .taken in
+    let rest = rw (rows-turn (a .from .now) (a .to .now) (a .via .now) k h (omega (arith, s .pre .0)) (omega (arith, s .pre .1))) at (l .loop .inv .1) in (
       omega arith,
-      left-turn (getD (a .gs .now) k 0 ∷ getD (a .ge .now) k 0 ∷ getD (a .gn .now) k 0 ∷ []) (rowsOf (drop (k + 1) (a .gs .now)) (drop (k + 1) (a .ge .now)) (drop (k + 1) (a .gn .now)))
+      left-turn (getD (a .from .now) k 0 ∷ getD (a .to .now) k 0 ∷ getD (a .via .now) k 0 ∷ []) (rowsOf (drop (k + 1) (a .from .now)) (drop (k + 1) (a .to .now)) (drop (k + 1) (a .via .now)))
           rest (r .write-row .ensures),
     )
 
@@ -66,7 +66,7 @@ returns : tie.Need-returns Inv-loop μ-loop
 returns c =
     let l = c .before in
     let a = l .before .before .before .before .before .args in
-    left-none (rw (rows-done (a .gs .now) (a .ge .now) (a .gn .now) (l .loop .k) (c .loop-test .left)) at (l .loop .inv .1))
+    left-none (rw (rows-done (a .from .now) (a .to .now) (a .via .now) (l .loop .k) (c .loop-test .left)) at (l .loop .inv .1))
 
 pub write-edges-spec : {M : Type 1} → statement M
 write-edges-spec =
