@@ -136,16 +136,21 @@ sizes-early a b c = early-unless 30 refl (eqb a b && eqb a c)
 -- an answer, the room and the scratch, as the contracts state them
 abbrev pub Stated : Outcome Graph → GraphMade → List ℕ → List ℕ → List ℕ → List ℕ → List ℕ → List ℕ → List ℕ → List ℕ → List ℕ → List ℕ → Type 0
 Stated o r nodes from to via s nodes′ from′ to′ via′ s′ =
-    (r ≡ graphAnswer o) × ((nodes′ ≡ nodesAfter o nodes) × ((from′ ≡ startsAfter o from) × ((to′ ≡ endsAfter o to) × ((via′ ≡ namesAfter o via) × (s′ ≡ scratchAfter o s)))))
+    (r ≡ graphAnswer o)
+    × (nodes′ ≡ nodesAfter o nodes)
+    × (from′ ≡ startsAfter o from)
+    × (to′ ≡ endsAfter o to)
+    × (via′ ≡ namesAfter o via)
+    × (s′ ≡ scratchAfter o s)
 
 stated-refused : (x : Refusal) (nodes from to via s : List ℕ) → keeps (x .number) → Stated (refused x) (NoGraph x) nodes from to via s nodes from to via s
 stated-refused x nodes from to via s e =
-    (refl, (refl, (refl, (refl, (refl, ap (λ (b : Bool). cond b (map (λ (w : ℕ). 0) s) s) (sym e))))))
+    (refl, refl, refl, refl, refl, ap (λ (b : Bool). cond b (map (λ (w : ℕ). 0) s) s) (sym e))
 
 stated-removed : (o : Outcome Graph) (r : GraphMade) (nodes from to via s nodes′ from′ to′ via′ s′ : List ℕ) → Removed o r nodes from to via s nodes′ from′ to′ via′ s′
     → Stated o r nodes from to via s nodes′ from′ to′ via′ s′
 stated-removed o r nodes from to via s nodes′ from′ to′ via′ s′ x =
-    (x .answered .answer, (x .answered .nodes, (x .answered .starts, (x .answered .ends, (x .answered .names, x .scratch)))))
+    (x .answered .answer, x .answered .nodes, x .answered .starts, x .answered .ends, x .answered .names, x .scratch)
 
 -- a test after the first five
 chain-on : (d l o t u w : Verdict) → ((d then (l then (o then (t then u)))) then w) ≡ (d then (l then (o then (t then (u then w)))))

@@ -4,7 +4,8 @@ ghost use Prim.Native.Nat.{ℕ, _+_, _*_, _≤_, _<_};
 ghost use lib.ListN.{length, getD};
 ghost use Rattle.timing.specs.Marks.{pathList};
 ghost use Rattle.removal.specs.Table.{table};
-ghost use Rattle.removal.specs.Search.{codeIn, Searchable, Rising, FirstsBy, Firsts, FilledTo, putFour, Fillable, Filled};
+ghost use Rattle.removal.specs.Search.{codeIn, Searchable, Rising, FirstsBy, Firsts, FilledTo, putFour, Fillable};
+ghost use Rattle.removal.specs.Search.{Filled};
 use entries::number_at;
 
 // Fills the words from `from` on and before `to`; gives where the next words start.
@@ -23,8 +24,14 @@ fn fill_to(firsts: &mut [u32], from: usize, to: usize, v: u32) -> usize
 // For each key how many places of the order have a code below it. One pass over the order: the words up to
 // the code of a place that are not there yet are its number.
 pub(crate) fn fill_firsts(s: &[u32], order: usize, codes: &[u32], firsts: &mut [u32])
-    requires { ⌜ (order + length (now codes) ≤ length (now s)) × (length (now codes) ≤ 8192) × (length (now firsts) ≡ 8193) × Rising (codeIn (now codes) (table (now s) order (length (now codes)))) (length (now codes)) ⌝ }
-    ensures { λ r. ⌜ FirstsBy (codeIn (now (codes .entry)) (table (now (s .entry)) order (length (now (codes .entry))))) (length (now (codes .entry))) (now (firsts .exit)) ⌝ }
+    requires { let n = length (now codes) in
+        ⌜ (order + n ≤ length (now s))
+        × (n ≤ 8192)
+        × (length (now firsts) ≡ 8193)
+        × Rising (codeIn (now codes) (table (now s) order n)) n ⌝ }
+    ensures { λ r.
+        let n = length (now (codes .entry)) in
+        ⌜ FirstsBy (codeIn (now (codes .entry)) (table (now (s .entry)) order n)) n (now (firsts .exit)) ⌝ }
 {
     let mut key = 0;
     let mut t = 0;
@@ -47,7 +54,11 @@ pub(crate) struct Four {
 
 // The bounds of a node, with the slots that stand before.
 pub(crate) fn around(firsts: &[u32], v: u32, before: u32) -> Four
-    ensures { λ r. ⌜ (r .low ≡ getD (now (firsts .entry)) (2 * v) 0) × (r .middle ≡ getD (now (firsts .entry)) (2 * v + 1) 0) × (r .high ≡ getD (now (firsts .entry)) (2 * v + 2) 0) × (r .before ≡ before) ⌝ }
+    ensures { λ r.
+        ⌜ (r .low ≡ getD (now (firsts .entry)) (2 * v) 0)
+        × (r .middle ≡ getD (now (firsts .entry)) (2 * v + 1) 0)
+        × (r .high ≡ getD (now (firsts .entry)) (2 * v + 2) 0)
+        × (r .before ≡ before) ⌝ }
 {
     let key = 2 * (v as usize);
     let low = number_at(firsts, key);
@@ -64,7 +75,8 @@ pub(crate) fn around(firsts: &[u32], v: u32, before: u32) -> Four
 // Stores four numbers as entry c of four tables of n words, one after the other.
 fn put_four(s: &mut [u32], base: usize, n: usize, c: usize, four: Four)
     requires { ⌜ (c < n) × (base + n + n + n + n ≤ length (now s)) ⌝ }
-    ensures { λ r. ⌜ now (s .exit) ≡ putFour (now (s .entry)) base n c (four .low) (four .middle) (four .high) (four .before) ⌝ }
+    ensures { λ r.
+        ⌜ now (s .exit) ≡ putFour (now (s .entry)) base n c (four .low) (four .middle) (four .high) (four .before) ⌝ }
 {
     let second = base + n;
     let third = second + n;
@@ -88,8 +100,13 @@ pub(crate) fn fill_bounds(
     base: usize,
     firsts: &[u32],
 ) -> u32
-    requires { ⌜ Searchable (now starts) (now flat) (now lengths) (now s) rest order base × Fillable (now flat) (now nodes) (now s) base × Firsts (now starts) (pathList (now flat) (now lengths)) (table (now s) order (length (now flat))) (now firsts) ⌝ }
-    ensures { λ r. ⌜ Filled (now (starts .entry)) (now (flat .entry)) (now (lengths .entry)) (now (nodes .entry)) (now (s .entry)) (now (s .exit)) order base r ⌝ }
+    requires { ⌜ Searchable (now starts) (now flat) (now lengths) (now s) rest order base
+        × Fillable (now flat) (now nodes) (now s) base
+        × Firsts (now starts) (pathList (now flat) (now lengths))
+        (table (now s) order (length (now flat))) (now firsts) ⌝ }
+    ensures { λ r.
+        ⌜ Filled (now (starts .entry)) (now (flat .entry)) (now (lengths .entry))
+        (now (nodes .entry)) (now (s .entry)) (now (s .exit)) order base r ⌝ }
 {
     let n = nodes.len();
     let mut total: u32 = 0;

@@ -54,7 +54,9 @@ pub(crate) fn build(
     s: &mut [u32],
 ) -> Layout
     requires { ⌜ Buildable (now starts) (now flat) (now lengths) (now nodes) (now gs) (now ge) (now gn) (now s) ⌝ }
-    ensures { λ r. ⌜ Built (now (starts .entry)) (now (flat .entry)) (now (lengths .entry)) (now (nodes .entry)) (now (gs .entry)) (now (ge .entry)) (now (gn .entry)) (now (s .entry)) (now (s .exit)) r ⌝ }
+    ensures { λ r.
+        ⌜ Built (now (starts .entry)) (now (flat .entry)) (now (lengths .entry)) (now (nodes .entry))
+        (now (gs .entry)) (now (ge .entry)) (now (gn .entry)) (now (s .entry)) (now (s .exit)) r ⌝ }
 {
     let l = layout(nodes.len(), gs.len(), flat.len());
     fill_rest(s, l.rest, lengths);
@@ -90,7 +92,8 @@ pub(crate) fn build(
 // Counts the listed edges from place `from` to `to`, each at the node where it starts.
 fn count_path(starts: &[u32], flat: &[u32], from: usize, to: usize, counts: &mut [u32])
     requires { ⌜ Counting (now starts) (now flat) (now counts) from to ⌝ }
-    ensures { λ r. ⌜ Counted (now (starts .entry)) (now (flat .entry)) (now (counts .entry)) (now (counts .exit)) from to ⌝ }
+    ensures { λ r.
+        ⌜ Counted (now (starts .entry)) (now (flat .entry)) (now (counts .entry)) (now (counts .exit)) from to ⌝ }
 {
     let mut i = from;
     while i < to {
@@ -102,7 +105,9 @@ fn count_path(starts: &[u32], flat: &[u32], from: usize, to: usize, counts: &mut
 
 // Counts the listed edges that are not first in their path.
 fn count_inner(starts: &[u32], flat: &[u32], lengths: &[u32], counts: &mut [u32])
-    requires { ⌜ ListCountable (now starts) (now flat) (now lengths) × (length (now counts) ≡ 4096) × ((v : ℕ) → getD (now counts) v 0 ≡ 0) ⌝ }
+    requires { ⌜ ListCountable (now starts) (now flat) (now lengths)
+        × (length (now counts) ≡ 4096)
+        × ((v : ℕ) → getD (now counts) v 0 ≡ 0) ⌝ }
     ensures { λ r. ⌜ Tallied (now (starts .entry)) (now (flat .entry)) (now (lengths .entry)) (now (counts .exit)) ⌝ }
 {
     let mut at = 0;
@@ -117,7 +122,9 @@ fn count_inner(starts: &[u32], flat: &[u32], lengths: &[u32], counts: &mut [u32]
 
 // One for each copy, and the count of its node.
 fn count_copies(nodes: &[u32], counts: &[u32]) -> usize
-    requires { ⌜ CopiesCountable (now nodes) × (length (now counts) ≡ 4096) × ((v : ℕ) → getD (now counts) v 0 ≤ 8192) ⌝ }
+    requires { ⌜ CopiesCountable (now nodes)
+        × (length (now counts) ≡ 4096)
+        × ((v : ℕ) → getD (now counts) v 0 ≤ 8192) ⌝ }
     ensures { λ r. ⌜ (r ≡ shares (now (counts .entry)) (now (nodes .entry))) × (r ≤ 134234112) ⌝ }
 {
     let mut total: usize = 0;
@@ -138,7 +145,10 @@ pub(crate) fn count_candidates(
     nodes: &[u32],
 ) -> usize
     requires { ⌜ ListCountable (now starts) (now flat) (now lengths) × CopiesCountable (now nodes) ⌝ }
-    ensures { λ r. ⌜ (r ≡ candidates (ofStarts (now (starts .entry))) (ofNodes (now (nodes .entry))) (pathList (now (flat .entry)) (now (lengths .entry)))) × (r ≤ 134234112) ⌝ }
+    ensures { λ r.
+        ⌜ (r ≡ candidates (ofStarts (now (starts .entry))) (ofNodes (now (nodes .entry)))
+        (pathList (now (flat .entry)) (now (lengths .entry))))
+        × (r ≤ 134234112) ⌝ }
 {
     let mut counts = [0u32; 4096];
     count_inner(starts, flat, lengths, &mut counts);

@@ -4,7 +4,8 @@ ghost use Prim.Native.Nat.{_<_};
 ghost use lib.ListN.{getD};
 ghost use Rattle.removal.specs.Slots.{slots};
 ghost use Rattle.removal.specs.Result.{slotAt, shownIn, shownBelow, edgeAt};
-ghost use Rattle.removal.specs.Fill.{EdgesFilled, EdgeRoom, EdgesRoom, SlotsRoom, SlotsFilled, ResultFilled, boundsNow, shownNow, numberNow, ifShown, edgeNow, edgesNow};
+ghost use Rattle.removal.specs.Fill.{EdgesFilled, EdgeRoom, EdgesRoom, SlotsRoom, SlotsFilled, ResultFilled};
+ghost use Rattle.removal.specs.Fill.{boundsNow, shownNow, numberNow, ifShown, edgeNow, edgesNow};
 use crate::rows::Layout;
 use crate::rows::slot_count;
 use crate::rows::slot_place;
@@ -28,8 +29,14 @@ fn fill_edge(
     via: &mut [u32],
     at: usize,
 ) -> usize
-    requires { ⌜ EdgeRoom l (now flat) (now gs) (now ge) (now gn) (now s) e j number (now from) (now to) (now via) at ⌝ }
-    ensures { λ r. ⌜ EdgesFilled l (now (flat .entry)) (now (gs .entry)) (now (ge .entry)) (now (gn .entry)) (now (s .entry)) (λ L G. edgeNow l (now (flat .entry)) (now (s .entry)) L (getD (now (ge .entry)) e 0) j (edgeAt (now (gs .entry)) (now (ge .entry)) (now (gn .entry)) e)) at (now (from .entry)) (now (to .entry)) (now (via .entry)) (now (from .exit)) (now (to .exit)) (now (via .exit)) r ⌝ }
+    requires { ⌜ EdgeRoom l (now flat) (now gs) (now ge) (now gn)
+        (now s) e j number (now from) (now to) (now via) at ⌝ }
+    ensures { λ r.
+        ⌜ EdgesFilled l (now (flat .entry)) (now (gs .entry)) (now (ge .entry)) (now (gn .entry)) (now (s .entry))
+        (λ L G. edgeNow l (now (flat .entry)) (now (s .entry)) L (getD (now (ge .entry)) e 0)
+        j (edgeAt (now (gs .entry)) (now (ge .entry)) (now (gn .entry)) e))
+        at (now (from .entry)) (now (to .entry)) (now (via .entry)) (now (from .exit)) (now (to .exit))
+        (now (via .exit)) r ⌝ }
 {
     let v = shown_start(l, flat, gs, ge, gn, s, e, j);
     if v == 0 {
@@ -60,7 +67,10 @@ fn fill_edges(
 ) -> usize
     requires { ⌜ EdgesRoom l (now flat) (now gs) (now ge) (now gn) (now s) c j (now from) (now to) (now via) k ⌝ }
     requires { ⌜ number ≡ numberNow l (now s) c j ⌝ }
-    ensures { λ r. ⌜ EdgesFilled l (now (flat .entry)) (now (gs .entry)) (now (ge .entry)) (now (gn .entry)) (now (s .entry)) (λ L G. edgesNow l (now (flat .entry)) (now (s .entry)) L G (slotAt c j)) k (now (from .entry)) (now (to .entry)) (now (via .entry)) (now (from .exit)) (now (to .exit)) (now (via .exit)) r ⌝ }
+    ensures { λ r.
+        ⌜ EdgesFilled l (now (flat .entry)) (now (gs .entry)) (now (ge .entry)) (now (gn .entry)) (now (s .entry))
+        (λ L G. edgesNow l (now (flat .entry)) (now (s .entry)) L G (slotAt c j)) k (now (from .entry))
+        (now (to .entry)) (now (via .entry)) (now (from .exit)) (now (to .exit)) (now (via .exit)) r ⌝ }
 {
     let next = l.into + l.copies;
     let mut at = k;
@@ -91,8 +101,13 @@ fn fill_slot(
     k: usize,
 ) -> usize
     requires { ⌜ (c < l .copies) × (j < slots (boundsNow l (now s)) c) ⌝ }
-    requires { ⌜ SlotsRoom l (now flat) (now nodes) (now gs) (now ge) (now gn) (now s) (ifShown l (now s) c j) (numberNow l (now s) c j) (now room) (now from) (now to) (now via) k ⌝ }
-    ensures { λ r. ⌜ SlotsFilled l (now (flat .entry)) (now (nodes .entry)) (now (gs .entry)) (now (ge .entry)) (now (gn .entry)) (now (s .entry)) (ifShown l (now (s .entry)) c j) (numberNow l (now (s .entry)) c j) (now (room .entry)) (now (from .entry)) (now (to .entry)) (now (via .entry)) (now (room .exit)) (now (from .exit)) (now (to .exit)) (now (via .exit)) k r ⌝ }
+    requires { ⌜ SlotsRoom l (now flat) (now nodes) (now gs) (now ge) (now gn) (now s)
+        (ifShown l (now s) c j) (numberNow l (now s) c j) (now room) (now from) (now to) (now via) k ⌝ }
+    ensures { λ r.
+        ⌜ SlotsFilled l (now (flat .entry)) (now (nodes .entry)) (now (gs .entry)) (now (ge .entry))
+        (now (gn .entry)) (now (s .entry)) (ifShown l (now (s .entry)) c j)
+        (numberNow l (now (s .entry)) c j) (now (room .entry)) (now (from .entry)) (now (to .entry))
+        (now (via .entry)) (now (room .exit)) (now (from .exit)) (now (to .exit)) (now (via .exit)) k r ⌝ }
 {
     let v = number_at(s, slot_place(l, s, c, j));
     if v < 2 {
@@ -121,8 +136,15 @@ fn fill_copy(
     k: usize,
 ) -> usize
     requires { ⌜ c < l .copies ⌝ }
-    requires { ⌜ SlotsRoom l (now flat) (now nodes) (now gs) (now ge) (now gn) (now s) (shownIn (shownNow l (now s)) c (slots (boundsNow l (now s)) c)) (numberNow l (now s) c 0) (now room) (now from) (now to) (now via) k ⌝ }
-    ensures { λ r. ⌜ SlotsFilled l (now (flat .entry)) (now (nodes .entry)) (now (gs .entry)) (now (ge .entry)) (now (gn .entry)) (now (s .entry)) (shownIn (shownNow l (now (s .entry))) c (slots (boundsNow l (now (s .entry))) c)) (numberNow l (now (s .entry)) c 0) (now (room .entry)) (now (from .entry)) (now (to .entry)) (now (via .entry)) (now (room .exit)) (now (from .exit)) (now (to .exit)) (now (via .exit)) k r ⌝ }
+    requires { ⌜ SlotsRoom l (now flat) (now nodes) (now gs) (now ge) (now gn)
+        (now s) (shownIn (shownNow l (now s)) c (slots (boundsNow l (now s)) c))
+        (numberNow l (now s) c 0) (now room) (now from) (now to) (now via) k ⌝ }
+    ensures { λ r.
+        let shown = shownIn (shownNow l (now (s .entry))) c (slots (boundsNow l (now (s .entry))) c) in
+        ⌜ SlotsFilled l (now (flat .entry)) (now (nodes .entry)) (now (gs .entry)) (now (ge .entry))
+        (now (gn .entry)) (now (s .entry)) shown (numberNow l (now (s .entry)) c 0)
+        (now (room .entry)) (now (from .entry)) (now (to .entry)) (now (via .entry))
+        (now (room .exit)) (now (from .exit)) (now (to .exit)) (now (via .exit)) k r ⌝ }
 {
     let count = slot_count(l, s, c);
     let mut at = k;
@@ -148,8 +170,13 @@ pub(crate) fn fill_all(
     to: &mut [u32],
     via: &mut [u32],
 )
-    requires { ⌜ SlotsRoom l (now flat) (now nodes) (now gs) (now ge) (now gn) (now s) (shownBelow (boundsNow l (now s)) (shownNow l (now s)) (l .copies)) 0 (now room) (now from) (now to) (now via) 0 ⌝ }
-    ensures { λ r. ⌜ ResultFilled l (now (flat .entry)) (now (nodes .entry)) (now (gs .entry)) (now (ge .entry)) (now (gn .entry)) (now (s .entry)) (now (room .entry)) (now (from .entry)) (now (to .entry)) (now (via .entry)) (now (room .exit)) (now (from .exit)) (now (to .exit)) (now (via .exit)) ⌝ }
+    requires { ⌜ SlotsRoom l (now flat) (now nodes) (now gs) (now ge) (now gn)
+        (now s) (shownBelow (boundsNow l (now s)) (shownNow l (now s)) (l .copies))
+        0 (now room) (now from) (now to) (now via) 0 ⌝ }
+    ensures { λ r.
+        ⌜ ResultFilled l (now (flat .entry)) (now (nodes .entry)) (now (gs .entry)) (now (ge .entry))
+        (now (gn .entry)) (now (s .entry)) (now (room .entry)) (now (from .entry)) (now (to .entry))
+        (now (via .entry)) (now (room .exit)) (now (from .exit)) (now (to .exit)) (now (via .exit)) ⌝ }
 {
     let mut k = 0;
     let mut c = 0;

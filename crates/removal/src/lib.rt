@@ -10,8 +10,9 @@ ghost use lib.ListN.{length};
 ghost use Rattle.timing.specs.Graphs.{design};
 ghost use Rattle.timing.specs.Marks.{pathList};
 ghost use Rattle.timing.specs.Refusals.{_then_};
-ghost use Rattle.timing.specs.Tests.{sameSizes, designSizes, listSizes, designTests, listTests, graphTest};
-ghost use Rattle.timing.specs.Calls.{graphSlices, graphOf, lentRemoval, removeFromDesign, removeFromGraph, graphAnswer, nodesAfter, startsAfter, endsAfter, namesAfter, scratchAfter};
+ghost use Rattle.timing.specs.Tests.{designSizes, listSizes, designTests, listTests, graphTest};
+ghost use Rattle.timing.specs.Calls.{graphSlices, graphOf, graphSizes, lentRemoval, removeFromDesign, removeFromGraph};
+ghost use Rattle.timing.specs.Calls.{graphAnswer, nodesAfter, startsAfter, endsAfter, namesAfter, scratchAfter};
 ghost use Rattle.removal.specs.Numbered.{Numberable, DesignRemoved};
 use crate::numbers::number_places;
 use crate::remove::remove;
@@ -51,7 +52,10 @@ fn list_tests(
     lengths: &[u32],
     others: Verdict,
 ) -> Verdict
-    ensures { λ r. ⌜ r ≡ (designSizes (design n (now (starts .entry)) (now (ends .entry)) (now (delays .entry))) then listSizes (pathList (now (listed .entry)) (now (lengths .entry))) then others then designTests (design n (now (starts .entry)) (now (ends .entry)) (now (delays .entry))) then listTests (design n (now (starts .entry)) (now (ends .entry)) (now (delays .entry))) (pathList (now (listed .entry)) (now (lengths .entry)))) ⌝ }
+    ensures { λ r.
+        let D = design n (now (starts .entry)) (now (ends .entry)) (now (delays .entry)) in
+        let L = pathList (now (listed .entry)) (now (lengths .entry)) in
+        ⌜ r ≡ (designSizes D then listSizes L then others then designTests D then listTests D L) ⌝ }
 {
     let slices = design_sizes(starts, ends, delays);
     let sums = and_list_sizes(slices, listed, lengths);
@@ -75,8 +79,12 @@ fn remove_tested(
     via: &mut [u32],
     scratch: &mut [u32],
 ) -> GraphMade
-    requires { ⌜ Numberable (now starts) (now ends) (now listed) (now lengths) n (length (now starts)) (now from) (now to) (now via) ⌝ }
-    ensures { λ r. ⌜ DesignRemoved (now (starts .entry)) (now (ends .entry)) (now (listed .entry)) (now (lengths .entry)) n r (now (nodes .entry)) (now (from .entry)) (now (to .entry)) (now (via .entry)) (now (scratch .entry)) (now (nodes .exit)) (now (from .exit)) (now (to .exit)) (now (via .exit)) (now (scratch .exit)) ⌝ }
+    requires { ⌜ Numberable (now starts) (now ends) (now listed) (now lengths)
+        n (length (now starts)) (now from) (now to) (now via) ⌝ }
+    ensures { λ r.
+        ⌜ DesignRemoved (now (starts .entry)) (now (ends .entry)) (now (listed .entry)) (now (lengths .entry)) n
+        r (now (nodes .entry)) (now (from .entry)) (now (to .entry)) (now (via .entry)) (now (scratch .entry))
+        (now (nodes .exit)) (now (from .exit)) (now (to .exit)) (now (via .exit)) (now (scratch .exit)) ⌝ }
 {
     let m = starts.len();
     let mut numbers = [0u32; 4096];
@@ -113,12 +121,17 @@ pub fn remove_from_design(
     via: &mut [u32],
     scratch: &mut [u32],
 ) -> GraphMade
-    ensures { λ r. ⌜ r ≡ graphAnswer (removeFromDesign (design n (now (starts .entry)) (now (ends .entry)) (now (delays .entry))) (lentRemoval (now (listed .entry)) (now (lengths .entry)) (now (nodes .entry)) (now (from .entry)) (now (to .entry)) (now (via .entry)) (now (scratch .entry)))) ⌝ }
-    ensures { λ r. ⌜ now (nodes .exit) ≡ nodesAfter (removeFromDesign (design n (now (starts .entry)) (now (ends .entry)) (now (delays .entry))) (lentRemoval (now (listed .entry)) (now (lengths .entry)) (now (nodes .entry)) (now (from .entry)) (now (to .entry)) (now (via .entry)) (now (scratch .entry)))) (now (nodes .entry)) ⌝ }
-    ensures { λ r. ⌜ now (from .exit) ≡ startsAfter (removeFromDesign (design n (now (starts .entry)) (now (ends .entry)) (now (delays .entry))) (lentRemoval (now (listed .entry)) (now (lengths .entry)) (now (nodes .entry)) (now (from .entry)) (now (to .entry)) (now (via .entry)) (now (scratch .entry)))) (now (from .entry)) ⌝ }
-    ensures { λ r. ⌜ now (to .exit) ≡ endsAfter (removeFromDesign (design n (now (starts .entry)) (now (ends .entry)) (now (delays .entry))) (lentRemoval (now (listed .entry)) (now (lengths .entry)) (now (nodes .entry)) (now (from .entry)) (now (to .entry)) (now (via .entry)) (now (scratch .entry)))) (now (to .entry)) ⌝ }
-    ensures { λ r. ⌜ now (via .exit) ≡ namesAfter (removeFromDesign (design n (now (starts .entry)) (now (ends .entry)) (now (delays .entry))) (lentRemoval (now (listed .entry)) (now (lengths .entry)) (now (nodes .entry)) (now (from .entry)) (now (to .entry)) (now (via .entry)) (now (scratch .entry)))) (now (via .entry)) ⌝ }
-    ensures { λ r. ⌜ now (scratch .exit) ≡ scratchAfter (removeFromDesign (design n (now (starts .entry)) (now (ends .entry)) (now (delays .entry))) (lentRemoval (now (listed .entry)) (now (lengths .entry)) (now (nodes .entry)) (now (from .entry)) (now (to .entry)) (now (via .entry)) (now (scratch .entry)))) (now (scratch .entry)) ⌝ }
+    ensures { λ r.
+        let D = design n (now (starts .entry)) (now (ends .entry)) (now (delays .entry)) in
+        let lent = lentRemoval (now (listed .entry)) (now (lengths .entry)) (now (nodes .entry))
+        (now (from .entry)) (now (to .entry)) (now (via .entry)) (now (scratch .entry)) in
+        let o = removeFromDesign D lent in
+        ⌜ (r ≡ graphAnswer o)
+        × (now (nodes .exit) ≡ nodesAfter o (now (nodes .entry)))
+        × (now (from .exit) ≡ startsAfter o (now (from .entry)))
+        × (now (to .exit) ≡ endsAfter o (now (to .entry)))
+        × (now (via .exit) ≡ namesAfter o (now (via .entry)))
+        × (now (scratch .exit) ≡ scratchAfter o (now (scratch .entry))) ⌝ }
 {
     let room = same_sizes(from.len(), to.len(), via.len());
     let verdict = list_tests(n, starts, ends, delays, listed, lengths, room);
@@ -153,7 +166,12 @@ fn graph_tests(
     gn: &[u32],
     room: Verdict,
 ) -> Verdict
-    ensures { λ r. ⌜ r ≡ (designSizes (design n (now (starts .entry)) (now (ends .entry)) (now (delays .entry))) then listSizes (pathList (now (listed .entry)) (now (lengths .entry))) then sameSizes (length (now (gs .entry))) (length (now (ge .entry))) (length (now (gn .entry))) then room then designTests (design n (now (starts .entry)) (now (ends .entry)) (now (delays .entry))) then listTests (design n (now (starts .entry)) (now (ends .entry)) (now (delays .entry))) (pathList (now (listed .entry)) (now (lengths .entry))) then graphTest (design n (now (starts .entry)) (now (ends .entry)) (now (delays .entry))) (graphOf (graphSlices (now (copies .entry)) (now (gs .entry)) (now (ge .entry)) (now (gn .entry))))) ⌝ }
+    ensures { λ r.
+        let D = design n (now (starts .entry)) (now (ends .entry)) (now (delays .entry)) in
+        let L = pathList (now (listed .entry)) (now (lengths .entry)) in
+        let S = graphSlices (now (copies .entry)) (now (gs .entry)) (now (ge .entry)) (now (gn .entry)) in
+        ⌜ r ≡ (designSizes D then listSizes L then graphSizes S then room
+        then designTests D then listTests D L then graphTest D (graphOf S)) ⌝ }
 {
     let earlier = same_sizes(gs.len(), ge.len(), gn.len());
     let others = then(earlier, room);
@@ -180,12 +198,18 @@ pub fn remove_from_graph(
     via: &mut [u32],
     scratch: &mut [u32],
 ) -> GraphMade
-    ensures { λ r. ⌜ r ≡ graphAnswer (removeFromGraph (design n (now (starts .entry)) (now (ends .entry)) (now (delays .entry))) (graphSlices (now (copies .entry)) (now (gs .entry)) (now (ge .entry)) (now (gn .entry))) (lentRemoval (now (listed .entry)) (now (lengths .entry)) (now (nodes .entry)) (now (from .entry)) (now (to .entry)) (now (via .entry)) (now (scratch .entry)))) ⌝ }
-    ensures { λ r. ⌜ now (nodes .exit) ≡ nodesAfter (removeFromGraph (design n (now (starts .entry)) (now (ends .entry)) (now (delays .entry))) (graphSlices (now (copies .entry)) (now (gs .entry)) (now (ge .entry)) (now (gn .entry))) (lentRemoval (now (listed .entry)) (now (lengths .entry)) (now (nodes .entry)) (now (from .entry)) (now (to .entry)) (now (via .entry)) (now (scratch .entry)))) (now (nodes .entry)) ⌝ }
-    ensures { λ r. ⌜ now (from .exit) ≡ startsAfter (removeFromGraph (design n (now (starts .entry)) (now (ends .entry)) (now (delays .entry))) (graphSlices (now (copies .entry)) (now (gs .entry)) (now (ge .entry)) (now (gn .entry))) (lentRemoval (now (listed .entry)) (now (lengths .entry)) (now (nodes .entry)) (now (from .entry)) (now (to .entry)) (now (via .entry)) (now (scratch .entry)))) (now (from .entry)) ⌝ }
-    ensures { λ r. ⌜ now (to .exit) ≡ endsAfter (removeFromGraph (design n (now (starts .entry)) (now (ends .entry)) (now (delays .entry))) (graphSlices (now (copies .entry)) (now (gs .entry)) (now (ge .entry)) (now (gn .entry))) (lentRemoval (now (listed .entry)) (now (lengths .entry)) (now (nodes .entry)) (now (from .entry)) (now (to .entry)) (now (via .entry)) (now (scratch .entry)))) (now (to .entry)) ⌝ }
-    ensures { λ r. ⌜ now (via .exit) ≡ namesAfter (removeFromGraph (design n (now (starts .entry)) (now (ends .entry)) (now (delays .entry))) (graphSlices (now (copies .entry)) (now (gs .entry)) (now (ge .entry)) (now (gn .entry))) (lentRemoval (now (listed .entry)) (now (lengths .entry)) (now (nodes .entry)) (now (from .entry)) (now (to .entry)) (now (via .entry)) (now (scratch .entry)))) (now (via .entry)) ⌝ }
-    ensures { λ r. ⌜ now (scratch .exit) ≡ scratchAfter (removeFromGraph (design n (now (starts .entry)) (now (ends .entry)) (now (delays .entry))) (graphSlices (now (copies .entry)) (now (gs .entry)) (now (ge .entry)) (now (gn .entry))) (lentRemoval (now (listed .entry)) (now (lengths .entry)) (now (nodes .entry)) (now (from .entry)) (now (to .entry)) (now (via .entry)) (now (scratch .entry)))) (now (scratch .entry)) ⌝ }
+    ensures { λ r.
+        let D = design n (now (starts .entry)) (now (ends .entry)) (now (delays .entry)) in
+        let S = graphSlices (now (copies .entry)) (now (gs .entry)) (now (ge .entry)) (now (gn .entry)) in
+        let lent = lentRemoval (now (listed .entry)) (now (lengths .entry)) (now (nodes .entry))
+        (now (from .entry)) (now (to .entry)) (now (via .entry)) (now (scratch .entry)) in
+        let o = removeFromGraph D S lent in
+        ⌜ (r ≡ graphAnswer o)
+        × (now (nodes .exit) ≡ nodesAfter o (now (nodes .entry)))
+        × (now (from .exit) ≡ startsAfter o (now (from .entry)))
+        × (now (to .exit) ≡ endsAfter o (now (to .entry)))
+        × (now (via .exit) ≡ namesAfter o (now (via .entry)))
+        × (now (scratch .exit) ≡ scratchAfter o (now (scratch .entry))) ⌝ }
 {
     let room = same_sizes(from.len(), to.len(), via.len());
     let verdict = graph_tests(

@@ -39,7 +39,9 @@ fn flag_at(names: &[u32], k: usize) -> u32
 // Stores a word for each edge of the graph: 0 only if the edge that it names is not listed.
 fn name_with(names: &mut [u32], flat: &[u32], gn: &[u32], s: &mut [u32], base: usize)
     requires { ⌜ base + length (now gn) ≤ length (now s) ⌝ }
-    ensures { λ r. ⌜ Named (now (flat .entry)) (now (gn .entry)) (now (s .entry)) (now (s .exit)) base (length (now (gn .entry))) ⌝ }
+    ensures { λ r.
+        ⌜ Named (now (flat .entry)) (now (gn .entry)) (now (s .entry))
+        (now (s .exit)) base (length (now (gn .entry))) ⌝ }
 {
     flag_listed(names, flat);
     let mut e = 0;
@@ -53,7 +55,9 @@ fn name_with(names: &mut [u32], flat: &[u32], gn: &[u32], s: &mut [u32], base: u
 // The same, with flags for as many edges as a design has at most.
 fn name_edges(flat: &[u32], gn: &[u32], s: &mut [u32], base: usize)
     requires { ⌜ base + length (now gn) ≤ length (now s) ⌝ }
-    ensures { λ r. ⌜ Named (now (flat .entry)) (now (gn .entry)) (now (s .entry)) (now (s .exit)) base (length (now (gn .entry))) ⌝ }
+    ensures { λ r.
+        ⌜ Named (now (flat .entry)) (now (gn .entry)) (now (s .entry))
+        (now (s .exit)) base (length (now (gn .entry))) ⌝ }
 {
     let mut names = [0u32; 16384];
     name_with(&mut names, flat, gn, s, base);
@@ -68,8 +72,11 @@ pub(crate) fn link_named(
     flat: &[u32],
     gn: &[u32],
 )
-    requires { ⌜ Linkable (now s) (now gs) first n × (first + n + length (now gs) + length (now gn) ≤ length (now s)) ⌝ }
-    ensures { λ r. ⌜ LinkedNamed (now (gs .entry)) (now (flat .entry)) (now (gn .entry)) (now (s .entry)) (now (s .exit)) first n ⌝ }
+    requires { ⌜ Linkable (now s) (now gs) first n
+        × (first + n + length (now gs) + length (now gn) ≤ length (now s)) ⌝ }
+    ensures { λ r.
+        ⌜ LinkedNamed (now (gs .entry)) (now (flat .entry))
+        (now (gn .entry)) (now (s .entry)) (now (s .exit)) first n ⌝ }
 {
     link_edges(s, first, n, gs);
     name_edges(flat, gn, s, first + n + gs.len());

@@ -42,7 +42,10 @@ fn search(
     s: &mut [u32],
 ) -> Finding
     requires { ⌜ WorkableIn (now starts) (now flat) (now lengths) (now nodes) (now gs) (now ge) (now gn) (now s) ⌝ }
-    ensures { λ r. ⌜ Found (now (starts .entry)) (now (flat .entry)) (now (lengths .entry)) (now (nodes .entry)) (now (gs .entry)) (now (ge .entry)) (now (gn .entry)) (now (s .entry)) (now (s .exit)) (r .layout) (r .counts .copies) (r .counts .edges) ⌝ }
+    ensures { λ r.
+        ⌜ Found (now (starts .entry)) (now (flat .entry)) (now (lengths .entry))
+        (now (nodes .entry)) (now (gs .entry)) (now (ge .entry)) (now (gn .entry))
+        (now (s .entry)) (now (s .exit)) (r .layout) (r .counts .copies) (r .counts .edges) ⌝ }
 {
     let layout = build(starts, flat, lengths, nodes, gs, ge, gn, s);
     reach_all(layout, flat, gs, ge, gn, s);
@@ -58,7 +61,8 @@ fn smaller(a: usize, b: usize) -> usize
 
 // 33 and 34, from the counts of the result and the lent lengths.
 fn room_tests(copies: usize, edges: usize, nodes: usize, starts: usize) -> Verdict
-    ensures { λ r. ⌜ r ≡ (passedIf 33 (leb copies (min nodes 16384)) then passedIf 34 (leb edges (min starts 65536))) ⌝ }
+    ensures { λ r.
+        ⌜ r ≡ (passedIf 33 (leb copies (min nodes 16384)) then passedIf 34 (leb edges (min starts 65536))) ⌝ }
 {
     if smaller(nodes, MAX_COPIES) < copies {
         return unless(33, false);
@@ -81,8 +85,12 @@ fn write_result(
     to: &mut [u32],
     via: &mut [u32],
 ) -> GraphMade
-    requires { ⌜ AllFound l (now flat) (now nodes) (now gs) (now ge) (now gn) (now s) (counts .copies) (counts .edges) × SameRooms (now from) (now to) (now via) ⌝ }
-    ensures { λ r. ⌜ RoomAnswered l (now (flat .entry)) (now (nodes .entry)) (now (gs .entry)) (now (ge .entry)) (now (gn .entry)) (now (s .entry)) r (now (room .entry)) (now (from .entry)) (now (to .entry)) (now (via .entry)) (now (room .exit)) (now (from .exit)) (now (to .exit)) (now (via .exit)) ⌝ }
+    requires { ⌜ AllFound l (now flat) (now nodes) (now gs) (now ge) (now gn) (now s) (counts .copies) (counts .edges)
+        × SameRooms (now from) (now to) (now via) ⌝ }
+    ensures { λ r.
+        ⌜ RoomAnswered l (now (flat .entry)) (now (nodes .entry)) (now (gs .entry)) (now (ge .entry))
+        (now (gn .entry)) (now (s .entry)) r (now (room .entry)) (now (from .entry)) (now (to .entry))
+        (now (via .entry)) (now (room .exit)) (now (from .exit)) (now (to .exit)) (now (via .exit)) ⌝ }
 {
     let verdict = room_tests(counts.copies, counts.edges, room.len(), from.len());
     if let Verdict::Refused(r) = verdict {
@@ -111,8 +119,13 @@ pub(crate) fn remove(
     via: &mut [u32],
     s: &mut [u32],
 ) -> GraphMade
-    requires { ⌜ Workable (now starts) (now flat) (now lengths) (now nodes) (now gs) (now ge) (now gn) × SameRooms (now from) (now to) (now via) ⌝ }
-    ensures { λ r. ⌜ AllRemoved (now (starts .entry)) (now (flat .entry)) (now (lengths .entry)) (now (nodes .entry)) (now (gs .entry)) (now (ge .entry)) (now (gn .entry)) r (now (room .entry)) (now (from .entry)) (now (to .entry)) (now (via .entry)) (now (s .entry)) (now (room .exit)) (now (from .exit)) (now (to .exit)) (now (via .exit)) (now (s .exit)) ⌝ }
+    requires { ⌜ Workable (now starts) (now flat) (now lengths) (now nodes) (now gs) (now ge) (now gn)
+        × SameRooms (now from) (now to) (now via) ⌝ }
+    ensures { λ r.
+        ⌜ AllRemoved (now (starts .entry)) (now (flat .entry)) (now (lengths .entry))
+        (now (nodes .entry)) (now (gs .entry)) (now (ge .entry)) (now (gn .entry)) r
+        (now (room .entry)) (now (from .entry)) (now (to .entry)) (now (via .entry)) (now (s .entry))
+        (now (room .exit)) (now (from .exit)) (now (to .exit)) (now (via .exit)) (now (s .exit)) ⌝ }
 {
     let candidates = count_candidates(starts, flat, lengths, nodes);
     if scratch_fits(s.len(), candidates, flat.len(), gs.len()) {

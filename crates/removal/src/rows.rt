@@ -80,8 +80,12 @@ fn step_listed(
     e: usize,
     j: usize,
 ) -> Step
-    requires { ⌜ Ready l (now flat) (now gs) (now ge) (now gn) (now s) × (e < l .edges) × (j < slots (boundsIn l (take (l .slots) (now s))) (getD (now ge) e 0)) ⌝ }
-    ensures { λ r. ⌜ StepAlong l (now (flat .entry)) (now (gs .entry)) (now (ge .entry)) (now (gn .entry)) (take (l .slots) (now (s .entry))) e j r ⌝ }
+    requires { ⌜ Ready l (now flat) (now gs) (now ge) (now gn) (now s)
+        × (e < l .edges)
+        × (j < slots (boundsIn l (take (l .slots) (now s))) (getD (now ge) e 0)) ⌝ }
+    ensures { λ r.
+        ⌜ StepAlong l (now (flat .entry)) (now (gs .entry)) (now (ge .entry))
+        (now (gn .entry)) (take (l .slots) (now (s .entry))) e j r ⌝ }
 {
     let a = number_at(gs, e) as usize;
     let c = number_at(ge, e) as usize;
@@ -118,8 +122,12 @@ pub(crate) fn step_along(
     e: usize,
     j: usize,
 ) -> Step
-    requires { ⌜ Ready l (now flat) (now gs) (now ge) (now gn) (now s) × (e < l .edges) × (j < slots (boundsIn l (take (l .slots) (now s))) (getD (now ge) e 0)) ⌝ }
-    ensures { λ r. ⌜ StepAlong l (now (flat .entry)) (now (gs .entry)) (now (ge .entry)) (now (gn .entry)) (take (l .slots) (now (s .entry))) e j r ⌝ }
+    requires { ⌜ Ready l (now flat) (now gs) (now ge) (now gn) (now s)
+        × (e < l .edges)
+        × (j < slots (boundsIn l (take (l .slots) (now s))) (getD (now ge) e 0)) ⌝ }
+    ensures { λ r.
+        ⌜ StepAlong l (now (flat .entry)) (now (gs .entry)) (now (ge .entry))
+        (now (gn .entry)) (take (l .slots) (now (s .entry))) e j r ⌝ }
 {
     if number_at(s, l.out + l.copies + l.edges + e) == 0 {
         return Step::Live(0);
@@ -147,8 +155,14 @@ fn push_edge(
     e: usize,
     j: usize,
 )
-    requires { ⌜ Ready l (now flat) (now gs) (now ge) (now gn) (now s) × (e < l .edges) × (j < slots (boundsIn l (take (l .slots) (now s))) (getD (now ge) e 0)) × (0 < flagIn l (now s) (getD (now ge) e 0) j) ⌝ }
-    ensures { λ r. ⌜ Marking l (now (flat .entry)) (now (gs .entry)) (now (ge .entry)) (now (gn .entry)) (take (l .slots) (now (s .entry))) (now (s .entry)) (now (s .exit)) (getD (now (ge .entry)) e 0) (FromSlot e j) ⌝ }
+    requires { ⌜ Ready l (now flat) (now gs) (now ge) (now gn) (now s)
+        × (e < l .edges)
+        × (j < slots (boundsIn l (take (l .slots) (now s))) (getD (now ge) e 0))
+        × (0 < flagIn l (now s) (getD (now ge) e 0) j) ⌝ }
+    ensures { λ r.
+        ⌜ Marking l (now (flat .entry)) (now (gs .entry)) (now (ge .entry))
+        (now (gn .entry)) (take (l .slots) (now (s .entry))) (now (s .entry))
+        (now (s .exit)) (getD (now (ge .entry)) e 0) (FromSlot e j) ⌝ }
 {
     let step = step_along(l, flat, gs, ge, gn, s, e, j);
     if let Step::Live(r) = step {
@@ -168,8 +182,14 @@ fn push_edges(
     c: usize,
     j: usize,
 )
-    requires { ⌜ Ready l (now flat) (now gs) (now ge) (now gn) (now s) × (c < l .copies) × (j < slots (boundsIn l (take (l .slots) (now s))) c) × (0 < flagIn l (now s) c j) ⌝ }
-    ensures { λ r. ⌜ Marking l (now (flat .entry)) (now (gs .entry)) (now (ge .entry)) (now (gn .entry)) (take (l .slots) (now (s .entry))) (now (s .entry)) (now (s .exit)) c (FromList (edgesAt (now (ge .entry)) c (l .edges) 0) j) ⌝ }
+    requires { ⌜ Ready l (now flat) (now gs) (now ge) (now gn) (now s)
+        × (c < l .copies)
+        × (j < slots (boundsIn l (take (l .slots) (now s))) c)
+        × (0 < flagIn l (now s) c j) ⌝ }
+    ensures { λ r.
+        ⌜ Marking l (now (flat .entry)) (now (gs .entry)) (now (ge .entry))
+        (now (gn .entry)) (take (l .slots) (now (s .entry))) (now (s .entry))
+        (now (s .exit)) c (FromList (edgesAt (now (ge .entry)) c (l .edges) 0) j) ⌝ }
 {
     let mut h = number_at(s, l.into + c) as usize;
     while h != 0 {
@@ -191,8 +211,13 @@ fn push_slot(
     c: usize,
     j: usize,
 )
-    requires { ⌜ Ready l (now flat) (now gs) (now ge) (now gn) (now s) × (c < l .copies) × (j < slots (boundsIn l (take (l .slots) (now s))) c) ⌝ }
-    ensures { λ r. ⌜ Marking l (now (flat .entry)) (now (gs .entry)) (now (ge .entry)) (now (gn .entry)) (take (l .slots) (now (s .entry))) (now (s .entry)) (now (s .exit)) c (FromList (edgesAt (now (ge .entry)) c (l .edges) 0) j) ⌝ }
+    requires { ⌜ Ready l (now flat) (now gs) (now ge) (now gn) (now s)
+        × (c < l .copies)
+        × (j < slots (boundsIn l (take (l .slots) (now s))) c) ⌝ }
+    ensures { λ r.
+        ⌜ Marking l (now (flat .entry)) (now (gs .entry)) (now (ge .entry))
+        (now (gn .entry)) (take (l .slots) (now (s .entry))) (now (s .entry))
+        (now (s .exit)) c (FromList (edgesAt (now (ge .entry)) c (l .edges) 0) j) ⌝ }
 {
     let at = slot_place(l, s, c, j);
     if number_at(s, at) == 0 {
@@ -204,7 +229,10 @@ fn push_slot(
 // Marks what the slots of copy c reach.
 fn push_copy(l: Layout, flat: &[u32], gs: &[u32], ge: &[u32], gn: &[u32], s: &mut [u32], c: usize)
     requires { ⌜ Ready l (now flat) (now gs) (now ge) (now gn) (now s) × (c < l .copies) ⌝ }
-    ensures { λ r. ⌜ Marking l (now (flat .entry)) (now (gs .entry)) (now (ge .entry)) (now (gn .entry)) (take (l .slots) (now (s .entry))) (now (s .entry)) (now (s .exit)) c (FromAll (edgesAt (now (ge .entry)) c (l .edges) 0)) ⌝ }
+    ensures { λ r.
+        ⌜ Marking l (now (flat .entry)) (now (gs .entry)) (now (ge .entry))
+        (now (gn .entry)) (take (l .slots) (now (s .entry))) (now (s .entry))
+        (now (s .exit)) c (FromAll (edgesAt (now (ge .entry)) c (l .edges) 0)) ⌝ }
 {
     let count = slot_count(l, s, c);
     let mut j = 0;
@@ -228,7 +256,9 @@ fn mark_end(l: Layout, s: &mut [u32], c: usize)
 // copies to higher ones, so all slots of a copy that are reached are marked when its turn comes.
 pub(crate) fn reach_all(l: Layout, flat: &[u32], gs: &[u32], ge: &[u32], gn: &[u32], s: &mut [u32])
     requires { ⌜ Ready l (now flat) (now gs) (now ge) (now gn) (now s) × AllZero l (take (l .slots) (now s)) (now s) ⌝ }
-    ensures { λ r. ⌜ RowsReached l (now (flat .entry)) (now (gs .entry)) (now (ge .entry)) (now (gn .entry)) (take (l .slots) (now (s .entry))) (now (s .entry)) (now (s .exit)) 0 ⌝ }
+    ensures { λ r.
+        ⌜ RowsReached l (now (flat .entry)) (now (gs .entry)) (now (ge .entry)) (now (gn .entry))
+        (take (l .slots) (now (s .entry))) (now (s .entry)) (now (s .exit)) 0 ⌝ }
 {
     let mut c = l.copies;
     while 0 < c {

@@ -30,7 +30,9 @@ pub(crate) fn shown_start(
 ) -> u32
     requires { ⌜ Ready l (now flat) (now gs) (now ge) (now gn) (now s) ⌝ }
     requires { ⌜ (e < l .edges) × (j < slots (boundsIn l (take (l .slots) (now s))) (getD (now ge) e 0)) ⌝ }
-    ensures { λ r. ⌜ StartMeets l (now (flat .entry)) (now (gs .entry)) (now (ge .entry)) (now (gn .entry)) (now (s .entry)) e j r ⌝ }
+    ensures { λ r.
+        ⌜ StartMeets l (now (flat .entry)) (now (gs .entry))
+        (now (ge .entry)) (now (gn .entry)) (now (s .entry)) e j r ⌝ }
 {
     let step = step_along(l, flat, gs, ge, gn, s, e, j);
     match step {
@@ -56,7 +58,9 @@ fn shown_edges(
 ) -> usize
     requires { ⌜ Ready l (now flat) (now gs) (now ge) (now gn) (now s) ⌝ }
     requires { ⌜ (c < l .copies) × (j < slots (boundsIn l (take (l .slots) (now s))) c) ⌝ }
-    ensures { λ r. ⌜ EdgesMeet l (now (flat .entry)) (now (gs .entry)) (now (ge .entry)) (now (gn .entry)) (now (s .entry)) c j r ⌝ }
+    ensures { λ r.
+        ⌜ EdgesMeet l (now (flat .entry)) (now (gs .entry))
+        (now (ge .entry)) (now (gn .entry)) (now (s .entry)) c j r ⌝ }
 {
     let first = l.into + c;
     let next = l.into + l.copies;
@@ -87,7 +91,9 @@ fn show_slot(
 ) -> Counts
     requires { ⌜ Ready l (now flat) (now gs) (now ge) (now gn) (now s) ⌝ }
     requires { ⌜ SlotRoom l (now s) c j (counts .copies) (counts .edges) ⌝ }
-    ensures { λ r. ⌜ SlotShown l (now (flat .entry)) (now (gs .entry)) (now (ge .entry)) (now (gn .entry)) (now (s .entry)) (now (s .exit)) c j (counts .copies) (counts .edges) (r .copies) (r .edges) ⌝ }
+    ensures { λ r.
+        ⌜ SlotShown l (now (flat .entry)) (now (gs .entry)) (now (ge .entry)) (now (gn .entry))
+        (now (s .entry)) (now (s .exit)) c j (counts .copies) (counts .edges) (r .copies) (r .edges) ⌝ }
 {
     let at = slot_place(l, s, c, j);
     if s[at] == 0 {
@@ -119,8 +125,12 @@ fn show_copy(
     counts: Counts,
 ) -> Counts
     requires { ⌜ Ready l (now flat) (now gs) (now ge) (now gn) (now s) ⌝ }
-    requires { ⌜ (c < l .copies) × (counts .copies ≤ slotBase (boundsIn l (take (l .slots) (now s))) c) × (counts .edges ≤ counts .copies * 65536) ⌝ }
-    ensures { λ r. ⌜ PassedTo l (now (flat .entry)) (now (gs .entry)) (now (ge .entry)) (now (gn .entry)) (now (s .entry)) (now (s .exit)) c (counts .copies) (counts .edges) (c + 1) 0 (r .copies) (r .edges) ⌝ }
+    requires { ⌜ (c < l .copies)
+        × (counts .copies ≤ slotBase (boundsIn l (take (l .slots) (now s))) c)
+        × (counts .edges ≤ counts .copies * 65536) ⌝ }
+    ensures { λ r.
+        ⌜ PassedTo l (now (flat .entry)) (now (gs .entry)) (now (ge .entry)) (now (gn .entry)) (now (s .entry))
+        (now (s .exit)) c (counts .copies) (counts .edges) (c + 1) 0 (r .copies) (r .edges) ⌝ }
 {
     let count = slot_count(l, s, c);
     let mut so_far = counts;
@@ -142,7 +152,9 @@ pub(crate) fn show_all(
     s: &mut [u32],
 ) -> Counts
     requires { ⌜ Ready l (now flat) (now gs) (now ge) (now gn) (now s) ⌝ }
-    ensures { λ r. ⌜ AllShown l (now (flat .entry)) (now (gs .entry)) (now (ge .entry)) (now (gn .entry)) (now (s .entry)) (now (s .exit)) (r .copies) (r .edges) ⌝ }
+    ensures { λ r.
+        ⌜ AllShown l (now (flat .entry)) (now (gs .entry)) (now (ge .entry))
+        (now (gn .entry)) (now (s .entry)) (now (s .exit)) (r .copies) (r .edges) ⌝ }
 {
     let mut counts = Counts {
         copies: 0,

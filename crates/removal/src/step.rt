@@ -2,7 +2,8 @@
 ghost use mathlib.Core.Path.{_≡_};
 ghost use Prim.Native.Nat.{ℕ, _+_, _-_, _≤_, _<_};
 ghost use lib.ListN.{length, getD};
-ghost use Rattle.removal.specs.Step.{PlaceIn, PlacesIn, PlacesRoom, SpanRoom, following, comesBefore, Halved, PlaceFits, LongestIn, StepMeets, SpanIs};
+ghost use Rattle.removal.specs.Step.{PlaceIn, PlacesIn, PlacesRoom, SpanRoom, following, comesBefore, Halved};
+ghost use Rattle.removal.specs.Step.{PlaceFits, LongestIn, StepMeets, SpanIs};
 ghost use Rattle.removal.specs.Table.{table};
 ghost use Rattle.removal.specs.Tails.{Comparable, LinkRoom, LinkRead, MarkAt, Findable};
 use entries::number_at;
@@ -32,8 +33,12 @@ fn comes_before(
     at: usize,
     len: usize,
 ) -> bool
-    requires { ⌜ PlaceIn (now flat) (now s) order t × Comparable (now flat) (now s) rest rank × MarkAt (now flat) (table (now s) rest (length (now flat))) at len ⌝ }
-    ensures { λ r. ⌜ r ≡ comesBefore (now (flat .entry)) (now (s .entry)) rest order (following (now (flat .entry)) name at len) (len + 1) t ⌝ }
+    requires { ⌜ PlaceIn (now flat) (now s) order t
+        × Comparable (now flat) (now s) rest rank
+        × MarkAt (now flat) (table (now s) rest (length (now flat))) at len ⌝ }
+    ensures { λ r.
+        ⌜ r ≡ comesBefore (now (flat .entry)) (now (s .entry)) rest order
+        (following (now (flat .entry)) name at len) (len + 1) t ⌝ }
 {
     let i = number_at(s, order + t) as usize;
     let n = number_at(s, rest + i) as usize;
@@ -63,7 +68,9 @@ fn first_from(
     at: usize,
     len: usize,
 ) -> usize
-    requires { ⌜ PlacesIn (now flat) (now s) order from to × Comparable (now flat) (now s) rest rank × MarkAt (now flat) (table (now s) rest (length (now flat))) at len ⌝ }
+    requires { ⌜ PlacesIn (now flat) (now s) order from to
+        × Comparable (now flat) (now s) rest rank
+        × MarkAt (now flat) (table (now s) rest (length (now flat))) at len ⌝ }
     ensures { λ r. ⌜ Halved (now (flat .entry)) (now (s .entry)) rest order from to name at len r ⌝ }
 {
     let mut lo = from;
@@ -92,7 +99,9 @@ fn place_fits(
     at: usize,
     len: usize,
 ) -> bool
-    requires { ⌜ PlacesIn (now flat) (now s) order t to × Comparable (now flat) (now s) rest rank × MarkAt (now flat) (table (now s) rest (length (now flat))) at len ⌝ }
+    requires { ⌜ PlacesIn (now flat) (now s) order t to
+        × Comparable (now flat) (now s) rest rank
+        × MarkAt (now flat) (table (now s) rest (length (now flat))) at len ⌝ }
     ensures { λ r. ⌜ PlaceFits (now (flat .entry)) (now (s .entry)) rest order t to name at len r ⌝ }
 {
     if t == to {
@@ -142,8 +151,11 @@ pub(crate) fn longest_fit(
     at: usize,
     len: usize,
 ) -> usize
-    requires { ⌜ PlacesRoom (now flat) (now s) rest order from to at len × Findable (now flat) (now s) rest rank link at len ⌝ }
-    ensures { λ r. ⌜ LongestIn (now (flat .entry)) (now (s .entry)) rest order (following (now (flat .entry)) name at len) from to r ⌝ }
+    requires { ⌜ PlacesRoom (now flat) (now s) rest order from to at len
+        × Findable (now flat) (now s) rest rank link at len ⌝ }
+    ensures { λ r.
+        ⌜ LongestIn (now (flat .entry)) (now (s .entry)) rest order
+        (following (now (flat .entry)) name at len) from to r ⌝ }
 {
     let mut hi = to;
     let mut u = at;
@@ -179,7 +191,8 @@ pub(crate) fn step_back(
     at: usize,
     len: usize,
 ) -> Step
-    requires { ⌜ PlacesRoom (now flat) (now s) rest order low high at len × Findable (now flat) (now s) rest rank link at len ⌝ }
+    requires { ⌜ PlacesRoom (now flat) (now s) rest order low high at len
+        × Findable (now flat) (now s) rest rank link at len ⌝ }
     requires { ⌜ (low ≤ middle) × (middle ≤ high) ⌝ }
     ensures { λ r. ⌜ StepMeets (now (flat .entry)) (now (s .entry)) rest order low middle high name at len r ⌝ }
 {

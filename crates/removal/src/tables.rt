@@ -16,8 +16,14 @@ use crate::ranks::rank_tails;
 
 // The ranks, by the rest table in the scratch.
 fn rank_listed(flat: &[u32], s: &[u32], rest: usize, places: &mut [u32], ranks: &mut [u32])
-    requires { ⌜ (rest + length (now flat) ≤ length (now s)) × Rankable (now flat) (table (now s) rest (length (now flat))) (length (now places)) (length (now ranks)) ⌝ }
-    ensures { λ r. ⌜ Ranked (now (flat .entry)) (table (now (s .entry)) rest (length (now (flat .entry)))) (now (ranks .exit)) × Levels (table (now (s .entry)) rest (length (now (flat .entry)))) (now (places .exit)) (length (now (flat .entry))) (length (now (flat .entry))) ⌝ }
+    requires { let n = length (now flat) in
+        ⌜ (rest + n ≤ length (now s))
+        × Rankable (now flat) (table (now s) rest n) (length (now places)) (length (now ranks)) ⌝ }
+    ensures { λ r.
+        let n = length (now (flat .entry)) in
+        let rests = table (now (s .entry)) rest n in
+        ⌜ Ranked (now (flat .entry)) rests (now (ranks .exit))
+        × Levels rests (now (places .exit)) n n ⌝ }
 {
     let end = rest + flat.len();
     rank_tails(flat, &s[rest..end], places, ranks);
@@ -39,8 +45,14 @@ fn fill_with(
     firsts: &mut [u32],
 )
     requires { ⌜ Orderable (now starts) (now flat) (now lengths) (now s) rest order rank link ⌝ }
-    requires { ⌜ (length (now places) ≡ length (now flat)) × (length (now ranks) ≡ length (now flat)) × (length (now codes) ≡ length (now flat)) × (length (now firsts) ≡ 8193) ⌝ }
-    ensures { λ r. ⌜ Tabulated (now (starts .entry)) (now (flat .entry)) (now (s .entry)) (now (s .exit)) rest order rank link × Firsts (now (starts .entry)) (pathList (now (flat .entry)) (now (lengths .entry))) (table (now (s .exit)) order (length (now (flat .entry)))) (now (firsts .exit)) ⌝ }
+    requires { ⌜ (length (now places) ≡ length (now flat))
+        × (length (now ranks) ≡ length (now flat))
+        × (length (now codes) ≡ length (now flat))
+        × (length (now firsts) ≡ 8193) ⌝ }
+    ensures { λ r.
+        ⌜ Tabulated (now (starts .entry)) (now (flat .entry)) (now (s .entry)) (now (s .exit)) rest order rank link
+        × Firsts (now (starts .entry)) (pathList (now (flat .entry)) (now (lengths .entry)))
+        (table (now (s .exit)) order (length (now (flat .entry)))) (now (firsts .exit)) ⌝ }
 {
     rank_listed(flat, s, rest, places, ranks);
     order_positions(starts, flat, s, rest, order, codes, ranks);
@@ -72,8 +84,12 @@ pub(crate) fn fill_tables(
     link: usize,
     firsts: &mut [u32],
 )
-    requires { ⌜ Orderable (now starts) (now flat) (now lengths) (now s) rest order rank link × (length (now firsts) ≡ 8193) ⌝ }
-    ensures { λ r. ⌜ Tabulated (now (starts .entry)) (now (flat .entry)) (now (s .entry)) (now (s .exit)) rest order rank link × Firsts (now (starts .entry)) (pathList (now (flat .entry)) (now (lengths .entry))) (table (now (s .exit)) order (length (now (flat .entry)))) (now (firsts .exit)) ⌝ }
+    requires { ⌜ Orderable (now starts) (now flat) (now lengths) (now s) rest order rank link
+        × (length (now firsts) ≡ 8193) ⌝ }
+    ensures { λ r.
+        ⌜ Tabulated (now (starts .entry)) (now (flat .entry)) (now (s .entry)) (now (s .exit)) rest order rank link
+        × Firsts (now (starts .entry)) (pathList (now (flat .entry)) (now (lengths .entry)))
+        (table (now (s .exit)) order (length (now (flat .entry)))) (now (firsts .exit)) ⌝ }
 {
     let n = flat.len();
     let mut places = [0u32; 8192];
