@@ -43,28 +43,28 @@ counts-fit copies edges nodes starts e =
     let b = leb→le edges (min starts 65536) (holds (leb edges (min starts 65536)) (unless-passed 34 (leb edges (min starts 65536)) (t .1))) in
     (omega (arith, a), omega (arith, b))
 
-module _ (l : Layout) (flat nodes gs ge gn s room from to via : List ℕ) (copies edges : ℕ) (x : AllFound l flat nodes gs ge gn s copies edges) where
-  tests-are : (D : Design) (L : PathList) (G : Graph) → Tabled D L G l flat gs ge gn (take (l .slots) s) → EdgesInto G (edgesIn G)
-      → countTests copies edges (length room) (length from) ≡ roomTests (roomOf (graphSlices room from to via)) (trueGraph G (pathsOf L))
+module _ (l : Layout) (listed nodes from to via s room-nodes room-from room-to room-via : List ℕ) (copies edges : ℕ) (x : AllFound l listed nodes from to via s copies edges) where
+  tests-are : (D : Design) (L : PathList) (G : Graph) → Tabled D L G l listed from to via (take (l .slots) s) → EdgesInto G (edgesIn G)
+      → countTests copies edges (length room-nodes) (length room-from) ≡ roomTests (roomOf (graphSlices room-nodes room-from room-to room-via)) (trueGraph G (pathsOf L))
   unfolding roomTests
-  tests-are D L G y into = λ i. countTests (x .copies-are D L G y i) (x .edges-are D L G y into i) (length room) (length from)
+  tests-are D L G y into = λ i. countTests (x .copies-are D L G y i) (x .edges-are D L G y into i) (length room-nodes) (length room-from)
 
   -- a refusal changes nothing
-  pub room-refused : (r : Refusal) → countTests copies edges (length room) (length from) ≡ Refused r
-      → RoomAnswered l flat nodes gs ge gn s (NoGraph r) room from to via room from to via
+  pub room-refused : (r : Refusal) → countTests copies edges (length room-nodes) (length room-from) ≡ Refused r
+      → RoomAnswered l listed nodes from to via s (NoGraph r) room-nodes room-from room-to room-via room-nodes room-from room-to room-via
   unfolding RoomAnswered
   room-refused r e D L G y q into =
-      subst (λ (v : Verdict). Answered (outcome v (trueGraph G (pathsOf L))) (NoGraph r) room from to via room from to via) (sym e ∙ tests-are D L G y into)
+      subst (λ (v : Verdict). Answered (outcome v (trueGraph G (pathsOf L))) (NoGraph r) room-nodes room-from room-to room-via room-nodes room-from room-to room-via) (sym e ∙ tests-are D L G y into)
       (record { answer = refl; nodes = refl; starts = refl; ends = refl; names = refl })
 
   -- and else the result is in the room
-  pub room-made : countTests copies edges (length room) (length from) ≡ Passed → (room′ from′ to′ via′ : List ℕ)
-      → ResultFilled l flat nodes gs ge gn s room from to via room′ from′ to′ via′
-      → RoomAnswered l flat nodes gs ge gn s (Counts copies edges) room from to via room′ from′ to′ via′
+  pub room-made : countTests copies edges (length room-nodes) (length room-from) ≡ Passed → (room-nodes′ room-from′ room-to′ room-via′ : List ℕ)
+      → ResultFilled l listed nodes from to via s room-nodes room-from room-to room-via room-nodes′ room-from′ room-to′ room-via′
+      → RoomAnswered l listed nodes from to via s (Counts copies edges) room-nodes room-from room-to room-via room-nodes′ room-from′ room-to′ room-via′
   unfolding RoomAnswered ResultFilled
-  room-made e room′ from′ to′ via′ f D L G y q into =
+  room-made e room-nodes′ room-from′ room-to′ room-via′ f D L G y q into =
       let r = f D L G y q into in
-      subst (λ (v : Verdict). Answered (outcome v (trueGraph G (pathsOf L))) (Counts copies edges) room from to via room′ from′ to′ via′) (sym e ∙ tests-are D L G y into)
+      subst (λ (v : Verdict). Answered (outcome v (trueGraph G (pathsOf L))) (Counts copies edges) room-nodes room-from room-to room-via room-nodes′ room-from′ room-to′ room-via′) (sym e ∙ tests-are D L G y into)
       (record {
         answer = λ i. Counts (x .copies-are D L G y i) (x .edges-are D L G y into i);
         nodes = r .nodes;
@@ -89,63 +89,63 @@ room-scratch R H s = go (leb (length (H .nodes)) (min (R .nodes) 16384)) (leb (l
 
 -- what is made where the scratch is enough
 unfoldable pub SearchRemoved : List ℕ → List ℕ → List ℕ → List ℕ → List ℕ → List ℕ → List ℕ → GraphMade → List ℕ → List ℕ → List ℕ → List ℕ → List ℕ → List ℕ → List ℕ → List ℕ → List ℕ → List ℕ → Type 0
-SearchRemoved starts flat lengths nodes gs ge gn r room from to via s room′ from′ to′ via′ s′ =
-    (D : Design) (L : PathList) (G : Graph) → Worked D L G starts flat lengths nodes gs ge gn → Removed (roomOutcome L G room from to via) r room from to via s room′ from′ to′ via′ s′
+SearchRemoved starts listed lengths nodes from to via r room-nodes room-from room-to room-via s room-nodes′ room-from′ room-to′ room-via′ s′ =
+    (D : Design) (L : PathList) (G : Graph) → Worked D L G starts listed lengths nodes from to via → Removed (roomOutcome L G room-nodes room-from room-to room-via) r room-nodes room-from room-to room-via s room-nodes′ room-from′ room-to′ room-via′ s′
 
-module _ (starts flat lengths nodes gs ge gn room from to via s : List ℕ) where
-  pub search-removed : (l : Layout) (copies edges : ℕ) (t room′ from′ to′ via′ t′ : List ℕ) (r : GraphMade) → Found starts flat lengths nodes gs ge gn s t l copies edges
-      → RoomAnswered l flat nodes gs ge gn t r room from to via room′ from′ to′ via′ → t′ ≡ replicate (length t) 0
-      → SearchRemoved starts flat lengths nodes gs ge gn r room from to via s room′ from′ to′ via′ t′
+module _ (starts listed lengths nodes from to via room-nodes room-from room-to room-via s : List ℕ) where
+  pub search-removed : (l : Layout) (copies edges : ℕ) (t room-nodes′ room-from′ room-to′ room-via′ t′ : List ℕ) (r : GraphMade) → Found starts listed lengths nodes from to via s t l copies edges
+      → RoomAnswered l listed nodes from to via t r room-nodes room-from room-to room-via room-nodes′ room-from′ room-to′ room-via′ → t′ ≡ replicate (length t) 0
+      → SearchRemoved starts listed lengths nodes from to via r room-nodes room-from room-to room-via s room-nodes′ room-from′ room-to′ room-via′ t′
   unfolding RoomAnswered SearchRemoved
-  search-removed l copies edges t room′ from′ to′ via′ t′ r f a z D L G w =
+  search-removed l copies edges t room-nodes′ room-from′ room-to′ room-via′ t′ r f a z D L G w =
       record {
         answered = a D L G (f .tabled D L G (w .given)) (w .given .copies) (w .into);
-        scratch = z ∙ ap (λ (n : ℕ). replicate n 0) (f .size) ∙ zeros s ∙ room-scratch (roomOf (graphSlices room from to via)) (trueGraph G (pathsOf L)) s;
+        scratch = z ∙ ap (λ (n : ℕ). replicate n 0) (f .size) ∙ zeros s ∙ room-scratch (roomOf (graphSlices room-nodes room-from room-to room-via)) (trueGraph G (pathsOf L)) s;
       }
 
 -- 31, from the count of candidates
-module _ (starts flat lengths nodes gs ge gn : List ℕ) where
-  pub work-countable : Workable starts flat lengths nodes gs ge gn → ListCountable starts flat lengths × CopiesCountable nodes
+module _ (starts listed lengths nodes from to via : List ℕ) where
+  pub work-countable : Workable starts listed lengths nodes from to via → ListCountable starts listed lengths × CopiesCountable nodes
   work-countable x =
       let w = x .worked in (
-        list-countable (x .design) starts flat lengths (w .fits) (subst (λ (K : PathList). ListFits (x .design) K) (w .given .list) (w .given .fits)) (w .given .design),
+        list-countable (x .design) starts listed lengths (w .fits) (subst (λ (K : PathList). ListFits (x .design) K) (w .given .list) (w .given .fits)) (w .given .design),
         copies-countable (x .design) (x .graph) nodes (w .fits) (w .given .legal) (w .given .copies) (w .given .few-copies),
       )
 
-  module _ (count : ℕ) (e : count ≡ candidates (ofStarts starts) (ofNodes nodes) (pathList flat lengths)) where
-    count-is : (D : Design) (L : PathList) (G : Graph) → Given D L G starts flat lengths nodes gs ge gn → count ≡ candidates D G L
-    count-is D L G g = e ∙ sym (candidates-slices D L G starts flat lengths nodes (g .design) (g .list) (g .copies))
+  module _ (count : ℕ) (e : count ≡ candidates (ofStarts starts) (ofNodes nodes) (pathList listed lengths)) where
+    count-is : (D : Design) (L : PathList) (G : Graph) → Given D L G starts listed lengths nodes from to via → count ≡ candidates D G L
+    count-is D L G g = e ∙ sym (candidates-slices D L G starts listed lengths nodes (g .design) (g .list) (g .copies))
 
-    pub work-in : (s : List ℕ) → Workable starts flat lengths nodes gs ge gn → T (leb (16 * (count + length flat + length gs)) (length s))
-        → WorkableIn starts flat lengths nodes gs ge gn s
+    pub work-in : (s : List ℕ) → Workable starts listed lengths nodes from to via → T (leb (16 * (count + length listed + length from)) (length s))
+        → WorkableIn starts listed lengths nodes from to via s
     work-in s x t =
-        record { work = x; room = omega (arith, leb→le (16 * (count + length flat + length gs)) (length s) t, count-is (x .design) (x .list) (x .graph) (x .worked .given)) }
+        record { work = x; room = omega (arith, leb→le (16 * (count + length listed + length from)) (length s) t, count-is (x .design) (x .list) (x .graph) (x .worked .given)) }
 
-    scratch-is : (s : List ℕ) (D : Design) (L : PathList) (G : Graph) → Worked D L G starts flat lengths nodes gs ge gn
-        → unless 31 (leb (16 * (count + length flat + length gs)) (length s)) ≡ scratchTest D G L (length s)
+    scratch-is : (s : List ℕ) (D : Design) (L : PathList) (G : Graph) → Worked D L G starts listed lengths nodes from to via
+        → unless 31 (leb (16 * (count + length listed + length from)) (length s)) ≡ scratchTest D G L (length s)
     unfolding scratchTest
     scratch-is s D L G w =
         let g = w .given in
-        λ i. unless 31 (leb (16 * (count-is D L G g i + length (sym (g .list) i .edges) + sym (ap length (g .edges) ∙ length-edges gs ge gn (g .ends) (g .names)) i)) (length s))
+        λ i. unless 31 (leb (16 * (count-is D L G g i + length (sym (g .list) i .edges) + sym (ap length (g .edges) ∙ length-edges from to via (g .ends) (g .names)) i)) (length s))
 
-    module _ (room from to via s : List ℕ) where
-      pub removed-refused : leb (16 * (count + length flat + length gs)) (length s) ≡ false
-          → AllRemoved starts flat lengths nodes gs ge gn (NoGraph (refusal 31 0)) room from to via s room from to via s
+    module _ (room-nodes room-from room-to room-via s : List ℕ) where
+      pub removed-refused : leb (16 * (count + length listed + length from)) (length s) ≡ false
+          → AllRemoved starts listed lengths nodes from to via (NoGraph (refusal 31 0)) room-nodes room-from room-to room-via s room-nodes room-from room-to room-via s
       unfolding AllRemoved
       removed-refused f D L G w =
           subst
           (λ (v : Verdict).
-          Removed (outcome (v then roomTests (roomOf (graphSlices room from to via)) (trueGraph G (pathsOf L))) (trueGraph G (pathsOf L))) (NoGraph (refusal 31 0)) room from to via s room from to via s)
+          Removed (outcome (v then roomTests (roomOf (graphSlices room-nodes room-from room-to room-via)) (trueGraph G (pathsOf L))) (trueGraph G (pathsOf L))) (NoGraph (refusal 31 0)) room-nodes room-from room-to room-via s room-nodes room-from room-to room-via s)
           (ap (unless 31) (sym f) ∙ scratch-is s D L G w)
           (record { answered = record { answer = refl; nodes = refl; starts = refl; ends = refl; names = refl }; scratch = refl })
 
-      pub removed-made : leb (16 * (count + length flat + length gs)) (length s) ≡ true → (r : GraphMade) (room′ from′ to′ via′ s′ : List ℕ)
-          → SearchRemoved starts flat lengths nodes gs ge gn r room from to via s room′ from′ to′ via′ s′
-          → AllRemoved starts flat lengths nodes gs ge gn r room from to via s room′ from′ to′ via′ s′
+      pub removed-made : leb (16 * (count + length listed + length from)) (length s) ≡ true → (r : GraphMade) (room-nodes′ room-from′ room-to′ room-via′ s′ : List ℕ)
+          → SearchRemoved starts listed lengths nodes from to via r room-nodes room-from room-to room-via s room-nodes′ room-from′ room-to′ room-via′ s′
+          → AllRemoved starts listed lengths nodes from to via r room-nodes room-from room-to room-via s room-nodes′ room-from′ room-to′ room-via′ s′
       unfolding AllRemoved SearchRemoved
-      removed-made f r room′ from′ to′ via′ s′ x D L G w =
+      removed-made f r room-nodes′ room-from′ room-to′ room-via′ s′ x D L G w =
           subst
           (λ (v : Verdict).
-          Removed (outcome (v then roomTests (roomOf (graphSlices room from to via)) (trueGraph G (pathsOf L))) (trueGraph G (pathsOf L))) r room from to via s room′ from′ to′ via′ s′)
+          Removed (outcome (v then roomTests (roomOf (graphSlices room-nodes room-from room-to room-via)) (trueGraph G (pathsOf L))) (trueGraph G (pathsOf L))) r room-nodes room-from room-to room-via s room-nodes′ room-from′ room-to′ room-via′ s′)
           (ap (unless 31) (sym f) ∙ scratch-is s D L G w)
           (x D L G w)

@@ -57,33 +57,33 @@ unfolding startsIn
 starts-none starts v = refl
 
 -- a count in the middle of a path
-pub record CountingAt (starts flat s t : List ℕ) (from to i : ℕ) : Type 0 where
-  pub past : from ≤ i
-  pub most : i ≤ to
+pub record CountingAt (starts listed s t : List ℕ) (first end i : ℕ) : Type 0 where
+  pub past : first ≤ i
+  pub most : i ≤ end
   pub size : length t ≡ length s
   pub small : (v : ℕ) → getD t v 0 ≤ i
   pub counts : (v : ℕ) → v < 4096
-      → getD t v 0 + startsIn starts v (take (to - i) (drop i flat)) ≡ getD s v 0 + startsIn starts v (take (to - from) (drop from flat))
+      → getD t v 0 + startsIn starts v (take (end - i) (drop i listed)) ≡ getD s v 0 + startsIn starts v (take (end - first) (drop first listed))
 
-pub counting-start : (starts flat s : List ℕ) (from to : ℕ) → Counting starts flat s from to → CountingAt starts flat s s from to from
-counting-start starts flat s from to h = record { past = omega arith; most = h .up; size = refl; small = h .small; counts = λ v k. refl }
+pub counting-start : (starts listed s : List ℕ) (first end : ℕ) → Counting starts listed s first end → CountingAt starts listed s s first end first
+counting-start starts listed s first end h = record { past = omega arith; most = h .up; size = refl; small = h .small; counts = λ v k. refl }
 
-module _ (starts flat s t : List ℕ) (from to i : ℕ) (h : Counting starts flat s from to) (a : CountingAt starts flat s t from to i) (l : i < to) where
+module _ (starts listed s t : List ℕ) (first end i : ℕ) (h : Counting starts listed s first end) (a : CountingAt starts listed s t first end i) (l : i < end) where
   abbrev node : ℕ
-  node = getD starts (getD flat i 0) 0
+  node = getD starts (getD listed i 0) 0
 
-  next : (v : ℕ) → startsIn starts v (take (to - i) (drop i flat)) ≡ one (eqb node v) + startsIn starts v (take (to - suc i) (drop (suc i) flat))
+  next : (v : ℕ) → startsIn starts v (take (end - i) (drop i listed)) ≡ one (eqb node v) + startsIn starts v (take (end - suc i) (drop (suc i) listed))
   next v =
-      let e : to - i ≡ suc (to - suc i) = omega arith in
-      rw (e, drop-cons flat i (omega (arith, h .room))) (starts-cons starts v (getD flat i 0) (take (to - suc i) (drop (suc i) flat)))
+      let e : end - i ≡ suc (end - suc i) = omega arith in
+      rw (e, drop-cons listed i (omega (arith, h .room))) (starts-cons starts v (getD listed i 0) (take (end - suc i) (drop (suc i) listed)))
 
   pub node-inside : node < length t
-  node-inside = omega (arith, h .starts-below (getD flat i 0), h .size, a .size)
+  node-inside = omega (arith, h .starts-below (getD listed i 0), h .size, a .size)
 
   pub node-few : getD t node 0 ≤ 8192
   node-few = omega (arith, a .small node, h .room, h .few)
 
-  pub counting-turn : CountingAt starts flat s (set t node (getD t node 0 + 1)) from to (suc i)
+  pub counting-turn : CountingAt starts listed s (set t node (getD t node 0 + 1)) first end (suc i)
   counting-turn = record {
     past = omega (arith, a .past);
     most = l;
@@ -97,30 +97,30 @@ module _ (starts flat s t : List ℕ) (from to i : ℕ) (h : Counting starts fla
       few v (no q) = rw (getD-set-other t node v (getD t node 0 + 1) 0 q) (omega (arith, a .small v))
 
       count : (v : ℕ) → Dec (v ≡ node)
-          → getD (set t node (getD t node 0 + 1)) v 0 + startsIn starts v (take (to - suc i) (drop (suc i) flat)) ≡ getD t v 0 + startsIn starts v (take (to - i) (drop i flat))
+          → getD (set t node (getD t node 0 + 1)) v 0 + startsIn starts v (take (end - suc i) (drop (suc i) listed)) ≡ getD t v 0 + startsIn starts v (take (end - i) (drop i listed))
       count v (yes q) =
           rw (q, getD-set-same t node (getD t node 0 + 1) 0 node-inside) (omega (arith, next node, ap one (eq-eqb node node refl)))
       count v (no q) =
           rw (getD-set-other t node v (getD t node 0 + 1) 0 q) (omega (arith, next v, ap one (ne-eqb node v (λ e. q (sym e)))))
 
-pub counting-done : (starts flat s t : List ℕ) (from to i : ℕ) → CountingAt starts flat s t from to i → to ≤ i → Counted starts flat s t from to
-counting-done starts flat s t from to i a f = record {
+pub counting-done : (starts listed s t : List ℕ) (first end i : ℕ) → CountingAt starts listed s t first end i → end ≤ i → Counted starts listed s t first end
+counting-done starts listed s t first end i a f = record {
   size = a .size;
   small = λ v. omega (arith, a .small v, a .most);
-  counts = λ v k. let z : to - i ≡ 0 = omega (arith, f) in
-      omega (arith, a .counts v k, ap (λ (n : ℕ). startsIn starts v (take n (drop i flat))) z, starts-none starts v);
+  counts = λ v k. let z : end - i ≡ 0 = omega (arith, f) in
+      omega (arith, a .counts v k, ap (λ (n : ℕ). startsIn starts v (take n (drop i listed))) z, starts-none starts v);
 }
 
 -- the paths from number k on are left to count; the first of them starts at place `at`
-pub record TallyAt (starts flat lengths t : List ℕ) (at k : ℕ) : Type 0 where
+pub record TallyAt (starts listed lengths t : List ℕ) (at k : ℕ) : Type 0 where
   pub most : k ≤ length lengths
   pub place : at ≡ sum (take k lengths)
   pub size : length t ≡ 4096
   pub small : (v : ℕ) → getD t v 0 ≤ at
-  pub counts : (v : ℕ) → v < 4096 → getD t v 0 + startsIn starts v (inner (drop at flat) (drop k lengths)) ≡ startsIn starts v (inner flat lengths)
+  pub counts : (v : ℕ) → v < 4096 → getD t v 0 + startsIn starts v (inner (drop at listed) (drop k lengths)) ≡ startsIn starts v (inner listed lengths)
 
-pub tally-start : (starts flat lengths t : List ℕ) → length t ≡ 4096 → ((v : ℕ) → getD t v 0 ≡ 0) → TallyAt starts flat lengths t 0 0
-tally-start starts flat lengths t e z = record {
+pub tally-start : (starts listed lengths t : List ℕ) → length t ≡ 4096 → ((v : ℕ) → getD t v 0 ≡ 0) → TallyAt starts listed lengths t 0 0
+tally-start starts listed lengths t e z = record {
   most = omega arith;
   place = refl;
   size = e;
@@ -128,22 +128,22 @@ tally-start starts flat lengths t e z = record {
   counts = λ v k. omega (arith, z v);
 }
 
-inner-cons : (flat lengths : List ℕ) (n : ℕ) → inner flat (n ∷ lengths) ≡ drop 1 (take n flat) ++ inner (drop n flat) lengths
+inner-cons : (listed lengths : List ℕ) (n : ℕ) → inner listed (n ∷ lengths) ≡ drop 1 (take n listed) ++ inner (drop n listed) lengths
 unfolding inner flatMap
-inner-cons flat lengths n = refl
+inner-cons listed lengths n = refl
 
-inner-none : (flat : List ℕ) → inner flat [] ≡ []
+inner-none : (listed : List ℕ) → inner listed [] ≡ []
 unfolding inner flatMap
-inner-none flat = refl
+inner-none listed = refl
 
-module _ (starts flat lengths t : List ℕ) (at k : ℕ) (h : ListCountable starts flat lengths) (a : TallyAt starts flat lengths t at k) (l : k < length lengths) where
+module _ (starts listed lengths t : List ℕ) (at k : ℕ) (h : ListCountable starts listed lengths) (a : TallyAt starts listed lengths t at k) (l : k < length lengths) where
   abbrev n : ℕ
   n = getD lengths k 0
 
-  pub path-inside : at + n ≤ length flat
+  pub path-inside : at + n ≤ length listed
   path-inside = omega (arith, a .place, sum-step lengths k l, sum-take lengths (suc k), h .total)
 
-  pub path-counting : Counting starts flat t (at + 1) (at + n)
+  pub path-counting : Counting starts listed t (at + 1) (at + n)
   path-counting = record {
     size = a .size;
     few = h .few;
@@ -153,26 +153,26 @@ module _ (starts flat lengths t : List ℕ) (at k : ℕ) (h : ListCountable star
     starts-below = h .starts-below;
   }
 
-  path-cut : drop 1 (take n (drop at flat)) ≡ take (at + n - (at + 1)) (drop (at + 1) flat)
+  path-cut : drop 1 (take n (drop at listed)) ≡ take (at + n - (at + 1)) (drop (at + 1) listed)
   path-cut =
       let e : n ≡ suc (at + n - (at + 1)) = omega (arith, h .filled k l) in
-      let x : drop at flat ≡ getD flat at 0 ∷ drop (at + 1) flat = rw (add-one at) (drop-cons flat at (omega (arith, h .filled k l, path-inside))) in
-      ap (λ (m : ℕ). drop 1 (take m (drop at flat))) e
+      let x : drop at listed ≡ getD listed at 0 ∷ drop (at + 1) listed = rw (add-one at) (drop-cons listed at (omega (arith, h .filled k l, path-inside))) in
+      ap (λ (m : ℕ). drop 1 (take m (drop at listed))) e
       ∙ ap (λ (r : List ℕ). drop 1 (take (suc (at + n - (at + 1))) r)) x
 
-  left : (v : ℕ) → startsIn starts v (inner (drop at flat) (drop k lengths))
-      ≡ startsIn starts v (take (at + n - (at + 1)) (drop (at + 1) flat)) + startsIn starts v (inner (drop (at + n) flat) (drop (suc k) lengths))
+  left : (v : ℕ) → startsIn starts v (inner (drop at listed) (drop k lengths))
+      ≡ startsIn starts v (take (at + n - (at + 1)) (drop (at + 1) listed)) + startsIn starts v (inner (drop (at + n) listed) (drop (suc k) lengths))
   left v =
-      ap (λ (r : List ℕ). startsIn starts v (inner (drop at flat) r)) (drop-cons lengths k l)
-      ∙ ap (startsIn starts v) (inner-cons (drop at flat) (drop (suc k) lengths) n)
-      ∙ starts-append starts v (drop 1 (take n (drop at flat))) (inner (drop n (drop at flat)) (drop (suc k) lengths))
+      ap (λ (r : List ℕ). startsIn starts v (inner (drop at listed) r)) (drop-cons lengths k l)
+      ∙ ap (startsIn starts v) (inner-cons (drop at listed) (drop (suc k) lengths) n)
+      ∙ starts-append starts v (drop 1 (take n (drop at listed))) (inner (drop n (drop at listed)) (drop (suc k) lengths))
       ∙ omega (
         arith,
         ap (startsIn starts v) path-cut,
-        ap (λ (r : List ℕ). startsIn starts v (inner r (drop (suc k) lengths))) (drop-drop n at flat),
+        ap (λ (r : List ℕ). startsIn starts v (inner r (drop (suc k) lengths))) (drop-drop n at listed),
       )
 
-  pub tally-turn : (u : List ℕ) → Counted starts flat t u (at + 1) (at + n) → TallyAt starts flat lengths u (at + n) (suc k)
+  pub tally-turn : (u : List ℕ) → Counted starts listed t u (at + 1) (at + n) → TallyAt starts listed lengths u (at + n) (suc k)
   tally-turn u c = record {
     most = l;
     place = omega (arith, a .place, sum-step lengths k l);
@@ -181,13 +181,13 @@ module _ (starts flat lengths t : List ℕ) (at k : ℕ) (h : ListCountable star
     counts = λ v m. omega (arith, a .counts v m, c .counts v m, left v);
   }
 
-pub tally-done : (starts flat lengths t : List ℕ) (at k : ℕ) → ListCountable starts flat lengths → TallyAt starts flat lengths t at k
-    → length lengths ≤ k → Tallied starts flat lengths t
-tally-done starts flat lengths t at k h a f = record {
+pub tally-done : (starts listed lengths t : List ℕ) (at k : ℕ) → ListCountable starts listed lengths → TallyAt starts listed lengths t at k
+    → length lengths ≤ k → Tallied starts listed lengths t
+tally-done starts listed lengths t at k h a f = record {
   size = a .size;
   small = λ v. omega (arith, a .small v, a .place, sum-take lengths k, h .total, h .few);
   counts = λ v m.
-      let e : inner (drop at flat) (drop k lengths) ≡ [] = ap (inner (drop at flat)) (drop-all lengths k f) ∙ inner-none (drop at flat) in
+      let e : inner (drop at listed) (drop k lengths) ≡ [] = ap (inner (drop at listed)) (drop-all lengths k f) ∙ inner-none (drop at listed) in
       omega (arith, a .counts v m, ap (startsIn starts v) e, starts-none starts v);
 }
 
@@ -206,23 +206,23 @@ shares-are : (starts es t nodes : List ℕ) → ((c : ℕ) → c < length nodes 
 shares-are starts es t [] f = refl
 shares-are starts es t (v ∷ nodes) f = omega (arith, f 0 (omega arith), shares-are starts es t nodes (λ c h. f (suc c) (omega arith)))
 
-candidates-are : (starts flat lengths nodes : List ℕ)
-    → candidates (ofStarts starts) (ofNodes nodes) (pathList flat lengths) ≡ sum (map (λ v. 1 + startsIn starts v (inner flat lengths)) nodes)
+candidates-are : (starts listed lengths nodes : List ℕ)
+    → candidates (ofStarts starts) (ofNodes nodes) (pathList listed lengths) ≡ sum (map (λ v. 1 + startsIn starts v (inner listed lengths)) nodes)
 unfolding candidates startsIn inner
-candidates-are starts flat lengths nodes = refl
+candidates-are starts listed lengths nodes = refl
 
-pub shares-candidates : (starts flat lengths nodes t : List ℕ) → CopiesCountable nodes → Tallied starts flat lengths t
-    → shares t nodes ≡ candidates (ofStarts starts) (ofNodes nodes) (pathList flat lengths)
-shares-candidates starts flat lengths nodes t h a =
-    shares-are starts (inner flat lengths) t nodes (λ c k. a .counts (getD nodes c 0) (h .below c k))
-    ∙ sym (candidates-are starts flat lengths nodes)
+pub shares-candidates : (starts listed lengths nodes t : List ℕ) → CopiesCountable nodes → Tallied starts listed lengths t
+    → shares t nodes ≡ candidates (ofStarts starts) (ofNodes nodes) (pathList listed lengths)
+shares-candidates starts listed lengths nodes t h a =
+    shares-are starts (inner listed lengths) t nodes (λ c k. a .counts (getD nodes c 0) (h .below c k))
+    ∙ sym (candidates-are starts listed lengths nodes)
 
 -- a list that passes its tests, and the copies of a legal graph, are counted so
-pub list-countable : (D : Design) (starts flat lengths : List ℕ) → DesignFits D → ListFits D (pathList flat lengths) → D .starts ≡ starts → ListCountable starts flat lengths
-list-countable D starts flat lengths fit fits d = record {
+pub list-countable : (D : Design) (starts listed lengths : List ℕ) → DesignFits D → ListFits D (pathList listed lengths) → D .starts ≡ starts → ListCountable starts listed lengths
+list-countable D starts listed lengths fit fits d = record {
   total = fits .total;
   few = fits .fewEdges;
-  filled = λ k h. lengths-filled flat lengths (fits .filled) (getD lengths k 0) (getD-mem lengths k 0 h);
+  filled = λ k h. lengths-filled listed lengths (fits .filled) (getD lengths k 0) (getD-mem lengths k 0 h);
   starts-below = subst (λ (x : List ℕ). (k : ℕ) → getD x k 0 < 4096) d (λ k. start-below k (decLt k (length (D .starts))));
 }
   where

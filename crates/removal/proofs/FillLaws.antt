@@ -99,33 +99,33 @@ module _ (s : List ℕ) (base n c x y z w : ℕ) (h : c < n) where
       (frame-set s s base (n + n + n + n) (base + c) x (omega arith) (omega arith) (frame-refl s base (n + n + n + n)))))
 
 -- the tables of the listed positions stand below what is written
-searchable-kept : (starts flat lengths s t : List ℕ) (rest order base k : ℕ) → Frame s t base k
-    → Searchable starts flat lengths s rest order base → Searchable starts flat lengths t rest order base
-searchable-kept starts flat lengths s t rest order base k f x = record {
+searchable-kept : (starts listed lengths s t : List ℕ) (rest order base k : ℕ) → Frame s t base k
+    → Searchable starts listed lengths s rest order base → Searchable starts listed lengths t rest order base
+searchable-kept starts listed lengths s t rest order base k f x = record {
   rest-room = x .rest-room;
   order-room = x .order-room;
   room = omega (arith, x .room, f .size);
   total = x .total;
   filled = x .filled;
-  rests = f .below rest (length flat) (x .rest-room) ∙ x .rests;
-  ordered = rw (f .below order (length flat) (x .order-room)) (x .ordered);
+  rests = f .below rest (length listed) (x .rest-room) ∙ x .rests;
+  ordered = rw (f .below order (length listed) (x .order-room)) (x .ordered);
 }
 
-pub record Filling (starts flat lengths nodes s t : List ℕ) (rest order base c total : ℕ) : Type 0 where
+pub record Filling (starts listed lengths nodes s t : List ℕ) (rest order base c total : ℕ) : Type 0 where
   pub most : c ≤ length nodes
-  pub search : Searchable starts flat lengths t rest order base
-  pub able : Fillable flat nodes t base
+  pub search : Searchable starts listed lengths t rest order base
+  pub able : Fillable listed nodes t base
   pub frame : Frame s t base (length nodes + length nodes + length nodes + length nodes)
   pub around : (j : ℕ) → j < c
-      → Around starts (pathList flat lengths) (table t order (length flat)) (getD nodes j 0)
+      → Around starts (pathList listed lengths) (table t order (length listed)) (getD nodes j 0)
       (getD (table t base (length nodes)) j 0) (getD (table t (base + length nodes) (length nodes)) j 0) (getD (table t (base + length nodes + length nodes) (length nodes)) j 0)
   pub bases : (j : ℕ) → j < c → getD (table t (base + length nodes + length nodes + length nodes) (length nodes)) j 0 ≡ slotBase (boundsAt t base (length nodes)) j
   pub sum-is : total ≡ slotBase (boundsAt t base (length nodes)) c
   pub small : total ≤ 8193 * c
 
-pub filling-start : (starts flat lengths nodes s : List ℕ) (rest order base : ℕ) → Searchable starts flat lengths s rest order base → Fillable flat nodes s base
-    → Filling starts flat lengths nodes s s rest order base 0 0
-filling-start starts flat lengths nodes s rest order base x y = record {
+pub filling-start : (starts listed lengths nodes s : List ℕ) (rest order base : ℕ) → Searchable starts listed lengths s rest order base → Fillable listed nodes s base
+    → Filling starts listed lengths nodes s s rest order base 0 0
+filling-start starts listed lengths nodes s rest order base x y = record {
   most = omega arith;
   search = x;
   able = y;
@@ -136,33 +136,33 @@ filling-start starts flat lengths nodes s rest order base x y = record {
   small = omega arith;
 }
 
-module _ (starts flat lengths nodes s t : List ℕ) (rest order base c total x y z : ℕ) (f : Filling starts flat lengths nodes s t rest order base c total)
-    (h : c < length nodes) (a : Around starts (pathList flat lengths) (table t order (length flat)) (getD nodes c 0) x y z) where
+module _ (starts listed lengths nodes s t : List ℕ) (rest order base c total x y z : ℕ) (f : Filling starts listed lengths nodes s t rest order base c total)
+    (h : c < length nodes) (a : Around starts (pathList listed lengths) (table t order (length listed)) (getD nodes c 0) x y z) where
   kept : Frame t (putFour t base (length nodes) c x y z total) base (length nodes + length nodes + length nodes + length nodes)
   kept = put-frame t base (length nodes) c x y z total h
 
   -- no bound is above the number of listed edges
   pub middle-small : y ≤ 8192
-  middle-small = omega (arith, a .middles .within, f .search .ordered .size, f .able .listed)
+  middle-small = omega (arith, a .middles .within, f .search .ordered .size, f .able .few)
 
   size : (b : ℕ) → b + length nodes ≤ base + length nodes + length nodes + length nodes + length nodes → c < length (table t b (length nodes))
   size b l = rw (table-length t b (length nodes) (omega (arith, f .able .room))) h
 
-  pub filling-turn : Filling starts flat lengths nodes s (putFour t base (length nodes) c x y z total) rest order base (suc c) (total + (y - x + 1))
+  pub filling-turn : Filling starts listed lengths nodes s (putFour t base (length nodes) c x y z total) rest order base (suc c) (total + (y - x + 1))
   filling-turn = record {
     most = h;
-    search = searchable-kept starts flat lengths t (putFour t base (length nodes) c x y z total) rest order base (length nodes + length nodes + length nodes + length nodes) kept (f .search);
-    able = record { room = omega (arith, f .able .room, kept .size); copies = f .able .copies; nodes-below = f .able .nodes-below; listed = f .able .listed };
+    search = searchable-kept starts listed lengths t (putFour t base (length nodes) c x y z total) rest order base (length nodes + length nodes + length nodes + length nodes) kept (f .search);
+    able = record { room = omega (arith, f .able .room, kept .size); copies = f .able .copies; nodes-below = f .able .nodes-below; few = f .able .few };
     frame = frame-trans s t (putFour t base (length nodes) c x y z total) base (length nodes + length nodes + length nodes + length nodes) (f .frame) kept;
     around =
         rw (
           low-table t base (length nodes) c x y z total h,
           middle-table t base (length nodes) c x y z total h,
           high-table t base (length nodes) c x y z total h,
-          kept .below order (length flat) (f .search .order-room),
+          kept .below order (length listed) (f .search .order-room),
         )
         (entry-more (table t base (length nodes)) (table t (base + length nodes) (length nodes)) (table t (base + length nodes + length nodes) (length nodes)) c x y z
-        (λ j. Around starts (pathList flat lengths) (table t order (length flat)) (getD nodes j 0))
+        (λ j. Around starts (pathList listed lengths) (table t order (length listed)) (getD nodes j 0))
         (size base (omega arith)) (size (base + length nodes) (omega arith)) (size (base + length nodes + length nodes) (omega arith))
         (f .around) a);
     bases =
@@ -201,12 +201,12 @@ module _ (starts flat lengths nodes s t : List ℕ) (rest order base c total x y
           )
           (f .bases j (omega arith))
 
-pub filling-done : (starts flat lengths nodes s t : List ℕ) (rest order base c total : ℕ) → Filling starts flat lengths nodes s t rest order base c total
-    → c ≡ length nodes → Filled starts flat lengths nodes s t order base total
-filling-done starts flat lengths nodes s t rest order base c total f e = record {
+pub filling-done : (starts listed lengths nodes s t : List ℕ) (rest order base c total : ℕ) → Filling starts listed lengths nodes s t rest order base c total
+    → c ≡ length nodes → Filled starts listed lengths nodes s t order base total
+filling-done starts listed lengths nodes s t rest order base c total f e = record {
   frame = f .frame;
   bounded = λ j h.
-      around-bounded (ofStarts starts) (pathList flat lengths) (ofNodes nodes) (table t order (length flat)) (boundsAt t base (length nodes)) j (f .around j (omega arith));
+      around-bounded (ofStarts starts) (pathList listed lengths) (ofNodes nodes) (table t order (length listed)) (boundsAt t base (length nodes)) j (f .around j (omega arith));
   bases = λ j h. f .bases j (omega arith);
   slots = f .sum-is ∙ ap (slotBase (boundsAt t base (length nodes))) e;
 }

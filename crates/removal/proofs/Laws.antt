@@ -135,17 +135,22 @@ sizes-early a b c = early-unless 30 refl (eqb a b && eqb a c)
 
 -- an answer, the room and the scratch, as the contracts state them
 abbrev pub Stated : Outcome Graph → GraphMade → List ℕ → List ℕ → List ℕ → List ℕ → List ℕ → List ℕ → List ℕ → List ℕ → List ℕ → List ℕ → Type 0
-Stated o r nodes from to via s nodes′ from′ to′ via′ s′ =
-    (r ≡ graphAnswer o) × ((nodes′ ≡ nodesAfter o nodes) × ((from′ ≡ startsAfter o from) × ((to′ ≡ endsAfter o to) × ((via′ ≡ namesAfter o via) × (s′ ≡ scratchAfter o s)))))
+Stated o r room-nodes room-from room-to room-via s room-nodes′ room-from′ room-to′ room-via′ s′ =
+    (r ≡ graphAnswer o)
+    × (room-nodes′ ≡ nodesAfter o room-nodes)
+    × (room-from′ ≡ startsAfter o room-from)
+    × (room-to′ ≡ endsAfter o room-to)
+    × (room-via′ ≡ namesAfter o room-via)
+    × (s′ ≡ scratchAfter o s)
 
-stated-refused : (x : Refusal) (nodes from to via s : List ℕ) → keeps (x .number) → Stated (refused x) (NoGraph x) nodes from to via s nodes from to via s
-stated-refused x nodes from to via s e =
-    (refl, (refl, (refl, (refl, (refl, ap (λ (b : Bool). cond b (map (λ (w : ℕ). 0) s) s) (sym e))))))
+stated-refused : (x : Refusal) (room-nodes room-from room-to room-via s : List ℕ) → keeps (x .number) → Stated (refused x) (NoGraph x) room-nodes room-from room-to room-via s room-nodes room-from room-to room-via s
+stated-refused x room-nodes room-from room-to room-via s e =
+    (refl, refl, refl, refl, refl, ap (λ (b : Bool). cond b (map (λ (w : ℕ). 0) s) s) (sym e))
 
-stated-removed : (o : Outcome Graph) (r : GraphMade) (nodes from to via s nodes′ from′ to′ via′ s′ : List ℕ) → Removed o r nodes from to via s nodes′ from′ to′ via′ s′
-    → Stated o r nodes from to via s nodes′ from′ to′ via′ s′
-stated-removed o r nodes from to via s nodes′ from′ to′ via′ s′ x =
-    (x .answered .answer, (x .answered .nodes, (x .answered .starts, (x .answered .ends, (x .answered .names, x .scratch)))))
+stated-removed : (o : Outcome Graph) (r : GraphMade) (room-nodes room-from room-to room-via s room-nodes′ room-from′ room-to′ room-via′ s′ : List ℕ) → Removed o r room-nodes room-from room-to room-via s room-nodes′ room-from′ room-to′ room-via′ s′
+    → Stated o r room-nodes room-from room-to room-via s room-nodes′ room-from′ room-to′ room-via′ s′
+stated-removed o r room-nodes room-from room-to room-via s room-nodes′ room-from′ room-to′ room-via′ s′ x =
+    (x .answered .answer, x .answered .nodes, x .answered .starts, x .answered .ends, x .answered .names, x .scratch)
 
 -- a test after the first five
 chain-on : (d l o t u w : Verdict) → ((d then (l then (o then (t then u)))) then w) ≡ (d then (l then (o then (t then (u then w)))))
@@ -182,20 +187,20 @@ early-refused v x a e = subst Early e a
 -- the tests before 31 of a removal from the design, and of one from an earlier graph
 module _ (n : ℕ) (starts ends : List ℕ) (delays : List ℤ) (listed lengths : List ℕ) where
   abbrev pub designBefore : List ℕ → List ℕ → List ℕ → Verdict
-  designBefore from to via =
+  designBefore room-from room-to room-via =
       let D = design n starts ends delays in
       let L = pathList listed lengths in
-      designSizes D then (listSizes L then (sameSizes (length from) (length to) (length via) then (designTests D then listTests D L)))
+      designSizes D then (listSizes L then (sameSizes (length room-from) (length room-to) (length room-via) then (designTests D then listTests D L)))
 
   abbrev pub graphBefore : List ℕ → List ℕ → List ℕ → List ℕ → List ℕ → List ℕ → List ℕ → Verdict
-  graphBefore onodes ofrom oto ovia from to via =
+  graphBefore nodes from to via room-from room-to room-via =
       let D = design n starts ends delays in
       let L = pathList listed lengths in
-      let S = graphSlices onodes ofrom oto ovia in
-      designSizes D then (listSizes L then (graphSizes S then (sameSizes (length from) (length to) (length via) then (designTests D then (listTests D L then graphTest D (graphOf S))))))
+      let S = graphSlices nodes from to via in
+      designSizes D then (listSizes L then (graphSizes S then (sameSizes (length room-from) (length room-to) (length room-via) then (designTests D then (listTests D L then graphTest D (graphOf S))))))
 
 -- Removal from the design.
-module _ (n : ℕ) (starts ends : List ℕ) (delays : List ℤ) (listed lengths nodes from to via s : List ℕ) where
+module _ (n : ℕ) (starts ends : List ℕ) (delays : List ℤ) (listed lengths room-nodes room-from room-to room-via s : List ℕ) where
   abbrev D : Design
   D = design n starts ends delays
 
@@ -203,45 +208,45 @@ module _ (n : ℕ) (starts ends : List ℕ) (delays : List ℤ) (listed lengths 
   L = pathList listed lengths
 
   abbrev R : Removal
-  R = lentRemoval listed lengths nodes from to via s
+  R = lentRemoval listed lengths room-nodes room-from room-to room-via s
 
   abbrev early : Verdict
-  early = designBefore n starts ends delays listed lengths from to via
+  early = designBefore n starts ends delays listed lengths room-from room-to room-via
 
   design-outcome : removeFromDesign D R ≡ outcome (early then removalTests D (designGraph D) R) (trueGraph (designGraph D) (pathsOf L))
   unfolding removeFromDesign
   design-outcome =
       ap (λ (v : Verdict). outcome v (trueGraph (designGraph D) (pathsOf L)))
-      (sym (chain-on (designSizes D) (listSizes L) (sameSizes (length from) (length to) (length via)) (designTests D) (listTests D L) (removalTests D (designGraph D) R)))
+      (sym (chain-on (designSizes D) (listSizes L) (sameSizes (length room-from) (length room-to) (length room-via)) (designTests D) (listTests D L) (removalTests D (designGraph D) R)))
 
-  pub design-refused : (x : Refusal) → early ≡ Refused x → Stated (removeFromDesign D R) (NoGraph x) nodes from to via s nodes from to via s
+  pub design-refused : (x : Refusal) → early ≡ Refused x → Stated (removeFromDesign D R) (NoGraph x) room-nodes room-from room-to room-via s room-nodes room-from room-to room-via s
   design-refused x e =
-      subst (λ (o : Outcome Graph). Stated o (NoGraph x) nodes from to via s nodes from to via s)
+      subst (λ (o : Outcome Graph). Stated o (NoGraph x) room-nodes room-from room-to room-via s room-nodes room-from room-to room-via s)
       (ap (λ (v : Verdict). outcome v (trueGraph (designGraph D) (pathsOf L))) (sym (refused-on early (removalTests D (designGraph D) R) x e)) ∙ sym design-outcome)
-      (stated-refused x nodes from to via s (early-refused early x (chain-early D L (sameSizes (length from) (length to) (length via)) (sizes-early (length from) (length to) (length via))) e))
+      (stated-refused x room-nodes room-from room-to room-via s (early-refused early x (chain-early D L (sameSizes (length room-from) (length room-to) (length room-via)) (sizes-early (length room-from) (length room-to) (length room-via))) e))
 
   module _ (e : early ≡ Passed) where
-    abbrev all : Tested (designSizes D) (listSizes L) (sameSizes (length from) (length to) (length via)) (designTests D) (listTests D L)
-    all = tested (designSizes D) (listSizes L) (sameSizes (length from) (length to) (length via)) (designTests D) (listTests D L) e
+    abbrev all : Tested (designSizes D) (listSizes L) (sameSizes (length room-from) (length room-to) (length room-via)) (designTests D) (listTests D L)
+    all = tested (designSizes D) (listSizes L) (sameSizes (length room-from) (length room-to) (length room-via)) (designTests D) (listTests D L) e
 
-    pub design-numberable : (m : ℕ) → m ≡ length starts → Numberable starts ends listed lengths n m from to via
+    pub design-numberable : (m : ℕ) → m ≡ length starts → Numberable starts ends listed lengths n m room-from room-to room-via
     design-numberable m q =
         record {
           delays = delays;
           design-fits = design-fits D (all .sizes) (all .design);
           list-fits = list-fits D L (all .sums) (all .list);
           numbers = q;
-          same = same-passed (length from) (length to) (length via) (all .others);
+          same = same-passed (length room-from) (length room-to) (length room-via) (all .others);
         }
 
-    pub design-removed : (r : GraphMade) (nodes′ from′ to′ via′ s′ : List ℕ) → DesignRemoved starts ends listed lengths n r nodes from to via s nodes′ from′ to′ via′ s′
-        → Stated (removeFromDesign D R) r nodes from to via s nodes′ from′ to′ via′ s′
+    pub design-removed : (r : GraphMade) (room-nodes′ room-from′ room-to′ room-via′ s′ : List ℕ) → DesignRemoved starts ends listed lengths n r room-nodes room-from room-to room-via s room-nodes′ room-from′ room-to′ room-via′ s′
+        → Stated (removeFromDesign D R) r room-nodes room-from room-to room-via s room-nodes′ room-from′ room-to′ room-via′ s′
     unfolding DesignRemoved
-    design-removed r nodes′ from′ to′ via′ s′ x =
+    design-removed r room-nodes′ room-from′ room-to′ room-via′ s′ x =
         let y = x delays (design-fits D (all .sizes) (all .design)) (list-fits D L (all .sums) (all .list)) in
-        subst (λ (o : Outcome Graph). Stated o r nodes from to via s nodes′ from′ to′ via′ s′)
+        subst (λ (o : Outcome Graph). Stated o r room-nodes room-from room-to room-via s room-nodes′ room-from′ room-to′ room-via′ s′)
         (ap (λ (v : Verdict). outcome v (trueGraph (designGraph D) (pathsOf L))) (sym (passed-on early (removalTests D (designGraph D) R) e)) ∙ sym design-outcome)
-        (stated-removed (removalOutcome D L (designGraph D) nodes from to via s) r nodes from to via s nodes′ from′ to′ via′ s′ y)
+        (stated-removed (removalOutcome D L (designGraph D) room-nodes room-from room-to room-via s) r room-nodes room-from room-to room-via s room-nodes′ room-from′ room-to′ room-via′ s′ y)
 
 -- the passes are asked about the design as a graph, and answer about it
 module _ (starts ends listed lengths : List ℕ) (n m : ℕ) (q : m ≡ length starts) where
@@ -268,8 +273,8 @@ module _ (starts ends listed lengths : List ℕ) (n m : ℕ) (q : m ≡ length s
         into = design-into D;
       }
 
-  pub numbered-workable : (from to via : List ℕ) → Numberable starts ends listed lengths n m from to via → Workable starts listed lengths (upto n 0) starts ends (upto m 0)
-  numbered-workable from to via x =
+  pub numbered-workable : (room-from room-to room-via : List ℕ) → Numberable starts ends listed lengths n m room-from room-to room-via → Workable starts listed lengths (upto n 0) starts ends (upto m 0)
+  numbered-workable room-from room-to room-via x =
       record {
         design = design n starts ends (x .delays);
         list = pathList listed lengths;
@@ -277,15 +282,15 @@ module _ (starts ends listed lengths : List ℕ) (n m : ℕ) (q : m ≡ length s
         worked = numbered-worked (x .delays) (x .design-fits) (x .list-fits);
       }
 
-  pub numbered-removed : (r : GraphMade) (nodes from to via s nodes′ from′ to′ via′ s′ : List ℕ)
-      → AllRemoved starts listed lengths (upto n 0) starts ends (upto m 0) r nodes from to via s nodes′ from′ to′ via′ s′
-      → DesignRemoved starts ends listed lengths n r nodes from to via s nodes′ from′ to′ via′ s′
+  pub numbered-removed : (r : GraphMade) (room-nodes room-from room-to room-via s room-nodes′ room-from′ room-to′ room-via′ s′ : List ℕ)
+      → AllRemoved starts listed lengths (upto n 0) starts ends (upto m 0) r room-nodes room-from room-to room-via s room-nodes′ room-from′ room-to′ room-via′ s′
+      → DesignRemoved starts ends listed lengths n r room-nodes room-from room-to room-via s room-nodes′ room-from′ room-to′ room-via′ s′
   unfolding AllRemoved DesignRemoved
-  numbered-removed r nodes from to via s nodes′ from′ to′ via′ s′ x delays f g =
+  numbered-removed r room-nodes room-from room-to room-via s room-nodes′ room-from′ room-to′ room-via′ s′ x delays f g =
       x (design n starts ends delays) (pathList listed lengths) (designGraph (design n starts ends delays)) (numbered-worked delays f g)
 
 -- Removal from an earlier graph.
-module _ (n : ℕ) (starts ends : List ℕ) (delays : List ℤ) (listed lengths onodes ofrom oto ovia nodes from to via s : List ℕ) where
+module _ (n : ℕ) (starts ends : List ℕ) (delays : List ℤ) (listed lengths nodes from to via room-nodes room-from room-to room-via s : List ℕ) where
   abbrev E : Design
   E = design n starts ends delays
 
@@ -293,16 +298,16 @@ module _ (n : ℕ) (starts ends : List ℕ) (delays : List ℤ) (listed lengths 
   K = pathList listed lengths
 
   abbrev S : GraphSlices
-  S = graphSlices onodes ofrom oto ovia
+  S = graphSlices nodes from to via
 
   abbrev Q : Removal
-  Q = lentRemoval listed lengths nodes from to via s
+  Q = lentRemoval listed lengths room-nodes room-from room-to room-via s
 
   abbrev room : Verdict
-  room = sameSizes (length from) (length to) (length via)
+  room = sameSizes (length room-from) (length room-to) (length room-via)
 
   abbrev prior : Verdict
-  prior = graphBefore n starts ends delays listed lengths onodes ofrom oto ovia from to via
+  prior = graphBefore n starts ends delays listed lengths nodes from to via room-from room-to room-via
 
   graph-outcome : removeFromGraph E S Q ≡ outcome (prior then removalTests E (graphOf S) Q) (trueGraph (graphOf S) (pathsOf K))
   unfolding removeFromGraph
@@ -319,14 +324,14 @@ module _ (n : ℕ) (starts ends : List ℕ) (delays : List ℤ) (listed lengths 
       subst Early (sym joined)
       (early-then (designSizes E then (listSizes K then ((graphSizes S then room) then (designTests E then listTests E K)))) (graphTest E (graphOf S))
       (chain-early E K (graphSizes S then room)
-      (early-then (graphSizes S) room (sizes-early (length ofrom) (length oto) (length ovia)) (sizes-early (length from) (length to) (length via))))
+      (early-then (graphSizes S) room (sizes-early (length from) (length to) (length via)) (sizes-early (length room-from) (length room-to) (length room-via))))
       (early-unless 32 refl (wellFormed E (graphOf S))))
 
-  pub graph-refused : (x : Refusal) → prior ≡ Refused x → Stated (removeFromGraph E S Q) (NoGraph x) nodes from to via s nodes from to via s
+  pub graph-refused : (x : Refusal) → prior ≡ Refused x → Stated (removeFromGraph E S Q) (NoGraph x) room-nodes room-from room-to room-via s room-nodes room-from room-to room-via s
   graph-refused x e =
-      subst (λ (o : Outcome Graph). Stated o (NoGraph x) nodes from to via s nodes from to via s)
+      subst (λ (o : Outcome Graph). Stated o (NoGraph x) room-nodes room-from room-to room-via s room-nodes room-from room-to room-via s)
       (ap (λ (v : Verdict). outcome v (trueGraph (graphOf S) (pathsOf K))) (sym (refused-on prior (removalTests E (graphOf S) Q) x e)) ∙ sym graph-outcome)
-      (stated-refused x nodes from to via s (early-refused prior x graph-early e))
+      (stated-refused x room-nodes room-from room-to room-via s (early-refused prior x graph-early e))
 
   module _ (e : prior ≡ Passed) where
     passed : ((designSizes E then (listSizes K then ((graphSizes S then room) then (designTests E then listTests E K)))) ≡ Passed) × (graphTest E (graphOf S) ≡ Passed)
@@ -338,15 +343,15 @@ module _ (n : ℕ) (starts ends : List ℕ) (delays : List ℤ) (listed lengths 
     sizes : (graphSizes S ≡ Passed) × (room ≡ Passed)
     sizes = then-passed (graphSizes S) room (every .others)
 
-    pub graph-rooms : SameRooms from to via
-    graph-rooms = same-passed (length from) (length to) (length via) (sizes .1)
+    pub graph-rooms : SameRooms room-from room-to room-via
+    graph-rooms = same-passed (length room-from) (length room-to) (length room-via) (sizes .1)
 
-    worked : Worked E K (graphOf S) starts listed lengths onodes ofrom oto ovia
+    worked : Worked E K (graphOf S) starts listed lengths nodes from to via
     worked =
         let f = design-fits E (every .sizes) (every .design) in
         let t = holds (wellFormed E (graphOf S)) (unless-passed 32 (wellFormed E (graphOf S)) (passed .1)) in
         let w = formed E (graphOf S) t in
-        let z = same-passed (length ofrom) (length oto) (length ovia) (sizes .0) in
+        let z = same-passed (length from) (length to) (length via) (sizes .0) in
         record {
           given =
               record {
@@ -358,38 +363,38 @@ module _ (n : ℕ) (starts ends : List ℕ) (delays : List ℤ) (listed lengths 
                 edges = refl;
                 ends = z .0;
                 names = z .1;
-                few-copies = leb→le (length onodes) 16384 (and-left (leb (length onodes) 16384) (leb (length (graphOf S .edges)) 65536) (w .few));
-                few-edges = omega (arith, leb→le (length (graphOf S .edges)) 65536 (and-right (leb (length onodes) 16384) (leb (length (graphOf S .edges)) 65536) (w .few)), length-edges ofrom oto ovia (z .0) (z .1));
+                few-copies = leb→le (length nodes) 16384 (and-left (leb (length nodes) 16384) (leb (length (graphOf S .edges)) 65536) (w .few));
+                few-edges = omega (arith, leb→le (length (graphOf S .edges)) 65536 (and-right (leb (length nodes) 16384) (leb (length (graphOf S .edges)) 65536) (w .few)), length-edges from to via (z .0) (z .1));
               };
           fits = f;
           into = formed-into (graphOf S) (w .rises);
         }
 
-    pub graph-workable : Workable starts listed lengths onodes ofrom oto ovia
+    pub graph-workable : Workable starts listed lengths nodes from to via
     graph-workable = record { design = E; list = K; graph = graphOf S; worked = worked }
 
-    pub graph-removed : (r : GraphMade) (nodes′ from′ to′ via′ s′ : List ℕ)
-        → AllRemoved starts listed lengths onodes ofrom oto ovia r nodes from to via s nodes′ from′ to′ via′ s′
-        → Stated (removeFromGraph E S Q) r nodes from to via s nodes′ from′ to′ via′ s′
+    pub graph-removed : (r : GraphMade) (room-nodes′ room-from′ room-to′ room-via′ s′ : List ℕ)
+        → AllRemoved starts listed lengths nodes from to via r room-nodes room-from room-to room-via s room-nodes′ room-from′ room-to′ room-via′ s′
+        → Stated (removeFromGraph E S Q) r room-nodes room-from room-to room-via s room-nodes′ room-from′ room-to′ room-via′ s′
     unfolding AllRemoved
-    graph-removed r nodes′ from′ to′ via′ s′ x =
-        subst (λ (o : Outcome Graph). Stated o r nodes from to via s nodes′ from′ to′ via′ s′)
+    graph-removed r room-nodes′ room-from′ room-to′ room-via′ s′ x =
+        subst (λ (o : Outcome Graph). Stated o r room-nodes room-from room-to room-via s room-nodes′ room-from′ room-to′ room-via′ s′)
         (ap (λ (v : Verdict). outcome v (trueGraph (graphOf S) (pathsOf K))) (sym (passed-on prior (removalTests E (graphOf S) Q) e)) ∙ sym graph-outcome)
-        (stated-removed (removalOutcome E K (graphOf S) nodes from to via s) r nodes from to via s nodes′ from′ to′ via′ s′ (x E K (graphOf S) worked))
+        (stated-removed (removalOutcome E K (graphOf S) room-nodes room-from room-to room-via s) r room-nodes room-from room-to room-via s room-nodes′ room-from′ room-to′ room-via′ s′ (x E K (graphOf S) worked))
 
 -- the tests as the calls have them, with the verdict of the room made first
-module _ (n : ℕ) (starts ends : List ℕ) (delays : List ℤ) (listed lengths from to via : List ℕ) where
-  pub design-tested : (v o : Verdict) → o ≡ sameSizes (length from) (length to) (length via)
+module _ (n : ℕ) (starts ends : List ℕ) (delays : List ℤ) (listed lengths room-from room-to room-via : List ℕ) where
+  pub design-tested : (v o : Verdict) → o ≡ sameSizes (length room-from) (length room-to) (length room-via)
       → v ≡ (designSizes (design n starts ends delays) then (listSizes (pathList listed lengths) then (o then (designTests (design n starts ends delays) then listTests (design n starts ends delays) (pathList listed lengths)))))
-      → designBefore n starts ends delays listed lengths from to via ≡ v
+      → designBefore n starts ends delays listed lengths room-from room-to room-via ≡ v
   design-tested v o p q =
       sym (q ∙ ap (λ (x : Verdict). designSizes (design n starts ends delays) then (listSizes (pathList listed lengths) then (x then (designTests (design n starts ends delays) then listTests (design n starts ends delays) (pathList listed lengths))))) p)
 
-  pub graph-tested : (onodes ofrom oto ovia : List ℕ) (v o : Verdict) → o ≡ sameSizes (length from) (length to) (length via)
-      → v ≡ (designSizes (design n starts ends delays) then (listSizes (pathList listed lengths) then (graphSizes (graphSlices onodes ofrom oto ovia) then (o then (designTests (design n starts ends delays) then (listTests (design n starts ends delays) (pathList listed lengths) then graphTest (design n starts ends delays) (graphOf (graphSlices onodes ofrom oto ovia))))))))
-      → graphBefore n starts ends delays listed lengths onodes ofrom oto ovia from to via ≡ v
-  graph-tested onodes ofrom oto ovia v o p q =
-      sym (q ∙ ap (λ (x : Verdict). designSizes (design n starts ends delays) then (listSizes (pathList listed lengths) then (graphSizes (graphSlices onodes ofrom oto ovia) then (x then (designTests (design n starts ends delays) then (listTests (design n starts ends delays) (pathList listed lengths) then graphTest (design n starts ends delays) (graphOf (graphSlices onodes ofrom oto ovia)))))))) p)
+  pub graph-tested : (nodes from to via : List ℕ) (v o : Verdict) → o ≡ sameSizes (length room-from) (length room-to) (length room-via)
+      → v ≡ (designSizes (design n starts ends delays) then (listSizes (pathList listed lengths) then (graphSizes (graphSlices nodes from to via) then (o then (designTests (design n starts ends delays) then (listTests (design n starts ends delays) (pathList listed lengths) then graphTest (design n starts ends delays) (graphOf (graphSlices nodes from to via))))))))
+      → graphBefore n starts ends delays listed lengths nodes from to via room-from room-to room-via ≡ v
+  graph-tested nodes from to via v o p q =
+      sym (q ∙ ap (λ (x : Verdict). designSizes (design n starts ends delays) then (listSizes (pathList listed lengths) then (graphSizes (graphSlices nodes from to via) then (x then (designTests (design n starts ends delays) then (listTests (design n starts ends delays) (pathList listed lengths) then graphTest (design n starts ends delays) (graphOf (graphSlices nodes from to via)))))))) p)
 
 -- places that hold their own numbers
 pub front-upto : (n i : ℕ) (l : List ℕ) → n ≤ length l → ((k : ℕ) → k < n → getD l k 0 ≡ i + k) → take n l ≡ upto n i

@@ -114,9 +114,9 @@ module _ (L : PathList) (s : List ℕ) (base : ℕ) (T : RestTable L s base) whe
   head-is (suc i) h =
       ap (λ (x : ℕ). cond (eqb x 1) 1 0) (rest-is i (omega arith)) ∙ sym (head-next (L .lengths) i filled-at (omega (arith, T .total)))
 
-  pub key-is : (D : Design) (starts flat : List ℕ) → D .starts ≡ starts → L .edges ≡ flat → (i : ℕ) → i < length flat
-      → keyFrom starts flat (table s base (length flat)) i ≡ positionKey D L i
-  key-is D starts flat d e i h =
+  pub key-is : (D : Design) (starts listed : List ℕ) → D .starts ≡ starts → L .edges ≡ listed → (i : ℕ) → i < length listed
+      → keyFrom starts listed (table s base (length listed)) i ≡ positionKey D L i
+  key-is D starts listed d e i h =
       let k : i < length (L .edges) = rw e h in
       rw (← d, ← e)
       (ap₂ (λ (x y : ℕ). getD (D .starts) (getD (L .edges) i 0) 0 ∷ x ∷ y ∷ take y (drop i (L .edges))) (head-is i k) (rest-is i k))

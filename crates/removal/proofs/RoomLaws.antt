@@ -40,29 +40,29 @@ pub nodes-two : {A : Type 0} (f : A → ℕ) (k : ℕ) (xs ys : List A) (room no
     → after ≡ put k (map f (xs ++ ys)) room
 nodes-two f k xs ys room now after a b = put-two f k (k + length xs) xs ys room now after refl a b
 
-pub edged-none : (k : ℕ) (from to via : List ℕ) → Edged [] k from to via from to via k
-edged-none k from to via = record { starts = refl; ends = refl; names = refl; next = omega arith }
+pub edged-none : (k : ℕ) (room-from room-to room-via : List ℕ) → Edged [] k room-from room-to room-via room-from room-to room-via k
+edged-none k room-from room-to room-via = record { starts = refl; ends = refl; names = refl; next = omega arith }
 
-pub edged-more : (es fs : List Edge) (k r n : ℕ) (from to via from′ to′ via′ from″ to″ via″ : List ℕ) → Edged es k from to via from′ to′ via′ r
-    → Edged fs r from′ to′ via′ from″ to″ via″ n → Edged (es ++ fs) k from to via from″ to″ via″ n
-edged-more es fs k r n from to via from′ to′ via′ from″ to″ via″ a b =
+pub edged-more : (es fs : List Edge) (k r n : ℕ) (room-from room-to room-via room-from′ room-to′ room-via′ room-from″ room-to″ room-via″ : List ℕ) → Edged es k room-from room-to room-via room-from′ room-to′ room-via′ r
+    → Edged fs r room-from′ room-to′ room-via′ room-from″ room-to″ room-via″ n → Edged (es ++ fs) k room-from room-to room-via room-from″ room-to″ room-via″ n
+edged-more es fs k r n room-from room-to room-via room-from′ room-to′ room-via′ room-from″ room-to″ room-via″ a b =
     record {
-      starts = put-two (λ (e : Edge). e .start) k r es fs from from′ from″ (a .next) (a .starts) (b .starts);
-      ends = put-two (λ (e : Edge). e .end) k r es fs to to′ to″ (a .next) (a .ends) (b .ends);
-      names = put-two (λ (e : Edge). e .name) k r es fs via via′ via″ (a .next) (a .names) (b .names);
+      starts = put-two (λ (e : Edge). e .start) k r es fs room-from room-from′ room-from″ (a .next) (a .starts) (b .starts);
+      ends = put-two (λ (e : Edge). e .end) k r es fs room-to room-to′ room-to″ (a .next) (a .ends) (b .ends);
+      names = put-two (λ (e : Edge). e .name) k r es fs room-via room-via′ room-via″ (a .next) (a .names) (b .names);
       next = omega (arith, a .next, b .next, length-append es fs);
     }
 
 -- the rooms keep their lengths
-pub record Sizes (from to via from′ to′ via′ : List ℕ) : Type 0 where
-  pub starts : length from′ ≡ length from
-  pub ends : length to′ ≡ length to
-  pub names : length via′ ≡ length via
+pub record Sizes (room-from room-to room-via room-from′ room-to′ room-via′ : List ℕ) : Type 0 where
+  pub starts : length room-from′ ≡ length room-from
+  pub ends : length room-to′ ≡ length room-to
+  pub names : length room-via′ ≡ length room-via
 
-pub edged-sizes : (es : List Edge) (k r : ℕ) (from to via from′ to′ via′ : List ℕ) → Edged es k from to via from′ to′ via′ r → Sizes from to via from′ to′ via′
-edged-sizes es k r from to via from′ to′ via′ a =
+pub edged-sizes : (es : List Edge) (k r : ℕ) (room-from room-to room-via room-from′ room-to′ room-via′ : List ℕ) → Edged es k room-from room-to room-via room-from′ room-to′ room-via′ r → Sizes room-from room-to room-via room-from′ room-to′ room-via′
+edged-sizes es k r room-from room-to room-via room-from′ room-to′ room-via′ a =
     record {
-      starts = ap length (a .starts) ∙ put-length k (map (λ (e : Edge). e .start) es) from;
-      ends = ap length (a .ends) ∙ put-length k (map (λ (e : Edge). e .end) es) to;
-      names = ap length (a .names) ∙ put-length k (map (λ (e : Edge). e .name) es) via;
+      starts = ap length (a .starts) ∙ put-length k (map (λ (e : Edge). e .start) es) room-from;
+      ends = ap length (a .ends) ∙ put-length k (map (λ (e : Edge). e .end) es) room-to;
+      names = ap length (a .names) ∙ put-length k (map (λ (e : Edge). e .name) es) room-via;
     }

@@ -57,8 +57,8 @@ module _ (l : Layout) (s : List ℕ) (h : Held l s) where
   pub count-inside : (c : ℕ) → c < l .copies → slots (boundsIn l (take (l .slots) s)) c ≤ length s
   count-inside c k = omega (arith, h .room, base-up (boundsIn l (take (l .slots) s)) c (l .copies) k)
 
-pub ready-held : (l : Layout) (flat gs ge gn s : List ℕ) → Ready l flat gs ge gn s → Held l s
-ready-held l flat gs ge gn s r =
+pub ready-held : (l : Layout) (listed from to via s : List ℕ) → Ready l listed from to via s → Held l s
+ready-held l listed from to via s r =
     record {
       tables = omega (arith, r .tabled .laid .low, r .tabled .laid .into, r .tabled .laid .out);
       room = r .room;

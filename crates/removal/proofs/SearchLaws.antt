@@ -79,11 +79,11 @@ around-read starts L order firsts v low middle high h f x y z = record {
 }
 
 -- filling words one after the other
-pub filled-start : (t : List ℕ) (from v : ℕ) → FilledTo t t from from v from
-filled-start t from v = record { size = refl; inside = λ k h l. absurd (omega arith); outside = λ k f. refl; least = omega arith; past = omega arith; next = λ h. refl }
+pub filled-start : (t : List ℕ) (first v : ℕ) → FilledTo t t first first v first
+filled-start t first v = record { size = refl; inside = λ k h l. absurd (omega arith); outside = λ k f. refl; least = omega arith; past = omega arith; next = λ h. refl }
 
-pub filled-more : (t u : List ℕ) (from v k : ℕ) → k < length t → FilledTo t u from k v k → FilledTo t (set u k v) from (k + 1) v (k + 1)
-filled-more t u from v k h f = record {
+pub filled-more : (t u : List ℕ) (first v k : ℕ) → k < length t → FilledTo t u first k v k → FilledTo t (set u k v) first (k + 1) v (k + 1)
+filled-more t u first v k h f = record {
   size = length-set u k v ∙ f .size;
   inside = λ j l m. elim (ℕ-discrete j k) [
     | yes e ↦ ap (λ (i : ℕ). getD (set u k v) i 0) e ∙ getD-set-same u k v 0 (omega (arith, f .size))
@@ -98,8 +98,8 @@ filled-more t u from v k h f = record {
   next = λ l. refl;
 }
 
-pub filled-end : (t u : List ℕ) (from to v k : ℕ) → to ≤ k → (from < k → k ≤ to) → FilledTo t u from k v k → FilledTo t u from to v k
-filled-end t u from to v k h m f = record {
+pub filled-end : (t u : List ℕ) (first end v k : ℕ) → end ≤ k → (first < k → k ≤ end) → FilledTo t u first k v k → FilledTo t u first end v k
+filled-end t u first end v k h m f = record {
   size = f .size;
   inside = λ j l n. f .inside j l (omega arith);
   outside = λ j g. f .outside j (λ l n. g l (omega (arith, m (omega arith))));

@@ -29,7 +29,7 @@ use Rattle.removal.proofs.ShowTables.{setting-of, edges-listed, first-c
 
 -- the tables, as the scratch has them
 abbrev orderOf : Layout → List ℕ → List ℕ → List ℕ
-orderOf l flat s = orderIn l flat (take (l .slots) s)
+orderOf l listed s = orderIn l listed (take (l .slots) s)
 
 abbrev boundsOf : Layout → List ℕ → Bounds
 boundsOf l s = boundsIn l (take (l .slots) s)
@@ -71,28 +71,28 @@ module _ (G : Graph) (L : PathList) (order : List ℕ) (B : Bounds) (flags : ℕ
       }
 
 -- where a chain is empty, paths start
-module _ (l : Layout) (flat gs ge gn s : List ℕ) (r : Ready l flat gs ge gn s) (c : ℕ) (inside : c < l .copies)
-    (D : Design) (L : PathList) (G : Graph) (t : Tabled D L G l flat gs ge gn (take (l .slots) s)) where
+module _ (l : Layout) (listed from to via s : List ℕ) (r : Ready l listed from to via s) (c : ℕ) (inside : c < l .copies)
+    (D : Design) (L : PathList) (G : Graph) (t : Tabled D L G l listed from to via (take (l .slots) s)) where
   starts-here : getD s (l .into + c) 0 ≡ 0 → startsAt G c ≡ true
   starts-here z =
-      let none = chain-ends (table (take (l .slots) s) (l .into + l .copies) (l .edges)) (edgesAt ge c (l .edges) 0)
-      (subst (λ (h : ℕ). Chain (table (take (l .slots) s) (l .into + l .copies) (l .edges)) h (edgesAt ge c (l .edges) 0)) z (first-chain l flat gs ge gn s r c inside)) in
-      ap isNil (edges-listed D L G l flat gs ge gn (take (l .slots) s) t c) ∙ ap (λ (k : List ℕ). isNil (map (edgeAt gs ge gn) k)) none
+      let none = chain-ends (table (take (l .slots) s) (l .into + l .copies) (l .edges)) (edgesAt to c (l .edges) 0)
+      (subst (λ (h : ℕ). Chain (table (take (l .slots) s) (l .into + l .copies) (l .edges)) h (edgesAt to c (l .edges) 0)) z (first-chain l listed from to via s r c inside)) in
+      ap isNil (edges-listed D L G l listed from to via (take (l .slots) s) t c) ∙ ap (λ (k : List ℕ). isNil (map (edgeAt from to via) k)) none
 
-  some-edge : (next es : List ℕ) (h : ℕ) → Chain next h es → (h ≡ 0 → ⊥) → isNil (map (edgeAt gs ge gn) es) ≡ false
+  some-edge : (next es : List ℕ) (h : ℕ) → Chain next h es → (h ≡ 0 → ⊥) → isNil (map (edgeAt from to via) es) ≡ false
   some-edge next [] h x f = absurd (f x)
   some-edge next (e ∷ es) h x f = refl
 
   starts-not : (getD s (l .into + c) 0 ≡ 0 → ⊥) → startsAt G c ≡ false
   starts-not f =
-      ap isNil (edges-listed D L G l flat gs ge gn (take (l .slots) s) t c)
-      ∙ some-edge (table (take (l .slots) s) (l .into + l .copies) (l .edges)) (edgesAt ge c (l .edges) 0) (getD s (l .into + c) 0) (first-chain l flat gs ge gn s r c inside) f
+      ap isNil (edges-listed D L G l listed from to via (take (l .slots) s) t c)
+      ∙ some-edge (table (take (l .slots) s) (l .into + l .copies) (l .edges)) (edgesAt to c (l .edges) 0) (getD s (l .into + c) 0) (first-chain l listed from to via s r c inside) f
 
 -- a slot, shown or not
-module _ (l : Layout) (flat gs ge gn s : List ℕ) (r : Ready l flat gs ge gn s) (c j copies edges : ℕ) (room : SlotRoom l s c j copies edges) where
-  kept : ((D : Design) (L : PathList) (G : Graph) → Tabled D L G l flat gs ge gn (take (l .slots) s)
-      → shows G L (orderOf l flat s) (boundsOf l s) (reachedBy (flagIn l s)) (shownBy (flagIn l s)) c j ≡ false)
-      → SlotShown l flat gs ge gn s s c j copies edges copies edges
+module _ (l : Layout) (listed from to via s : List ℕ) (r : Ready l listed from to via s) (c j copies edges : ℕ) (room : SlotRoom l s c j copies edges) where
+  kept : ((D : Design) (L : PathList) (G : Graph) → Tabled D L G l listed from to via (take (l .slots) s)
+      → shows G L (orderOf l listed s) (boundsOf l s) (reachedBy (flagIn l s)) (shownBy (flagIn l s)) c j ≡ false)
+      → SlotShown l listed from to via s s c j copies edges copies edges
   kept off =
       record {
         size = refl;
@@ -100,29 +100,29 @@ module _ (l : Layout) (flat gs ge gn s : List ℕ) (r : Ready l flat gs ge gn s)
         others = λ i h. refl;
         few-copies = omega arith;
         few-edges = room .few-edges;
-        meets = λ D L G t. rule-off G L (orderOf l flat s) (boundsOf l s) (flagIn l s) c j copies edges (off D L G t);
+        meets = λ D L G t. rule-off G L (orderOf l listed s) (boundsOf l s) (flagIn l s) c j copies edges (off D L G t);
       }
 
-  pub not-reached : flagIn l s c j ≡ 0 → SlotShown l flat gs ge gn s s c j copies edges copies edges
+  pub not-reached : flagIn l s c j ≡ 0 → SlotShown l listed from to via s s c j copies edges copies edges
   unfolding shows
-  not-reached z = kept (λ D L G t. rule-none (flagIn l s c j) (startsAt G c || ltb 0 (edgesTo G L (orderOf l flat s) (boundsOf l s) (shownBy (flagIn l s)) c j)) z)
+  not-reached z = kept (λ D L G t. rule-none (flagIn l s c j) (startsAt G c || ltb 0 (edgesTo G L (orderOf l listed s) (boundsOf l s) (shownBy (flagIn l s)) c j)) z)
 
-  pub not-shown : (n : ℕ) → EdgesMeet l flat gs ge gn s c j n → n ≡ 0 → (getD s (l .into + c) 0 ≡ 0 → ⊥) → SlotShown l flat gs ge gn s s c j copies edges copies edges
+  pub not-shown : (n : ℕ) → EdgesMeet l listed from to via s c j n → n ≡ 0 → (getD s (l .into + c) 0 ≡ 0 → ⊥) → SlotShown l listed from to via s s c j copies edges copies edges
   unfolding shows
   not-shown n m z f =
       kept (λ D L G t.
-      rule-cut (reachedBy (flagIn l s) c j) (startsAt G c) (edgesTo G L (orderOf l flat s) (boundsOf l s) (shownBy (flagIn l s)) c j)
-      (starts-not l flat gs ge gn s r c (room .copy) D L G t f) (sym (m .counts D L G t) ∙ z))
+      rule-cut (reachedBy (flagIn l s) c j) (startsAt G c) (edgesTo G L (orderOf l listed s) (boundsOf l s) (shownBy (flagIn l s)) c j)
+      (starts-not l listed from to via s r c (room .copy) D L G t f) (sym (m .counts D L G t) ∙ z))
 
   place : slotPlace l (take (l .slots) s) c j < length s
-  place = place-inside l s (ready-held l flat gs ge gn s r) c j (room .copy) (room .slot)
+  place = place-inside l s (ready-held l listed from to via s r) c j (room .copy) (room .slot)
 
-  pub is-shown : (n : ℕ) → EdgesMeet l flat gs ge gn s c j n → (flagIn l s c j ≡ 0 → ⊥) → ((n ≡ 0 → ⊥) ⊎ (getD s (l .into + c) 0 ≡ 0))
-      → SlotShown l flat gs ge gn s (set s (slotPlace l (take (l .slots) s) c j) (copies + 2)) c j copies edges (copies + 1) (edges + n)
+  pub is-shown : (n : ℕ) → EdgesMeet l listed from to via s c j n → (flagIn l s c j ≡ 0 → ⊥) → ((n ≡ 0 → ⊥) ⊎ (getD s (l .into + c) 0 ≡ 0))
+      → SlotShown l listed from to via s (set s (slotPlace l (take (l .slots) s) c j) (copies + 2)) c j copies edges (copies + 1) (edges + n)
   unfolding shows
   is-shown n m f g =
       let B = boundsOf l s in
-      let order = orderOf l flat s in
+      let order = orderOf l listed s in
       let p = slotPlace l (take (l .slots) s) c j in
       record {
         size = length-set s p (copies + 2);
@@ -136,19 +136,19 @@ module _ (l : Layout) (flat gs ge gn s : List ℕ) (r : Ready l flat gs ge gn s)
             (λ (q : n ≡ 0 → ⊥).
             rule-edges (flagIn l s c j) (edgesTo G L order B (shownBy (flagIn l s)) c j) (startsAt G c) f (λ z. q (m .counts D L G t ∙ z)))
             (λ (q : getD s (l .into + c) 0 ≡ 0).
-            rule-starts (flagIn l s c j) (edgesTo G L order B (shownBy (flagIn l s)) c j) (startsAt G c) f (starts-here l flat gs ge gn s r c (room .copy) D L G t q))
+            rule-starts (flagIn l s c j) (edgesTo G L order B (shownBy (flagIn l s)) c j) (startsAt G c) f (starts-here l listed from to via s r c (room .copy) D L G t q))
             g)
             (getD-set-same s p (copies + 2) 0 place) refl refl (m .counts D L G t);
       }
 
 -- the tables stay
-pub ready-same : (l : Layout) (flat gs ge gn s t : List ℕ) → length t ≡ length s → take (l .slots) t ≡ take (l .slots) s → Ready l flat gs ge gn s → Ready l flat gs ge gn t
-ready-same l flat gs ge gn s t n q r =
+pub ready-same : (l : Layout) (listed from to via s t : List ℕ) → length t ≡ length s → take (l .slots) t ≡ take (l .slots) s → Ready l listed from to via s → Ready l listed from to via t
+ready-same l listed from to via s t n q r =
     record {
       design = r .design;
       list = r .list;
       graph = r .graph;
-      tabled = subst (λ (p : List ℕ). Tabled (r .design) (r .list) (r .graph) l flat gs ge gn p) (sym q) (r .tabled);
+      tabled = subst (λ (p : List ℕ). Tabled (r .design) (r .list) (r .graph) l listed from to via p) (sym q) (r .tabled);
       room = subst (λ (p : List ℕ). l .slots + slotBase (boundsIn l p) (l .copies) ≤ length t) (sym q) (omega (arith, r .room));
       few = subst (λ (p : List ℕ). slotBase (boundsIn l p) (l .copies) + 2 < 4294967296) (sym q) (r .few);
     }
@@ -166,18 +166,18 @@ apart l p c d i j h k f q =
           ]
     ]
 
-module _ (l : Layout) (flat gs ge gn s : List ℕ) where
+module _ (l : Layout) (listed from to via s : List ℕ) where
   pub to-start : (c copies edges : ℕ) → copies ≤ slotBase (boundsOf l s) c → edges ≤ copies * 65536
-      → PassedTo l flat gs ge gn s s c copies edges c 0 copies edges
+      → PassedTo l listed from to via s s c copies edges c 0 copies edges
   to-start c copies edges h k =
       record { size = refl; tables = refl; past = λ i m. refl; few-copies = omega arith; few-edges = k; meets = λ D L G t first p. p }
 
   module _ (t u : List ℕ) (c copies edges : ℕ) where
     -- one slot more
     pub to-slot : (j more links most all : ℕ) → c < l .copies → j < slots (boundsOf l s) c
-        → PassedTo l flat gs ge gn s t c copies edges c j more links
-        → SlotShown l flat gs ge gn t u c j more links most all
-        → PassedTo l flat gs ge gn s u c copies edges c (j + 1) most all
+        → PassedTo l listed from to via s t c copies edges c j more links
+        → SlotShown l listed from to via t u c j more links most all
+        → PassedTo l listed from to via s u c copies edges c (j + 1) most all
     to-slot j more links most all inside slot x y =
         let here : j < slots (boundsOf l t) c = subst (λ (p : List ℕ). j < slots (boundsIn l p) c) (sym (x .tables)) slot in
         record {
@@ -191,14 +191,14 @@ module _ (l : Layout) (flat gs ge gn s : List ℕ) where
           few-copies = omega (arith, x .few-copies, y .few-copies);
           few-edges = y .few-edges;
           meets = λ D L G g first p.
-              let h : Tabled D L G l flat gs ge gn (take (l .slots) t) = subst (λ (w : List ℕ). Tabled D L G l flat gs ge gn w) (sym (x .tables)) g in
+              let h : Tabled D L G l listed from to via (take (l .slots) t) = subst (λ (w : List ℕ). Tabled D L G l listed from to via w) (sym (x .tables)) g in
               let n : suc j ≡ j + 1 = omega arith in
-              let z : Passed G L (orderOf l flat t) (boundsOf l t) first (flagIn l t) c j more links =
-              subst (λ (w : List ℕ). Passed G L (orderIn l flat w) (boundsIn l w) first (flagIn l t) c j more links) (sym (x .tables)) (x .meets D L G g first p) in
+              let z : Passed G L (orderOf l listed t) (boundsOf l t) first (flagIn l t) c j more links =
+              subst (λ (w : List ℕ). Passed G L (orderIn l listed w) (boundsIn l w) first (flagIn l t) c j more links) (sym (x .tables)) (x .meets D L G g first p) in
               let rule = y .meets D L G h in
-              subst (λ (w : List ℕ). Passed G L (orderIn l flat w) (boundsIn l w) first (flagIn l u) c (j + 1) most all) (x .tables)
-              (subst (λ (k : ℕ). Passed G L (orderOf l flat t) (boundsOf l t) first (flagIn l u) c k most all) n
-              (pass-slot D G L (orderOf l flat t) (boundsOf l t) (setting-of D L G l flat gs ge gn (take (l .slots) t) h) first (flagIn l t) (flagIn l u) c j more links
+              subst (λ (w : List ℕ). Passed G L (orderIn l listed w) (boundsIn l w) first (flagIn l u) c (j + 1) most all) (x .tables)
+              (subst (λ (k : ℕ). Passed G L (orderOf l listed t) (boundsOf l t) first (flagIn l u) c k most all) n
+              (pass-slot D G L (orderOf l listed t) (boundsOf l t) (setting-of D L G l listed from to via (take (l .slots) t) h) first (flagIn l t) (flagIn l u) c j more links
               (omega (arith, g .copies)) here z most all
               (λ d i a b f.
               ap (λ (w : List ℕ). getD u (slotPlace l w d i) 0) (y .tables) ∙ y .others (slotPlace l (take (l .slots) t) d i) (apart l (take (l .slots) t) c d i j b here f))
@@ -207,8 +207,8 @@ module _ (l : Layout) (flat gs ge gn s : List ℕ) where
         }
 
     -- one copy more
-    pub to-copy : (j more links : ℕ) → j ≡ slots (boundsOf l s) c → PassedTo l flat gs ge gn s t c copies edges c j more links
-        → PassedTo l flat gs ge gn s t c copies edges (c + 1) 0 more links
+    pub to-copy : (j more links : ℕ) → j ≡ slots (boundsOf l s) c → PassedTo l listed from to via s t c copies edges c j more links
+        → PassedTo l listed from to via s t c copies edges (c + 1) 0 more links
     to-copy j more links e x =
         let n : suc c ≡ c + 1 = omega arith in
         record {
@@ -218,14 +218,14 @@ module _ (l : Layout) (flat gs ge gn s : List ℕ) where
           few-copies = omega (arith, x .few-copies, base-next (boundsOf l s) c, ap (slotBase (boundsOf l s)) n);
           few-edges = x .few-edges;
           meets = λ D L G g first p.
-              subst (λ (k : ℕ). Passed G L (orderOf l flat s) (boundsOf l s) first (flagIn l t) k 0 more links) n
-              (pass-copy D G L (orderOf l flat s) (boundsOf l s) (setting-of D L G l flat gs ge gn (take (l .slots) s) g) first (flagIn l t) c more links
-              (subst (λ (k : ℕ). Passed G L (orderOf l flat s) (boundsOf l s) first (flagIn l t) c k more links) e (x .meets D L G g first p)));
+              subst (λ (k : ℕ). Passed G L (orderOf l listed s) (boundsOf l s) first (flagIn l t) k 0 more links) n
+              (pass-copy D G L (orderOf l listed s) (boundsOf l s) (setting-of D L G l listed from to via (take (l .slots) s) g) first (flagIn l t) c more links
+              (subst (λ (k : ℕ). Passed G L (orderOf l listed s) (boundsOf l s) first (flagIn l t) c k more links) e (x .meets D L G g first p)));
         }
 
     -- and on from there
-    pub to-more : (d more links b most all : ℕ) → PassedTo l flat gs ge gn s t c copies edges d 0 more links → PassedTo l flat gs ge gn t u d more links b 0 most all
-        → PassedTo l flat gs ge gn s u c copies edges b 0 most all
+    pub to-more : (d more links b most all : ℕ) → PassedTo l listed from to via s t c copies edges d 0 more links → PassedTo l listed from to via t u d more links b 0 most all
+        → PassedTo l listed from to via s u c copies edges b 0 most all
     to-more d more links b most all x y =
         record {
           size = y .size ∙ x .size;
@@ -234,15 +234,15 @@ module _ (l : Layout) (flat gs ge gn s : List ℕ) where
           few-copies = subst (λ (p : List ℕ). most ≤ slotBase (boundsIn l p) b + 0) (x .tables) (y .few-copies);
           few-edges = y .few-edges;
           meets = λ D L G g first p.
-              subst (λ (w : List ℕ). Passed G L (orderIn l flat w) (boundsIn l w) first (flagIn l u) b 0 most all) (x .tables)
-              (y .meets D L G (subst (λ (w : List ℕ). Tabled D L G l flat gs ge gn w) (sym (x .tables)) g) first
-              (subst (λ (w : List ℕ). Passed G L (orderIn l flat w) (boundsIn l w) first (flagIn l t) d 0 more links) (sym (x .tables)) (x .meets D L G g first p)));
+              subst (λ (w : List ℕ). Passed G L (orderIn l listed w) (boundsIn l w) first (flagIn l u) b 0 most all) (x .tables)
+              (y .meets D L G (subst (λ (w : List ℕ). Tabled D L G l listed from to via w) (sym (x .tables)) g) first
+              (subst (λ (w : List ℕ). Passed G L (orderIn l listed w) (boundsIn l w) first (flagIn l t) d 0 more links) (sym (x .tables)) (x .meets D L G g first p)));
         }
 
 -- at the end
-pub to-all : (l : Layout) (flat gs ge gn s t : List ℕ) (c copies edges : ℕ) → c ≡ l .copies → PassedTo l flat gs ge gn s t 0 0 0 c 0 copies edges
-    → AllShown l flat gs ge gn s t copies edges
-to-all l flat gs ge gn s t c copies edges e x =
+pub to-all : (l : Layout) (listed from to via s t : List ℕ) (c copies edges : ℕ) → c ≡ l .copies → PassedTo l listed from to via s t 0 0 0 c 0 copies edges
+    → AllShown l listed from to via s t copies edges
+to-all l listed from to via s t c copies edges e x =
     record {
       size = x .size;
       tables = x .tables;
@@ -250,9 +250,9 @@ to-all l flat gs ge gn s t c copies edges e x =
       few-copies = omega (arith, x .few-copies, ap (slotBase (boundsOf l s)) e);
       few-edges = x .few-edges;
       meets = λ D L G g low rows.
-          let order = orderOf l flat s in
+          let order = orderOf l listed s in
           let B = boundsOf l s in
-          let S = setting-of D L G l flat gs ge gn (take (l .slots) s) g in
+          let S = setting-of D L G l listed from to via (take (l .slots) s) g in
           let p : Passed G L order B (flagIn l s) (flagIn l t) (length (G .nodes)) 0 copies edges =
           subst (λ (k : ℕ). Passed G L order B (flagIn l s) (flagIn l t) k 0 copies edges) (e ∙ sym (g .copies))
           (x .meets D L G g (flagIn l s) (pass-start D G L order B S (flagIn l s) (λ d i h k. low d i (omega (arith, g .copies)) k))) in
@@ -268,9 +268,9 @@ to-all l flat gs ge gn s t c copies edges e x =
     }
 
 -- what the next slot and the next copy ask
-module _ (l : Layout) (flat gs ge gn s t : List ℕ) (c copies edges d j more links : ℕ) (x : PassedTo l flat gs ge gn s t c copies edges d j more links) where
-  pub to-ready : Ready l flat gs ge gn s → Ready l flat gs ge gn t
-  to-ready r = ready-same l flat gs ge gn s t (x .size) (x .tables) r
+module _ (l : Layout) (listed from to via s t : List ℕ) (c copies edges d j more links : ℕ) (x : PassedTo l listed from to via s t c copies edges d j more links) where
+  pub to-ready : Ready l listed from to via s → Ready l listed from to via t
+  to-ready r = ready-same l listed from to via s t (x .size) (x .tables) r
 
   pub to-room : d < l .copies → j < slots (boundsOf l s) d → SlotRoom l t d j more links
   to-room h k =

@@ -10,11 +10,11 @@ use Rattle.removal.specs.Rows.{boundsIn, orderIn, Tabled, Ready, flagIn}
 use Rattle.removal.specs.Show.{ShowsAll}
 use Rattle.removal.specs.Fill.{ShownReady}
 
-pub shown-ready : (l : Layout) (flat gs ge gn t : List ℕ) (copies edges : ℕ) → Ready l flat gs ge gn t
-    → ((D : Design) (L : PathList) (G : Graph) → Tabled D L G l flat gs ge gn (take (l .slots) t)
-    → ShowsAll G L (orderIn l flat (take (l .slots) t)) (boundsIn l (take (l .slots) t)) (flagIn l t) copies edges)
-    → ShownReady l flat gs ge gn t
-shown-ready l flat gs ge gn t copies edges r a =
+pub shown-ready : (l : Layout) (listed from to via t : List ℕ) (copies edges : ℕ) → Ready l listed from to via t
+    → ((D : Design) (L : PathList) (G : Graph) → Tabled D L G l listed from to via (take (l .slots) t)
+    → ShowsAll G L (orderIn l listed (take (l .slots) t)) (boundsIn l (take (l .slots) t)) (flagIn l t) copies edges)
+    → ShownReady l listed from to via t
+shown-ready l listed from to via t copies edges r a =
     record {
       ready = r;
       rows = λ D L G x c h. a D L G x .rows c (omega (arith, x .copies));

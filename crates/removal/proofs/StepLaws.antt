@@ -36,34 +36,34 @@ prefix-cut (x ∷ u) [] = refl
 prefix-cut (x ∷ u) (y ∷ v) = ap (λ (t : Bool). eqb x y && t) (prefix-cut u v)
 
 -- a position fits where its edge is the one named, and the edges after it are the first ones of the mark
-module _ (flat : List ℕ) (k i name at len : ℕ) (one : 1 ≤ k) (inside : i + k ≤ length flat) where
-  pub fit-cons : isPrefix (take k (drop i flat)) (name ∷ take len (drop at flat)) ≡ (eqb (getD flat i 0) name && isPrefix (take (k - 1) (drop (i + 1) flat)) (take len (drop at flat)))
+module _ (listed : List ℕ) (k i name at len : ℕ) (one : 1 ≤ k) (inside : i + k ≤ length listed) where
+  pub fit-cons : isPrefix (take k (drop i listed)) (name ∷ take len (drop at listed)) ≡ (eqb (getD listed i 0) name && isPrefix (take (k - 1) (drop (i + 1) listed)) (take len (drop at listed)))
   fit-cons =
       let d : k ≡ suc (k - 1) = omega arith in
-      ap₂ (λ (n : ℕ) (u : List ℕ). isPrefix (take n u) (name ∷ take len (drop at flat))) d (drop-cons flat i 0 (omega arith))
-      ∙ ap (λ (n : ℕ). eqb (getD flat i 0) name && isPrefix (take (k - 1) (drop n flat)) (take len (drop at flat))) (sym (add-one i))
+      ap₂ (λ (n : ℕ) (u : List ℕ). isPrefix (take n u) (name ∷ take len (drop at listed))) d (drop-cons listed i 0 (omega arith))
+      ∙ ap (λ (n : ℕ). eqb (getD listed i 0) name && isPrefix (take (k - 1) (drop n listed)) (take len (drop at listed))) (sym (add-one i))
 
-  after-length : length (take (k - 1) (drop (i + 1) flat)) ≡ k - 1
-  after-length = length-take-le (k - 1) (drop (i + 1) flat) (rw length-drop (omega arith))
+  after-length : length (take (k - 1) (drop (i + 1) listed)) ≡ k - 1
+  after-length = length-take-le (k - 1) (drop (i + 1) listed) (rw length-drop (omega arith))
 
-  pub fit-other : (getD flat i 0 ≡ name → ⊥) → isPrefix (take k (drop i flat)) (name ∷ take len (drop at flat)) ≡ false
-  fit-other f = fit-cons ∙ ap (λ (t : Bool). t && isPrefix (take (k - 1) (drop (i + 1) flat)) (take len (drop at flat))) (ne-eqb _ _ f)
+  pub fit-other : (getD listed i 0 ≡ name → ⊥) → isPrefix (take k (drop i listed)) (name ∷ take len (drop at listed)) ≡ false
+  fit-other f = fit-cons ∙ ap (λ (t : Bool). t && isPrefix (take (k - 1) (drop (i + 1) listed)) (take len (drop at listed))) (ne-eqb _ _ f)
 
-  fit-named : getD flat i 0 ≡ name → isPrefix (take k (drop i flat)) (name ∷ take len (drop at flat)) ≡ isPrefix (take (k - 1) (drop (i + 1) flat)) (take len (drop at flat))
-  fit-named e = fit-cons ∙ ap (λ (t : Bool). t && isPrefix (take (k - 1) (drop (i + 1) flat)) (take len (drop at flat))) (eq-eqb _ _ e)
+  fit-named : getD listed i 0 ≡ name → isPrefix (take k (drop i listed)) (name ∷ take len (drop at listed)) ≡ isPrefix (take (k - 1) (drop (i + 1) listed)) (take len (drop at listed))
+  fit-named e = fit-cons ∙ ap (λ (t : Bool). t && isPrefix (take (k - 1) (drop (i + 1) listed)) (take len (drop at listed))) (eq-eqb _ _ e)
 
-  pub fit-same : getD flat i 0 ≡ name → k - 1 ≤ len
-      → isPrefix (take k (drop i flat)) (name ∷ take len (drop at flat)) ≡ isPrefix (take (k - 1) (drop (i + 1) flat)) (take (k - 1) (drop at flat))
+  pub fit-same : getD listed i 0 ≡ name → k - 1 ≤ len
+      → isPrefix (take k (drop i listed)) (name ∷ take len (drop at listed)) ≡ isPrefix (take (k - 1) (drop (i + 1) listed)) (take (k - 1) (drop at listed))
   fit-same e h =
       fit-named e
-      ∙ prefix-cut (take (k - 1) (drop (i + 1) flat)) (take len (drop at flat))
-      ∙ ap (λ (n : ℕ). isPrefix (take (k - 1) (drop (i + 1) flat)) (take n (take len (drop at flat)))) after-length
-      ∙ ap (isPrefix (take (k - 1) (drop (i + 1) flat))) (take-take (k - 1) len (drop at flat) h)
+      ∙ prefix-cut (take (k - 1) (drop (i + 1) listed)) (take len (drop at listed))
+      ∙ ap (λ (n : ℕ). isPrefix (take (k - 1) (drop (i + 1) listed)) (take n (take len (drop at listed)))) after-length
+      ∙ ap (isPrefix (take (k - 1) (drop (i + 1) listed))) (take-take (k - 1) len (drop at listed) h)
 
 pub true-false : {b : Bool} → b ≡ true → b ≡ false → ⊥
 true-false p q = subst T (sym p ∙ q) tt
 
 -- a part of the places
-pub room-part : (flat s : List ℕ) (rest order from to at len f u : ℕ) → f ≤ u → u ≤ to → PlacesRoom flat s rest order from to at len → PlacesRoom flat s rest order f u at len
-room-part flat s rest order from to at len f u up inside r =
+pub room-part : (listed s : List ℕ) (rest order first end at len f u : ℕ) → f ≤ u → u ≤ end → PlacesRoom listed s rest order first end at len → PlacesRoom listed s rest order f u at len
+room-part listed s rest order first end at len f u up inside r =
     record { up = up; read = omega (arith, r .read); positions = λ t h. r .positions t (omega arith) }

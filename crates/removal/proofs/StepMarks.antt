@@ -59,8 +59,8 @@ module _ (D : Design) (L : PathList) (G : Graph) (B : Bounds) (s : List ℕ) (re
       let i = getD s (order + t) 0 in
       ap (λ (j : ℕ). length (tailAt L j)) (sym (place-is t h)) ∙ tail-length L (g .total) i (place-in t h) ∙ sym (rest-is i (place-in t h))
 
-  pub places-room : (from to at len : ℕ) → from ≤ to → to ≤ length (L .edges) → at + len ≤ length (L .edges) → PlacesRoom (L .edges) s rest order from to at len
-  places-room from to at len up inside room =
+  pub places-room : (first end at len : ℕ) → first ≤ end → end ≤ length (L .edges) → at + len ≤ length (L .edges) → PlacesRoom (L .edges) s rest order first end at len
+  places-room first end at len up inside room =
       record { up = up; read = omega (arith, g .order-room); positions = λ t h. at-place t (omega arith) }
     where
       at-place : (t : ℕ) → t < length (L .edges) → PositionRoom (L .edges) s rest (getD s (order + t) 0) at len
@@ -288,36 +288,36 @@ module _ (D : Design) (L : PathList) (G : Graph) (B : Bounds) (s : List ℕ) (re
   }
 
 -- so the answers of the two searches are the step
-module _ (flat s : List ℕ) (rest order low middle high name at len : ℕ) where
-  heads-at : (D : Design) (lengths : List ℕ) (G : Graph) (B : Bounds) (c : ℕ) → SlotTables D (pathList flat lengths) G B s rest order c → middle ≡ B .middle c → high ≡ B .high c
-      → (j : ℕ) → LongestIn flat s rest order (following flat name at len) middle high j
-      → Longest (fitting flat s rest order (following flat name at len)) (restFor s rest order) (B .middle c) (B .high c) j
+module _ (listed s : List ℕ) (rest order low middle high name at len : ℕ) where
+  heads-at : (D : Design) (lengths : List ℕ) (G : Graph) (B : Bounds) (c : ℕ) → SlotTables D (pathList listed lengths) G B s rest order c → middle ≡ B .middle c → high ≡ B .high c
+      → (j : ℕ) → LongestIn listed s rest order (following listed name at len) middle high j
+      → Longest (fitting listed s rest order (following listed name at len)) (restFor s rest order) (B .middle c) (B .high c) j
   heads-at D lengths G B c g m h j f =
-      subst (λ (x : ℕ). LongestIn flat s rest order (following flat name at len) (B .middle c) x j) h
-      (subst (λ (x : ℕ). LongestIn flat s rest order (following flat name at len) x high j) m f)
-      (rising-heads D (pathList flat lengths) G B s rest order c g)
+      subst (λ (x : ℕ). LongestIn listed s rest order (following listed name at len) (B .middle c) x j) h
+      (subst (λ (x : ℕ). LongestIn listed s rest order (following listed name at len) x high j) m f)
+      (rising-heads D (pathList listed lengths) G B s rest order c g)
 
-  tails-at : (D : Design) (lengths : List ℕ) (G : Graph) (B : Bounds) (c : ℕ) → SlotTables D (pathList flat lengths) G B s rest order c → low ≡ B .low c → middle ≡ B .middle c
-      → (j : ℕ) → LongestIn flat s rest order (following flat name at len) low middle j
-      → Longest (fitting flat s rest order (following flat name at len)) (restFor s rest order) (B .low c) (B .middle c) j
+  tails-at : (D : Design) (lengths : List ℕ) (G : Graph) (B : Bounds) (c : ℕ) → SlotTables D (pathList listed lengths) G B s rest order c → low ≡ B .low c → middle ≡ B .middle c
+      → (j : ℕ) → LongestIn listed s rest order (following listed name at len) low middle j
+      → Longest (fitting listed s rest order (following listed name at len)) (restFor s rest order) (B .low c) (B .middle c) j
   tails-at D lengths G B c g l m j f =
-      subst (λ (x : ℕ). LongestIn flat s rest order (following flat name at len) (B .low c) x j) m
-      (subst (λ (x : ℕ). LongestIn flat s rest order (following flat name at len) x middle j) l f)
-      (rising-tails D (pathList flat lengths) G B s rest order c g)
+      subst (λ (x : ℕ). LongestIn listed s rest order (following listed name at len) (B .low c) x j) m
+      (subst (λ (x : ℕ). LongestIn listed s rest order (following listed name at len) x middle j) l f)
+      (rising-tails D (pathList listed lengths) G B s rest order c g)
 
-  pub dead-meets : (j : ℕ) → (j ≡ 0 → ⊥) → LongestIn flat s rest order (following flat name at len) middle high j → StepMeets flat s rest order low middle high name at len Dead
+  pub dead-meets : (j : ℕ) → (j ≡ 0 → ⊥) → LongestIn listed s rest order (following listed name at len) middle high j → StepMeets listed s rest order low middle high name at len Dead
   unfolding StepMeets
   dead-meets j f e =
       λ D lengths G B c g l m h start.
-      step-dead D (pathList flat lengths) G B s rest order c g name (take len (drop at flat)) start
-      (any-some (fitting flat s rest order (following flat name at len)) (restFor s rest order) (B .middle c) (B .high c) j f (heads-at D lengths G B c g m h j e))
+      step-dead D (pathList listed lengths) G B s rest order c g name (take len (drop at listed)) start
+      (any-some (fitting listed s rest order (following listed name at len)) (restFor s rest order) (B .middle c) (B .high c) j f (heads-at D lengths G B c g m h j e))
 
-  pub live-meets : (i j : ℕ) → i ≡ 0 → LongestIn flat s rest order (following flat name at len) middle high i
-      → LongestIn flat s rest order (following flat name at len) low middle j
-      → StepMeets flat s rest order low middle high name at len (Live j)
+  pub live-meets : (i j : ℕ) → i ≡ 0 → LongestIn listed s rest order (following listed name at len) middle high i
+      → LongestIn listed s rest order (following listed name at len) low middle j
+      → StepMeets listed s rest order low middle high name at len (Live j)
   unfolding StepMeets
   live-meets i j z e f =
       λ D lengths G B c g l m h start.
-      step-live D (pathList flat lengths) G B s rest order c g name (take len (drop at flat)) start j
-      (any-none (fitting flat s rest order (following flat name at len)) (restFor s rest order) (B .middle c) (B .high c) i z (heads-at D lengths G B c g m h i e))
+      step-live D (pathList listed lengths) G B s rest order c g name (take len (drop at listed)) start j
+      (any-none (fitting listed s rest order (following listed name at len)) (restFor s rest order) (B .middle c) (B .high c) i z (heads-at D lengths G B c g m h i e))
       (tails-at D lengths G B c g l m j f)

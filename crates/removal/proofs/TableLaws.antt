@@ -32,11 +32,11 @@ rests-fall L s base room r = record {
     is : (p : ℕ) → p < length (L .edges) → getD (table s base (length (L .edges))) p 0 ≡ restAt L p
     is p h = ap (λ (t : List ℕ). getD t p 0) (r .rests) ∙ table-is (restAt L) (length (L .edges)) p h
 
-module _ (starts flat lengths s : List ℕ) (rest order rank link : ℕ) (b : Orderable starts flat lengths s rest order rank link) where
-  pub falls : RestsFall flat (table s rest (length flat))
-  falls = rests-fall (pathList flat lengths) s rest (omega (arith, b .rest-before, b .order-before, b .rank-before, b .room)) (b .rests)
+module _ (starts listed lengths s : List ℕ) (rest order rank link : ℕ) (b : Orderable starts listed lengths s rest order rank link) where
+  pub falls : RestsFall listed (table s rest (length listed))
+  falls = rests-fall (pathList listed lengths) s rest (omega (arith, b .rest-before, b .order-before, b .rank-before, b .room)) (b .rests)
 
-  pub sortable : Sortable flat s rest order
+  pub sortable : Sortable listed s rest order
   sortable = record {
     rest-room = omega (arith, b .rest-before, b .order-before, b .rank-before, b .room);
     room = omega (arith, b .order-before, b .rank-before, b .room);
@@ -44,27 +44,27 @@ module _ (starts flat lengths s : List ℕ) (rest order rank link : ℕ) (b : Or
   }
 
   -- after the order, and the ranks stored
-  module _ (ranks places s₂ s₃ : List ℕ) (ranked : Ranked flat (table s rest (length flat)) ranks) (levels : Levels (table s rest (length flat)) places (length flat) (length flat))
-      (arranged : Arranged starts flat s s₂ rest order) (stored : table s₃ rank (length ranks) ≡ ranks) (frame : Frame s₂ s₃ rank (length ranks)) where
-    rests₃ : table s₃ rest (length flat) ≡ table s rest (length flat)
-    rests₃ = frame .below rest (length flat) (omega (arith, b .rest-before, b .order-before)) ∙ arranged .frame .below rest (length flat) (b .rest-before)
+  module _ (ranks places s₂ s₃ : List ℕ) (ranked : Ranked listed (table s rest (length listed)) ranks) (levels : Levels (table s rest (length listed)) places (length listed) (length listed))
+      (arranged : Arranged starts listed s s₂ rest order) (stored : table s₃ rank (length ranks) ≡ ranks) (frame : Frame s₂ s₃ rank (length ranks)) where
+    rests₃ : table s₃ rest (length listed) ≡ table s rest (length listed)
+    rests₃ = frame .below rest (length listed) (omega (arith, b .rest-before, b .order-before)) ∙ arranged .frame .below rest (length listed) (b .rest-before)
 
-    order₃ : table s₃ order (length flat) ≡ table s₂ order (length flat)
-    order₃ = frame .below order (length flat) (omega (arith, b .order-before))
+    order₃ : table s₃ order (length listed) ≡ table s₂ order (length listed)
+    order₃ = frame .below order (length listed) (omega (arith, b .order-before))
 
-    ranks₃ : table s₃ rank (length flat) ≡ ranks
+    ranks₃ : table s₃ rank (length listed) ≡ ranks
     ranks₃ = subst (λ (n : ℕ). table s₃ rank n ≡ ranks) (ranked .size) stored
 
     size₃ : length s₃ ≡ length s
     size₃ = frame .size ∙ arranged .frame .size
 
-    pub levels₃ : Levels (table s₃ rest (length flat)) places (length flat) (length flat)
-    levels₃ = subst (λ (x : List ℕ). Levels x places (length flat) (length flat)) (sym rests₃) levels
+    pub levels₃ : Levels (table s₃ rest (length listed)) places (length listed) (length listed)
+    levels₃ = subst (λ (x : List ℕ). Levels x places (length listed) (length listed)) (sym rests₃) levels
 
-    ranked₃ : Ranked flat (table s₃ rest (length flat)) (table s₃ rank (length flat))
-    ranked₃ = subst (λ (x : List ℕ). Ranked flat x (table s₃ rank (length flat))) (sym rests₃) (subst (Ranked flat (table s rest (length flat))) (sym ranks₃) ranked)
+    ranked₃ : Ranked listed (table s₃ rest (length listed)) (table s₃ rank (length listed))
+    ranked₃ = subst (λ (x : List ℕ). Ranked listed x (table s₃ rank (length listed))) (sym rests₃) (subst (Ranked listed (table s rest (length listed))) (sym ranks₃) ranked)
 
-    pub tailed : Tailed starts flat lengths s₃ rest order rank link
+    pub tailed : Tailed starts listed lengths s₃ rest order rank link
     tailed = record {
       search = record {
         rest-room = omega (arith, b .rest-before, b .order-before);
@@ -73,13 +73,13 @@ module _ (starts flat lengths s : List ℕ) (rest order rank link : ℕ) (b : Or
         total = b .rests .total;
         filled = λ j h. b .rests .filled (getD lengths j 0) (getD-mem lengths j 0 h);
         rests = rests₃ ∙ b .rests .rests;
-        ordered = subst (Ordered (ofStarts starts) (pathList flat lengths)) (sym order₃) (arranged .ordered (ofStarts starts) (pathList flat lengths) refl refl (b .rests));
+        ordered = subst (Ordered (ofStarts starts) (pathList listed lengths)) (sym order₃) (arranged .ordered (ofStarts starts) (pathList listed lengths) refl refl (b .rests));
       };
       filled = b .filled;
       compare = record {
         rest-room = omega (arith, size₃, b .rest-before, b .order-before, b .rank-before, b .room);
         rank-room = omega (arith, size₃, b .rank-before, b .room);
-        falls = subst (RestsFall flat) (sym rests₃) falls;
+        falls = subst (RestsFall listed) (sym rests₃) falls;
         ranked = ranked₃;
       };
       starts-below = b .starts-below;
@@ -89,45 +89,45 @@ module _ (starts flat lengths s : List ℕ) (rest order rank link : ℕ) (b : Or
     }
 
     -- the codes of the places, read off a table
-    module _ (codes : List ℕ) (coded : Coded starts flat (table s rest (length flat)) codes) (size : length codes ≡ length flat) where
-      order-size : length (table s₃ order (length flat)) ≡ length flat
+    module _ (codes : List ℕ) (coded : Coded starts listed (table s rest (length listed)) codes) (size : length codes ≡ length listed) where
+      order-size : length (table s₃ order (length listed)) ≡ length listed
       order-size = tailed .search .ordered .size
 
-      codes-are : (t : ℕ) → t < length (table s₃ order (length flat))
-          → codeIn codes (table s₃ order (length flat)) t ≡ codeOf starts (pathList flat lengths) (table s₃ order (length flat)) t
+      codes-are : (t : ℕ) → t < length (table s₃ order (length listed))
+          → codeIn codes (table s₃ order (length listed)) t ≡ codeOf starts (pathList listed lengths) (table s₃ order (length listed)) t
       codes-are t h =
-          let p = getD (table s₃ order (length flat)) t 0 in
+          let p = getD (table s₃ order (length listed)) t 0 in
           let inside = tailed .search .ordered .inside t h in
-          coded .at p inside ∙ ap (λ (k : ℕ). 2 * getD starts (getD flat p 0) 0 + k) (head-is (pathList flat lengths) s rest (b .rests) p inside)
+          coded .at p inside ∙ ap (λ (k : ℕ). 2 * getD starts (getD listed p 0) 0 + k) (head-is (pathList listed lengths) s rest (b .rests) p inside)
 
       pub rising₃ : Rising (codeIn codes (table s₃ order (length codes))) (length codes)
       rising₃ =
           subst (λ (n : ℕ). Rising (codeIn codes (table s₃ order n)) n) (sym size)
-          (subst (Rising (codeIn codes (table s₃ order (length flat)))) order-size
-          (table-rises starts (pathList flat lengths) (table s₃ order (length flat)) codes codes-are (tailed .search .ordered) (b .starts-below)))
+          (subst (Rising (codeIn codes (table s₃ order (length listed)))) order-size
+          (table-rises starts (pathList listed lengths) (table s₃ order (length listed)) codes codes-are (tailed .search .ordered) (b .starts-below)))
 
       pub firsts₃ : (firsts : List ℕ) → FirstsBy (codeIn codes (table s₃ order (length codes))) (length codes) firsts
-          → Firsts starts (pathList flat lengths) (table s₃ order (length flat)) firsts
+          → Firsts starts (pathList listed lengths) (table s₃ order (length listed)) firsts
       firsts₃ firsts f =
-          table-firsts starts (pathList flat lengths) (table s₃ order (length flat)) codes codes-are firsts
-          (subst (λ (n : ℕ). FirstsBy (codeIn codes (table s₃ order (length flat))) n firsts) (sym order-size)
+          table-firsts starts (pathList listed lengths) (table s₃ order (length listed)) codes codes-are firsts
+          (subst (λ (n : ℕ). FirstsBy (codeIn codes (table s₃ order (length listed))) n firsts) (sym order-size)
           (subst (λ (n : ℕ). FirstsBy (codeIn codes (table s₃ order n)) n firsts) size f))
 
     -- and the links
-    pub tabulated : (s₄ : List ℕ) → TailsLinked flat s₃ s₄ rest link → Tabulated starts flat s s₄ rest order rank link
+    pub tabulated : (s₄ : List ℕ) → TailsLinked listed s₃ s₄ rest link → Tabulated starts listed s s₄ rest order rank link
     tabulated s₄ linked =
-        let rests₄ : table s₄ rest (length flat) ≡ table s₃ rest (length flat) = linked .frame .below rest (length flat) (omega (arith, b .rest-before, b .order-before, b .rank-before)) in
-        let ranks₄ : table s₄ rank (length flat) ≡ table s₃ rank (length flat) = linked .frame .below rank (length flat) (omega (arith, b .rank-before)) in
-        let order₄ : table s₄ order (length flat) ≡ table s₃ order (length flat) = linked .frame .below order (length flat) (omega (arith, b .order-before, b .rank-before)) in
+        let rests₄ : table s₄ rest (length listed) ≡ table s₃ rest (length listed) = linked .frame .below rest (length listed) (omega (arith, b .rest-before, b .order-before, b .rank-before)) in
+        let ranks₄ : table s₄ rank (length listed) ≡ table s₃ rank (length listed) = linked .frame .below rank (length listed) (omega (arith, b .rank-before)) in
+        let order₄ : table s₄ order (length listed) ≡ table s₃ order (length listed) = linked .frame .below order (length listed) (omega (arith, b .order-before, b .rank-before)) in
         record {
           frame =
-              frame-trans s s₃ s₄ order (length flat + length flat + length flat)
-              (frame-trans s s₂ s₃ order (length flat + length flat + length flat)
-              (frame-wider s s₂ order (length flat) order (length flat + length flat + length flat) (omega arith) (omega arith) (arranged .frame))
-              (frame-wider s₂ s₃ rank (length ranks) order (length flat + length flat + length flat) (omega (arith, b .order-before)) (omega (arith, b .order-before, ranked .size)) frame))
-              (frame-wider s₃ s₄ link (length flat) order (length flat + length flat + length flat) (omega (arith, b .order-before, b .rank-before)) (omega (arith, b .order-before, b .rank-before)) (linked .frame));
+              frame-trans s s₃ s₄ order (length listed + length listed + length listed)
+              (frame-trans s s₂ s₃ order (length listed + length listed + length listed)
+              (frame-wider s s₂ order (length listed) order (length listed + length listed + length listed) (omega arith) (omega arith) (arranged .frame))
+              (frame-wider s₂ s₃ rank (length ranks) order (length listed + length listed + length listed) (omega (arith, b .order-before)) (omega (arith, b .order-before, ranked .size)) frame))
+              (frame-wider s₃ s₄ link (length listed) order (length listed + length listed + length listed) (omega (arith, b .order-before, b .rank-before)) (omega (arith, b .order-before, b .rank-before)) (linked .frame));
           ordered = λ D L d e r. subst (Ordered D L) (sym (order₄ ∙ order₃)) (arranged .ordered D L d e r);
-          falls = subst (RestsFall flat) (sym (rests₄ ∙ rests₃)) falls;
-          ranked = subst (λ (x : List ℕ). Ranked flat x (table s₄ rank (length flat))) (sym rests₄) (subst (Ranked flat (table s₃ rest (length flat))) (sym ranks₄) ranked₃);
+          falls = subst (RestsFall listed) (sym (rests₄ ∙ rests₃)) falls;
+          ranked = subst (λ (x : List ℕ). Ranked listed x (table s₄ rank (length listed))) (sym rests₄) (subst (Ranked listed (table s₃ rest (length listed))) (sym ranks₄) ranked₃);
           links = linked .links;
         }

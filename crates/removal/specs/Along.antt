@@ -12,6 +12,6 @@ use Rattle.removal.specs.Rows.{boundsIn, orderIn, Tabled}
 
 -- r is the step against edge e from slot j of its end, whatever the tables are of
 unfoldable pub StepAlong : Layout → List ℕ → List ℕ → List ℕ → List ℕ → List ℕ → ℕ → ℕ → Step → Type 0
-StepAlong l flat gs ge gn p e j r =
-    (D : Design) (L : PathList) (G : Graph) → Tabled D L G l flat gs ge gn p
-    → StepIs L (orderIn l flat p) (boundsIn l p) (getD gs e 0) (getD gn e 0 ∷ slotMark L (orderIn l flat p) (boundsIn l p) (getD ge e 0) j) r
+StepAlong l listed from to via p e j r =
+    (D : Design) (L : PathList) (G : Graph) → Tabled D L G l listed from to via p
+    → StepIs L (orderIn l listed p) (boundsIn l p) (getD from e 0) (getD via e 0 ∷ slotMark L (orderIn l listed p) (boundsIn l p) (getD to e 0) j) r

@@ -26,33 +26,33 @@ pub record LaidOut (c e n : ℕ) (l : Layout) : Type 0 where
   pub slots : l .slots ≡ 4 * n + 6 * c + 3 * e
 
 -- what the lent slices are: a design's starts, a list that fits it, and a legal graph of it, all small enough
-pub record Given (D : Design) (L : PathList) (G : Graph) (starts flat lengths nodes gs ge gn : List ℕ) : Type 0 where
+pub record Given (D : Design) (L : PathList) (G : Graph) (starts listed lengths nodes from to via : List ℕ) : Type 0 where
   pub legal : Legal D G
   pub fits : ListFits D L
   pub design : D .starts ≡ starts
-  pub list : L ≡ pathList flat lengths
+  pub list : L ≡ pathList listed lengths
   pub copies : G .nodes ≡ nodes
-  pub edges : G .edges ≡ edgesOf gs ge gn
-  pub ends : length ge ≡ length gs
-  pub names : length gn ≡ length gs
+  pub edges : G .edges ≡ edgesOf from to via
+  pub ends : length to ≡ length from
+  pub names : length via ≡ length from
   pub few-copies : length nodes ≤ 16384
-  pub few-edges : length gs ≤ 65536
+  pub few-edges : length from ≤ 65536
 
 -- they are this of some design, and the scratch is as long as test 31 asks
-pub record Buildable (starts flat lengths nodes gs ge gn s : List ℕ) : Type 0 where
+pub record Buildable (starts listed lengths nodes from to via s : List ℕ) : Type 0 where
   pub design : Design
   pub list : PathList
   pub graph : Graph
-  pub given : Given design list graph starts flat lengths nodes gs ge gn
+  pub given : Given design list graph starts listed lengths nodes from to via
   pub starts-below : (k : ℕ) → getD starts k 0 < 4096
   pub nodes-below : (c : ℕ) → c < length nodes → getD nodes c 0 < 4096
-  pub room : 16 * (candidates design graph list + length flat + length gs) ≤ length s
+  pub room : 16 * (candidates design graph list + length listed + length from) ≤ length s
 
 -- the tables are filled for whatever design the slices are given of, and no slot is marked
-pub record Built (starts flat lengths nodes gs ge gn s t : List ℕ) (l : Layout) : Type 0 where
+pub record Built (starts listed lengths nodes from to via s t : List ℕ) (l : Layout) : Type 0 where
   pub size : length t ≡ length s
-  pub laid : LaidOut (length nodes) (length gs) (length flat) l
+  pub laid : LaidOut (length nodes) (length from) (length listed) l
   pub clear : (c j : ℕ) → c < length nodes → j < slots (boundsIn l (take (l .slots) t)) c → flagIn l t c j ≡ 0
-  pub tabled : (D : Design) (L : PathList) (G : Graph) → Given D L G starts flat lengths nodes gs ge gn
-      → Tabled D L G l flat gs ge gn (take (l .slots) t)
-  pub ready : (D : Design) (L : PathList) (G : Graph) → Given D L G starts flat lengths nodes gs ge gn → Ready l flat gs ge gn t
+  pub tabled : (D : Design) (L : PathList) (G : Graph) → Given D L G starts listed lengths nodes from to via
+      → Tabled D L G l listed from to via (take (l .slots) t)
+  pub ready : (D : Design) (L : PathList) (G : Graph) → Given D L G starts listed lengths nodes from to via → Ready l listed from to via t

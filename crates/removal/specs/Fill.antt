@@ -33,10 +33,10 @@ put k [] room = room
 put k (x ∷ xs) room = put (suc k) xs (set room k x)
 
 -- edges are written from place k on, and r is the next place
-pub record Edged (es : List Edge) (k : ℕ) (from to via from′ to′ via′ : List ℕ) (r : ℕ) : Type 0 where
-  pub starts : from′ ≡ put k (map (λ (e : Edge). e .start) es) from
-  pub ends : to′ ≡ put k (map (λ (e : Edge). e .end) es) to
-  pub names : via′ ≡ put k (map (λ (e : Edge). e .name) es) via
+pub record Edged (es : List Edge) (k : ℕ) (room-from room-to room-via room-from′ room-to′ room-via′ : List ℕ) (r : ℕ) : Type 0 where
+  pub starts : room-from′ ≡ put k (map (λ (e : Edge). e .start) es) room-from
+  pub ends : room-to′ ≡ put k (map (λ (e : Edge). e .end) es) room-to
+  pub names : room-via′ ≡ put k (map (λ (e : Edge). e .name) es) room-via
   pub next : r ≡ k + length es
 
 -- the slots, the flags and the numbers that the scratch says
@@ -55,12 +55,12 @@ module _ (l : Layout) (s : List ℕ) where
   ifShown c j = cond (shownNow c j) (slotAt c j ∷ []) []
 
 -- the edge of the result that an edge into a slot makes, if it comes from a shown slot, and all edges into a slot
-module _ (l : Layout) (flat s : List ℕ) (L : PathList) where
+module _ (l : Layout) (listed s : List ℕ) (L : PathList) where
   abbrev pub comesNow : ℕ → ℕ → Edge → Bool
-  comesNow = fromShown L (orderIn l flat (take (l .slots) s)) (boundsNow l s) (shownNow l s)
+  comesNow = fromShown L (orderIn l listed (take (l .slots) s)) (boundsNow l s) (shownNow l s)
 
   abbrev pub fromNow : ℕ → ℕ → Edge → ℕ
-  fromNow = startSlot L (orderIn l flat (take (l .slots) s)) (boundsNow l s)
+  fromNow = startSlot L (orderIn l listed (take (l .slots) s)) (boundsNow l s)
 
   abbrev pub edgeNow : ℕ → ℕ → Edge → List Edge
   edgeNow c j e = cond (comesNow c j e) (numberedEdge (boundsNow l s) (shownNow l s) fromNow (slotAt c j) e ∷ []) []
@@ -69,64 +69,64 @@ module _ (l : Layout) (flat s : List ℕ) (L : PathList) where
   edgesNow G = slotEdges (boundsNow l s) (shownNow l s) (edgesIn G) comesNow fromNow
 
 -- pass 2 is done: the shown slots are those that paths show, and each has its number
-pub record ShownReady (l : Layout) (flat gs ge gn s : List ℕ) : Type 0 where
-  pub ready : Ready l flat gs ge gn s
-  pub rows : (D : Design) (L : PathList) (G : Graph) → Tabled D L G l flat gs ge gn (take (l .slots) s)
-      → (c : ℕ) → c < l .copies → ShownRow G L (orderIn l flat (take (l .slots) s)) (boundsNow l s) (shownNow l s) c
+pub record ShownReady (l : Layout) (listed from to via s : List ℕ) : Type 0 where
+  pub ready : Ready l listed from to via s
+  pub rows : (D : Design) (L : PathList) (G : Graph) → Tabled D L G l listed from to via (take (l .slots) s)
+      → (c : ℕ) → c < l .copies → ShownRow G L (orderIn l listed (take (l .slots) s)) (boundsNow l s) (shownNow l s) c
   pub numbered : (c j : ℕ) → c < l .copies → j < slots (boundsNow l s) c → shownNow l s c j ≡ true → flagIn l s c j ≡ 2 + numberNow l s c j
 
 -- the three rooms of edges are equally long
 abbrev pub SameRooms : List ℕ → List ℕ → List ℕ → Type 0
-SameRooms from to via = (length to ≡ length from) × (length via ≡ length from)
+SameRooms room-from room-to room-via = (length room-to ≡ length room-from) × (length room-via ≡ length room-from)
 
 -- there is room for some edges, whatever the tables are of; and they are written
-module _ (l : Layout) (flat gs ge gn s : List ℕ) (es : PathList → Graph → List Edge) where
+module _ (l : Layout) (listed from to via s : List ℕ) (es : PathList → Graph → List Edge) where
   abbrev pub EdgesFit : ℕ → List ℕ → Type 0
-  EdgesFit k from = (D : Design) (L : PathList) (G : Graph) → Tabled D L G l flat gs ge gn (take (l .slots) s) → k + length (es L G) ≤ length from
+  EdgesFit k room-from = (D : Design) (L : PathList) (G : Graph) → Tabled D L G l listed from to via (take (l .slots) s) → k + length (es L G) ≤ length room-from
 
   unfoldable pub EdgesFilled : ℕ → List ℕ → List ℕ → List ℕ → List ℕ → List ℕ → List ℕ → ℕ → Type 0
-  EdgesFilled k from to via from′ to′ via′ r =
-      (D : Design) (L : PathList) (G : Graph) → Tabled D L G l flat gs ge gn (take (l .slots) s) → Edged (es L G) k from to via from′ to′ via′ r
+  EdgesFilled k room-from room-to room-via room-from′ room-to′ room-via′ r =
+      (D : Design) (L : PathList) (G : Graph) → Tabled D L G l listed from to via (take (l .slots) s) → Edged (es L G) k room-from room-to room-via room-from′ room-to′ room-via′ r
 
 -- there is room for one edge
-pub record EdgeRoom (l : Layout) (flat gs ge gn s : List ℕ) (e j number : ℕ) (from to via : List ℕ) (k : ℕ) : Type 0 where
-  pub shown : ShownReady l flat gs ge gn s
+pub record EdgeRoom (l : Layout) (listed from to via s : List ℕ) (e j number : ℕ) (room-from room-to room-via : List ℕ) (k : ℕ) : Type 0 where
+  pub shown : ShownReady l listed from to via s
   pub edge-inside : e < l .edges
-  pub slot-inside : j < slots (boundsNow l s) (getD ge e 0)
-  pub number-is : number ≡ numberNow l s (getD ge e 0) j
-  pub same : SameRooms from to via
-  pub fit : EdgesFit l flat gs ge gn s (λ L G. edgeNow l flat s L (getD ge e 0) j (edgeAt gs ge gn e)) k from
+  pub slot-inside : j < slots (boundsNow l s) (getD to e 0)
+  pub number-is : number ≡ numberNow l s (getD to e 0) j
+  pub same : SameRooms room-from room-to room-via
+  pub fit : EdgesFit l listed from to via s (λ L G. edgeNow l listed s L (getD to e 0) j (edgeAt from to via e)) k room-from
 
 -- for the edges into a shown slot
-pub record EdgesRoom (l : Layout) (flat gs ge gn s : List ℕ) (c j : ℕ) (from to via : List ℕ) (k : ℕ) : Type 0 where
-  pub shown : ShownReady l flat gs ge gn s
+pub record EdgesRoom (l : Layout) (listed from to via s : List ℕ) (c j : ℕ) (room-from room-to room-via : List ℕ) (k : ℕ) : Type 0 where
+  pub shown : ShownReady l listed from to via s
   pub copy-inside : c < l .copies
   pub slot-inside : j < slots (boundsNow l s) c
   pub is-shown : shownNow l s c j ≡ true
-  pub same : SameRooms from to via
-  pub fit : EdgesFit l flat gs ge gn s (λ L G. edgesNow l flat s L G (slotAt c j)) k from
+  pub same : SameRooms room-from room-to room-via
+  pub fit : EdgesFit l listed from to via s (λ L G. edgesNow l listed s L G (slotAt c j)) k room-from
 
 -- for some slots and the edges into them
-pub record SlotsRoom (l : Layout) (flat nodes gs ge gn s : List ℕ) (sl : List Slot) (number : ℕ) (room from to via : List ℕ) (k : ℕ) : Type 0 where
-  pub shown : ShownReady l flat gs ge gn s
+pub record SlotsRoom (l : Layout) (listed nodes from to via s : List ℕ) (sl : List Slot) (number : ℕ) (room-nodes room-from room-to room-via : List ℕ) (k : ℕ) : Type 0 where
+  pub shown : ShownReady l listed from to via s
   pub nodes-size : length nodes ≡ l .copies
-  pub nodes-fit : number + length sl ≤ length room
-  pub same : SameRooms from to via
-  pub fit : EdgesFit l flat gs ge gn s (λ L G. flatMap (edgesNow l flat s L G) sl) k from
+  pub nodes-fit : number + length sl ≤ length room-nodes
+  pub same : SameRooms room-from room-to room-via
+  pub fit : EdgesFit l listed from to via s (λ L G. flatMap (edgesNow l listed s L G) sl) k room-from
 
 -- they are written
-pub record SlotsFilled (l : Layout) (flat nodes gs ge gn s : List ℕ) (sl : List Slot) (number : ℕ) (room from to via room′ from′ to′ via′ : List ℕ) (k r : ℕ) : Type 0 where
-  pub nodes-written : room′ ≡ put number (map (λ (t : Slot). getD nodes (t .copy) 0) sl) room
-  pub edges-written : EdgesFilled l flat gs ge gn s (λ L G. flatMap (edgesNow l flat s L G) sl) k from to via from′ to′ via′ r
+pub record SlotsFilled (l : Layout) (listed nodes from to via s : List ℕ) (sl : List Slot) (number : ℕ) (room-nodes room-from room-to room-via room-nodes′ room-from′ room-to′ room-via′ : List ℕ) (k r : ℕ) : Type 0 where
+  pub nodes-written : room-nodes′ ≡ put number (map (λ (t : Slot). getD nodes (t .copy) 0) sl) room-nodes
+  pub edges-written : EdgesFilled l listed from to via s (λ L G. flatMap (edgesNow l listed s L G) sl) k room-from room-to room-via room-from′ room-to′ room-via′ r
 
 -- the whole result stands at the front of the room
-pub record Result (H : Graph) (room from to via room′ from′ to′ via′ : List ℕ) : Type 0 where
-  pub nodes : room′ ≡ placed (H .nodes) room
-  pub starts : from′ ≡ placed (map (λ (e : Edge). e .start) (H .edges)) from
-  pub ends : to′ ≡ placed (map (λ (e : Edge). e .end) (H .edges)) to
-  pub names : via′ ≡ placed (map (λ (e : Edge). e .name) (H .edges)) via
+pub record Result (H : Graph) (room-nodes room-from room-to room-via room-nodes′ room-from′ room-to′ room-via′ : List ℕ) : Type 0 where
+  pub nodes : room-nodes′ ≡ placed (H .nodes) room-nodes
+  pub starts : room-from′ ≡ placed (map (λ (e : Edge). e .start) (H .edges)) room-from
+  pub ends : room-to′ ≡ placed (map (λ (e : Edge). e .end) (H .edges)) room-to
+  pub names : room-via′ ≡ placed (map (λ (e : Edge). e .name) (H .edges)) room-via
 
 unfoldable pub ResultFilled : Layout → List ℕ → List ℕ → List ℕ → List ℕ → List ℕ → List ℕ → List ℕ → List ℕ → List ℕ → List ℕ → List ℕ → List ℕ → List ℕ → List ℕ → Type 0
-ResultFilled l flat nodes gs ge gn s room from to via room′ from′ to′ via′ =
-    (D : Design) (L : PathList) (G : Graph) → Tabled D L G l flat gs ge gn (take (l .slots) s) → G .nodes ≡ nodes → EdgesInto G (edgesIn G)
-    → Result (trueGraph G (pathsOf L)) room from to via room′ from′ to′ via′
+ResultFilled l listed nodes from to via s room-nodes room-from room-to room-via room-nodes′ room-from′ room-to′ room-via′ =
+    (D : Design) (L : PathList) (G : Graph) → Tabled D L G l listed from to via (take (l .slots) s) → G .nodes ≡ nodes → EdgesInto G (edgesIn G)
+    → Result (trueGraph G (pathsOf L)) room-nodes room-from room-to room-via room-nodes′ room-from′ room-to′ room-via′

@@ -8,7 +8,7 @@ use Rattle.removal.specs.Links.{Chained}
 
 -- no listed edge is k
 abbrev pub Unlisted : List ℕ → ℕ → Type 0
-Unlisted flat k = (i : ℕ) → i < length flat → getD flat i 0 ≡ k → ⊥
+Unlisted listed k = (i : ℕ) → i < length listed → getD listed i 0 ≡ k → ⊥
 
 -- word k is 1, if there is one, and what was 1 still is
 pub record Flagged (a b : List ℕ) (k : ℕ) : Type 0 where
@@ -17,9 +17,9 @@ pub record Flagged (a b : List ℕ) (k : ℕ) : Type 0 where
   pub kept : (j : ℕ) → getD a j 0 ≡ 1 → getD b j 0 ≡ 1
 
 -- the words of the first n listed edges are 1
-pub record Noted (flat a b : List ℕ) (n : ℕ) : Type 0 where
+pub record Noted (listed a b : List ℕ) (n : ℕ) : Type 0 where
   pub size : length b ≡ length a
-  pub noted : (i : ℕ) → i < n → getD flat i 0 < length b → getD b (getD flat i 0) 0 ≡ 1
+  pub noted : (i : ℕ) → i < n → getD listed i 0 < length b → getD b (getD listed i 0) 0 ≡ 1
 
 -- a flag is 0 only where there is a word, which is 0
 pub record NotedAt (a : List ℕ) (k r : ℕ) : Type 0 where
@@ -27,11 +27,11 @@ pub record NotedAt (a : List ℕ) (k r : ℕ) : Type 0 where
   pub same : r ≡ 0 → getD a k 0 ≡ 0
 
 -- of the first m words from base on those that are 0 are of edges that name no listed one, and nothing else changed
-pub record Named (flat gn s t : List ℕ) (base m : ℕ) : Type 0 where
-  pub frame : Frame s t base (length gn)
-  pub named : (e : ℕ) → e < m → getD t (base + e) 0 ≡ 0 → Unlisted flat (getD gn e 0)
+pub record Named (listed via s t : List ℕ) (base m : ℕ) : Type 0 where
+  pub frame : Frame s t base (length via)
+  pub named : (e : ℕ) → e < m → getD t (base + e) 0 ≡ 0 → Unlisted listed (getD via e 0)
 
-pub record LinkedNamed (gs flat gn s t : List ℕ) (first n : ℕ) : Type 0 where
-  pub chains : Chained gs (table t first n) (table t (first + n) (length gs)) n (length gs) 0
-  pub named : (e : ℕ) → e < length gn → getD t (first + n + length gs + e) 0 ≡ 0 → Unlisted flat (getD gn e 0)
-  pub frame : Frame s t first (n + length gs + length gn)
+pub record LinkedNamed (from listed via s t : List ℕ) (first n : ℕ) : Type 0 where
+  pub chains : Chained from (table t first n) (table t (first + n) (length from)) n (length from) 0
+  pub named : (e : ℕ) → e < length via → getD t (first + n + length from + e) 0 ≡ 0 → Unlisted listed (getD via e 0)
+  pub frame : Frame s t first (n + length from + length via)

@@ -12,15 +12,15 @@ use Rattle.removal.specs.Fill.{SameRooms}
 use Rattle.removal.specs.Remove.{Removed, removalOutcome}
 
 -- a design and a list that pass their tests, with as many numbers as nodes and as edges
-pub record Numberable (starts ends listed lengths : List ℕ) (n m : ℕ) (from to via : List ℕ) : Type 0 where
+pub record Numberable (starts ends listed lengths : List ℕ) (n m : ℕ) (room-from room-to room-via : List ℕ) : Type 0 where
   pub delays : List ℤ
   pub design-fits : DesignFits (design n starts ends delays)
   pub list-fits : ListFits (design n starts ends delays) (pathList listed lengths)
   pub numbers : m ≡ length starts
-  pub same : SameRooms from to via
+  pub same : SameRooms room-from room-to room-via
 
 -- the removal, whatever the delays are
 unfoldable pub DesignRemoved : List ℕ → List ℕ → List ℕ → List ℕ → ℕ → GraphMade → List ℕ → List ℕ → List ℕ → List ℕ → List ℕ → List ℕ → List ℕ → List ℕ → List ℕ → List ℕ → Type 0
-DesignRemoved starts ends listed lengths n r nodes from to via s nodes′ from′ to′ via′ s′ =
+DesignRemoved starts ends listed lengths n r room-nodes room-from room-to room-via s room-nodes′ room-from′ room-to′ room-via′ s′ =
     (delays : List ℤ) → DesignFits (design n starts ends delays) → ListFits (design n starts ends delays) (pathList listed lengths)
-    → Removed (removalOutcome (design n starts ends delays) (pathList listed lengths) (designGraph (design n starts ends delays)) nodes from to via s) r nodes from to via s nodes′ from′ to′ via′ s′
+    → Removed (removalOutcome (design n starts ends delays) (pathList listed lengths) (designGraph (design n starts ends delays)) room-nodes room-from room-to room-via s) r room-nodes room-from room-to room-via s room-nodes′ room-from′ room-to′ room-via′ s′

@@ -30,23 +30,23 @@ pub record SlotsOnly (l : Layout) (p s t : List ℕ) : Type 0 where
 
 -- slot i of copy c is that of edge e and then the mark of slot k at its end
 abbrev pub Leads : Layout → List ℕ → List ℕ → List ℕ → List ℕ → PathList → ℕ → ℕ → ℕ → ℕ → Type 0
-Leads l flat ge gn p L c e k i =
-    LiveIs L (orderIn l flat p) (boundsIn l p) c (getD gn e 0 ∷ slotMark L (orderIn l flat p) (boundsIn l p) (getD ge e 0) k) i
+Leads l listed to via p L c e k i =
+    LiveIs L (orderIn l listed p) (boundsIn l p) c (getD via e 0 ∷ slotMark L (orderIn l listed p) (boundsIn l p) (getD to e 0) k) i
 
 -- slot i of copy c is reached over edge e from slot k at its end, which is reached, and the edge and slot k are among those of `From`
 abbrev pub Pushes : Layout → List ℕ → List ℕ → List ℕ → List ℕ → List ℕ → List ℕ → PathList → (ℕ → ℕ → Type 0) → ℕ → ℕ → ℕ → ℕ → Type 0
-Pushes l flat gs ge gn p s L From c i e k =
-    From e k × (getD gs e 0 ≡ c) × (k < slots (boundsIn l p) (getD ge e 0)) × (0 < flagOf l p s (getD ge e 0) k) × Leads l flat ge gn p L c e k i
+Pushes l listed from to via p s L From c i e k =
+    From e k × (getD from e 0 ≡ c) × (k < slots (boundsIn l p) (getD to e 0)) × (0 < flagOf l p s (getD to e 0) k) × Leads l listed to via p L c e k i
 
 -- Flags of copies below c were set by edges and slots of their ends, those of `From`. Each flag is as it was or 1.
-pub record Marking (l : Layout) (flat gs ge gn p s t : List ℕ) (c : ℕ) (From : ℕ → ℕ → Type 0) : Type 0 where
+pub record Marking (l : Layout) (listed from to via p s t : List ℕ) (c : ℕ) (From : ℕ → ℕ → Type 0) : Type 0 where
   pub only : SlotsOnly l p s t
   pub higher : (d i : ℕ) → c ≤ d → d < l .copies → i < slots (boundsIn l p) d → flagOf l p t d i ≡ flagOf l p s d i
   pub small : (d i : ℕ) → d < l .copies → i < slots (boundsIn l p) d → (flagOf l p t d i ≡ flagOf l p s d i) ⊎ (flagOf l p t d i ≡ 1)
-  pub sound : (D : Design) (L : PathList) (G : Graph) → Tabled D L G l flat gs ge gn p → (d i : ℕ) → d < l .copies → i < slots (boundsIn l p) d → 0 < flagOf l p t d i
-      → (0 < flagOf l p s d i) ⊎ ((e : ℕ) × (k : ℕ) × Pushes l flat gs ge gn p t L From d i e k)
-  pub complete : (D : Design) (L : PathList) (G : Graph) → Tabled D L G l flat gs ge gn p → (d i e k : ℕ) → d < l .copies
-      → Pushes l flat gs ge gn p t L From d i e k → 0 < flagOf l p t d i
+  pub sound : (D : Design) (L : PathList) (G : Graph) → Tabled D L G l listed from to via p → (d i : ℕ) → d < l .copies → i < slots (boundsIn l p) d → 0 < flagOf l p t d i
+      → (0 < flagOf l p s d i) ⊎ ((e : ℕ) × (k : ℕ) × Pushes l listed from to via p t L From d i e k)
+  pub complete : (D : Design) (L : PathList) (G : Graph) → Tabled D L G l listed from to via p → (d i e k : ℕ) → d < l .copies
+      → Pushes l listed from to via p t L From d i e k → 0 < flagOf l p t d i
 
 -- from one slot at the end of edge e; from slot j at the end of these edges; from the slots there before j; from all of them
 abbrev pub FromSlot : ℕ → ℕ → ℕ → ℕ → Type 0
@@ -66,11 +66,11 @@ abbrev pub endSet : Layout → List ℕ → ℕ → List ℕ
 endSet l s c = cond (eqb (getD s (l .out + c) 0) 0) (set s (slotPlace l (take (l .slots) s) c 0) 1) s
 
 -- rows from copy c on are right
-pub record RowsReached (l : Layout) (flat gs ge gn p s t : List ℕ) (c : ℕ) : Type 0 where
+pub record RowsReached (l : Layout) (listed from to via p s t : List ℕ) (c : ℕ) : Type 0 where
   pub only : SlotsOnly l p s t
   pub small : (d i : ℕ) → d < l .copies → i < slots (boundsIn l p) d → flagOf l p t d i ≤ 1
-  pub rows : (D : Design) (L : PathList) (G : Graph) → Tabled D L G l flat gs ge gn p
-      → (d : ℕ) → c ≤ d → d < l .copies → ReachedRow G L (orderIn l flat p) (boundsIn l p) (reachedOf l p t) d
+  pub rows : (D : Design) (L : PathList) (G : Graph) → Tabled D L G l listed from to via p
+      → (d : ℕ) → c ≤ d → d < l .copies → ReachedRow G L (orderIn l listed p) (boundsIn l p) (reachedOf l p t) d
 
 -- all slots are 0
 abbrev pub AllZero : Layout → List ℕ → List ℕ → Type 0

@@ -29,50 +29,50 @@ boundsIn l p =
 
 -- the order of positions
 abbrev pub orderIn : Layout → List ℕ → List ℕ → List ℕ
-orderIn l flat p = table p (l .order) (length flat)
+orderIn l listed p = table p (l .order) (length listed)
 
 -- the tables stand one after the other, and the slots after them
-pub record Laid (l : Layout) (listed : ℕ) (p : List ℕ) : Type 0 where
-  pub rest : l .rest + listed ≤ l .order
-  pub order : l .order + listed ≤ l .low
-  pub rank : l .rank + listed ≤ l .low
-  pub link : l .link + listed ≤ l .low
+pub record Laid (l : Layout) (positions : ℕ) (p : List ℕ) : Type 0 where
+  pub rest : l .rest + positions ≤ l .order
+  pub order : l .order + positions ≤ l .low
+  pub rank : l .rank + positions ≤ l .low
+  pub link : l .link + positions ≤ l .low
   pub low : l .low + 4 * l .copies ≤ l .into
   pub into : l .into + (l .copies + l .edges) ≤ l .out
   pub out : l .out + (l .copies + l .edges) ≤ l .slots
   pub named : l .out + l .copies + l .edges + l .edges ≤ l .slots
   pub size : length p ≡ l .slots
 
--- the tables are those of a design, a list and a graph whose edges are lent as gs, ge and gn
-pub record Tabled (D : Design) (L : PathList) (G : Graph) (l : Layout) (flat gs ge gn p : List ℕ) : Type 0 where
+-- the tables are those of a design, a list and a graph whose edges are lent as from, to and via
+pub record Tabled (D : Design) (L : PathList) (G : Graph) (l : Layout) (listed from to via p : List ℕ) : Type 0 where
   pub legal : Legal D G
   pub fits : ListFits D L
-  pub listed : L .edges ≡ flat
-  pub edges : G .edges ≡ edgesOf gs ge gn
-  pub starts : length gs ≡ l .edges
-  pub ends : length ge ≡ l .edges
-  pub names : length gn ≡ l .edges
+  pub list-edges : L .edges ≡ listed
+  pub edges : G .edges ≡ edgesOf from to via
+  pub starts : length from ≡ l .edges
+  pub ends : length to ≡ l .edges
+  pub names : length via ≡ l .edges
   pub copies : length (G .nodes) ≡ l .copies
   pub few-copies : l .copies ≤ 16384
   pub few-edges : l .edges ≤ 65536
-  pub laid : Laid l (length flat) p
-  pub rests : table p (l .rest) (length flat) ≡ map (restAt L) (upto (length flat) 0)
-  pub falls : RestsFall flat (table p (l .rest) (length flat))
-  pub ordered : Ordered D L (orderIn l flat p)
-  pub ranked : Ranked flat (table p (l .rest) (length flat)) (table p (l .rank) (length flat))
-  pub links : (n : ℕ) → LinkedTo flat (table p (l .rest) (length flat)) (table p (l .link) (length flat)) n
-  pub bounded : (c : ℕ) → c < l .copies → Bounded D L G (orderIn l flat p) (boundsIn l p) c
+  pub laid : Laid l (length listed) p
+  pub rests : table p (l .rest) (length listed) ≡ map (restAt L) (upto (length listed) 0)
+  pub falls : RestsFall listed (table p (l .rest) (length listed))
+  pub ordered : Ordered D L (orderIn l listed p)
+  pub ranked : Ranked listed (table p (l .rest) (length listed)) (table p (l .rank) (length listed))
+  pub links : (n : ℕ) → LinkedTo listed (table p (l .rest) (length listed)) (table p (l .link) (length listed)) n
+  pub bounded : (c : ℕ) → c < l .copies → Bounded D L G (orderIn l listed p) (boundsIn l p) c
   pub bases : (c : ℕ) → c < l .copies → getD p (l .low + 3 * l .copies + c) 0 ≡ slotBase (boundsIn l p) c
-  pub into : Chained ge (table p (l .into) (l .copies)) (table p (l .into + l .copies) (l .edges)) (l .copies) (l .edges) 0
-  pub out : Chained gs (table p (l .out) (l .copies)) (table p (l .out + l .copies) (l .edges)) (l .copies) (l .edges) 0
-  pub named : (e : ℕ) → e < l .edges → getD p (l .out + l .copies + l .edges + e) 0 ≡ 0 → Unlisted flat (getD gn e 0)
+  pub into : Chained to (table p (l .into) (l .copies)) (table p (l .into + l .copies) (l .edges)) (l .copies) (l .edges) 0
+  pub out : Chained from (table p (l .out) (l .copies)) (table p (l .out + l .copies) (l .edges)) (l .copies) (l .edges) 0
+  pub named : (e : ℕ) → e < l .edges → getD p (l .out + l .copies + l .edges + e) 0 ≡ 0 → Unlisted listed (getD via e 0)
 
 -- and the scratch has room for the slots, which all have numbers of 32 bits
-pub record Ready (l : Layout) (flat gs ge gn s : List ℕ) : Type 0 where
+pub record Ready (l : Layout) (listed from to via s : List ℕ) : Type 0 where
   pub design : Design
   pub list : PathList
   pub graph : Graph
-  pub tabled : Tabled design list graph l flat gs ge gn (take (l .slots) s)
+  pub tabled : Tabled design list graph l listed from to via (take (l .slots) s)
   pub room : l .slots + slotBase (boundsIn l (take (l .slots) s)) (l .copies) ≤ length s
   pub few : slotBase (boundsIn l (take (l .slots) s)) (l .copies) + 2 < 4294967296
 

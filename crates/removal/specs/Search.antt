@@ -22,14 +22,14 @@ abbrev pub codeAt : List ℕ → PathList → ℕ → ℕ
 codeAt starts L i = 2 * startAt (ofStarts starts) L i + headAt L i
 
 -- the tables `rest` and `order` of the listed positions, both in the scratch, up to word `top`
-pub record Searchable (starts flat lengths s : List ℕ) (rest order top : ℕ) : Type 0 where
-  pub rest-room : rest + length flat ≤ top
-  pub order-room : order + length flat ≤ top
+pub record Searchable (starts listed lengths s : List ℕ) (rest order top : ℕ) : Type 0 where
+  pub rest-room : rest + length listed ≤ top
+  pub order-room : order + length listed ≤ top
   pub room : top ≤ length s
-  pub total : sum lengths ≡ length flat
+  pub total : sum lengths ≡ length listed
   pub filled : (j : ℕ) → j < length lengths → 0 < getD lengths j 0
-  pub rests : table s rest (length flat) ≡ map (restIn lengths) (upto (length flat) 0)
-  pub ordered : Ordered (ofStarts starts) (pathList flat lengths) (table s order (length flat))
+  pub rests : table s rest (length listed) ≡ map (restIn lengths) (upto (length listed) 0)
+  pub ordered : Ordered (ofStarts starts) (pathList listed lengths) (table s order (length listed))
 
 -- of n places with codes, r have one below the key, and they come first
 pub record LowerBy (code : ℕ → ℕ) (n key r : ℕ) : Type 0 where
@@ -65,14 +65,14 @@ pub record FirstsBy (code : ℕ → ℕ) (n : ℕ) (firsts : List ℕ) : Type 0 
 abbrev pub Firsts : List ℕ → PathList → List ℕ → List ℕ → Type 0
 Firsts starts L order = FirstsBy (codeOf starts L order) (length order)
 
--- the words from `from` on and before `to` are v, the others are as they were, and r is where the next ones start
-pub record FilledTo (t u : List ℕ) (from to v r : ℕ) : Type 0 where
+-- the words from `first` on and before `end` are v, the others are as they were, and r is where the next ones start
+pub record FilledTo (t u : List ℕ) (first end v r : ℕ) : Type 0 where
   pub size : length u ≡ length t
-  pub inside : (k : ℕ) → from ≤ k → k < to → getD u k 0 ≡ v
-  pub outside : (k : ℕ) → (from ≤ k → k < to → ⊥) → getD u k 0 ≡ getD t k 0
-  pub least : from ≤ r
-  pub past : to ≤ r
-  pub next : from < r → r ≡ to
+  pub inside : (k : ℕ) → first ≤ k → k < end → getD u k 0 ≡ v
+  pub outside : (k : ℕ) → (first ≤ k → k < end → ⊥) → getD u k 0 ≡ getD t k 0
+  pub least : first ≤ r
+  pub past : end ≤ r
+  pub next : first < r → r ≡ end
 
 -- the bounds that three tables of n words hold
 abbrev pub boundsIn : List ℕ → List ℕ → List ℕ → Bounds
@@ -86,17 +86,17 @@ unfoldable pub putFour : List ℕ → ℕ → ℕ → ℕ → ℕ → ℕ → �
 putFour s base n c x y z w = set (set (set (set s (base + c) x) (base + n + c) y) (base + n + n + c) z) (base + n + n + n + c) w
 
 -- what filling in the bounds asks, besides: the four tables stand after the others
-pub record Fillable (flat nodes s : List ℕ) (base : ℕ) : Type 0 where
+pub record Fillable (listed nodes s : List ℕ) (base : ℕ) : Type 0 where
   pub room : base + length nodes + length nodes + length nodes + length nodes ≤ length s
   pub copies : length nodes ≤ 65536
   pub nodes-below : (c : ℕ) → c < length nodes → getD nodes c 0 < 4096
-  pub listed : length flat ≤ 8192
+  pub few : length listed ≤ 8192
 
 -- and what it gives
-pub record Filled (starts flat lengths nodes s t : List ℕ) (order base total : ℕ) : Type 0 where
+pub record Filled (starts listed lengths nodes s t : List ℕ) (order base total : ℕ) : Type 0 where
   pub frame : Frame s t base (length nodes + length nodes + length nodes + length nodes)
   pub bounded : (c : ℕ) → c < length nodes
-      → Bounded (ofStarts starts) (pathList flat lengths) (ofNodes nodes) (table t order (length flat)) (boundsAt t base (length nodes)) c
+      → Bounded (ofStarts starts) (pathList listed lengths) (ofNodes nodes) (table t order (length listed)) (boundsAt t base (length nodes)) c
   pub bases : (c : ℕ) → c < length nodes
       → getD (table t (base + length nodes + length nodes + length nodes) (length nodes)) c 0 ≡ slotBase (boundsAt t base (length nodes)) c
   pub slots : total ≡ slotBase (boundsAt t base (length nodes)) (length nodes)

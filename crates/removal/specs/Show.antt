@@ -92,15 +92,15 @@ module _ (G : Graph) (L : PathList) (order : List ℕ) (B : Bounds) where
 
 -- what stands at the start of an edge, whatever the tables are of
 unfoldable pub StartMeets : Layout → List ℕ → List ℕ → List ℕ → List ℕ → List ℕ → ℕ → ℕ → ℕ → Type 0
-StartMeets l flat gs ge gn s e j r =
-    (D : Design) (L : PathList) (G : Graph) → Tabled D L G l flat gs ge gn (take (l .slots) s)
-    → r ≡ startFlag L (orderIn l flat (take (l .slots) s)) (boundsIn l (take (l .slots) s)) (flagIn l s) (getD ge e 0) j (edgeAt gs ge gn e)
+StartMeets l listed from to via s e j r =
+    (D : Design) (L : PathList) (G : Graph) → Tabled D L G l listed from to via (take (l .slots) s)
+    → r ≡ startFlag L (orderIn l listed (take (l .slots) s)) (boundsIn l (take (l .slots) s)) (flagIn l s) (getD to e 0) j (edgeAt from to via e)
 
 -- how many edges come to a slot from shown ones
-pub record EdgesMeet (l : Layout) (flat gs ge gn s : List ℕ) (c j r : ℕ) : Type 0 where
+pub record EdgesMeet (l : Layout) (listed from to via s : List ℕ) (c j r : ℕ) : Type 0 where
   pub few : r ≤ l .edges
-  pub counts : (D : Design) (L : PathList) (G : Graph) → Tabled D L G l flat gs ge gn (take (l .slots) s)
-      → r ≡ edgesTo G L (orderIn l flat (take (l .slots) s)) (boundsIn l (take (l .slots) s)) (shownBy (flagIn l s)) c j
+  pub counts : (D : Design) (L : PathList) (G : Graph) → Tabled D L G l listed from to via (take (l .slots) s)
+      → r ≡ edgesTo G L (orderIn l listed (take (l .slots) s)) (boundsIn l (take (l .slots) s)) (shownBy (flagIn l s)) c j
 
 -- there is a slot, and no more copies and edges so far than the slots before it can have
 pub record SlotRoom (l : Layout) (s : List ℕ) (c j copies edges : ℕ) : Type 0 where
@@ -115,25 +115,25 @@ pub record SlotRule (G : Graph) (L : PathList) (order : List ℕ) (B : Bounds) (
   pub more-is : more ≡ copies + one (shows G L order B (reachedBy flags) (shownBy flags) c j)
   pub links-is : links ≡ edges + cond (shows G L order B (reachedBy flags) (shownBy flags) c j) (edgesTo G L order B (shownBy flags) c j) 0
 
-pub record SlotShown (l : Layout) (flat gs ge gn s t : List ℕ) (c j copies edges more links : ℕ) : Type 0 where
+pub record SlotShown (l : Layout) (listed from to via s t : List ℕ) (c j copies edges more links : ℕ) : Type 0 where
   pub size : length t ≡ length s
   pub tables : take (l .slots) t ≡ take (l .slots) s
   pub others : (i : ℕ) → (i ≡ slotPlace l (take (l .slots) s) c j → ⊥) → getD t i 0 ≡ getD s i 0
   pub few-copies : more ≤ copies + 1
   pub few-edges : links ≤ more * 65536
-  pub meets : (D : Design) (L : PathList) (G : Graph) → Tabled D L G l flat gs ge gn (take (l .slots) s)
-      → SlotRule G L (orderIn l flat (take (l .slots) s)) (boundsIn l (take (l .slots) s)) (flagIn l s) (getD t (slotPlace l (take (l .slots) s) c j) 0) c j copies edges more links
+  pub meets : (D : Design) (L : PathList) (G : Graph) → Tabled D L G l listed from to via (take (l .slots) s)
+      → SlotRule G L (orderIn l listed (take (l .slots) s)) (boundsIn l (take (l .slots) s)) (flagIn l s) (getD t (slotPlace l (take (l .slots) s) c j) 0) c j copies edges more links
 
 -- the pass has gone on over slots, up to slot j of copy d
-pub record PassedTo (l : Layout) (flat gs ge gn s t : List ℕ) (c copies edges d j more links : ℕ) : Type 0 where
+pub record PassedTo (l : Layout) (listed from to via s t : List ℕ) (c copies edges d j more links : ℕ) : Type 0 where
   pub size : length t ≡ length s
   pub tables : take (l .slots) t ≡ take (l .slots) s
   pub past : (i : ℕ) → l .slots + slotBase (boundsIn l (take (l .slots) s)) (l .copies) ≤ i → getD t i 0 ≡ getD s i 0
   pub few-copies : more ≤ slotBase (boundsIn l (take (l .slots) s)) d + j
   pub few-edges : links ≤ more * 65536
-  pub meets : (D : Design) (L : PathList) (G : Graph) → Tabled D L G l flat gs ge gn (take (l .slots) s) → (first : ℕ → ℕ → ℕ)
-      → Passed G L (orderIn l flat (take (l .slots) s)) (boundsIn l (take (l .slots) s)) first (flagIn l s) c 0 copies edges
-      → Passed G L (orderIn l flat (take (l .slots) s)) (boundsIn l (take (l .slots) s)) first (flagIn l t) d j more links
+  pub meets : (D : Design) (L : PathList) (G : Graph) → Tabled D L G l listed from to via (take (l .slots) s) → (first : ℕ → ℕ → ℕ)
+      → Passed G L (orderIn l listed (take (l .slots) s)) (boundsIn l (take (l .slots) s)) first (flagIn l s) c 0 copies edges
+      → Passed G L (orderIn l listed (take (l .slots) s)) (boundsIn l (take (l .slots) s)) first (flagIn l t) d j more links
 
 -- at the end the flags say what paths show, with its numbers; and so many slots are shown, with so many edges between them
 pub record ShowsAll (G : Graph) (L : PathList) (order : List ℕ) (B : Bounds) (flags : ℕ → ℕ → ℕ) (copies edges : ℕ) : Type 0 where
@@ -144,13 +144,13 @@ pub record ShowsAll (G : Graph) (L : PathList) (order : List ℕ) (B : Bounds) (
   pub linking : Linking G L order B (shownBy flags) (fromShown L order B (shownBy flags)) (startSlot L order B)
 
 -- pass 2 from the flags of s to those of t: where the flags of s are 0 or 1 and say what is reached
-pub record AllShown (l : Layout) (flat gs ge gn s t : List ℕ) (copies edges : ℕ) : Type 0 where
+pub record AllShown (l : Layout) (listed from to via s t : List ℕ) (copies edges : ℕ) : Type 0 where
   pub size : length t ≡ length s
   pub tables : take (l .slots) t ≡ take (l .slots) s
   pub past : (i : ℕ) → l .slots + slotBase (boundsIn l (take (l .slots) s)) (l .copies) ≤ i → getD t i 0 ≡ getD s i 0
   pub few-copies : copies ≤ slotBase (boundsIn l (take (l .slots) s)) (l .copies)
   pub few-edges : edges ≤ copies * 65536
-  pub meets : (D : Design) (L : PathList) (G : Graph) → Tabled D L G l flat gs ge gn (take (l .slots) s)
+  pub meets : (D : Design) (L : PathList) (G : Graph) → Tabled D L G l listed from to via (take (l .slots) s)
       → ((c j : ℕ) → c < l .copies → j < slots (boundsIn l (take (l .slots) s)) c → flagIn l s c j ≤ 1)
-      → ((c : ℕ) → c < l .copies → ReachedRow G L (orderIn l flat (take (l .slots) s)) (boundsIn l (take (l .slots) s)) (reachedBy (flagIn l s)) c)
-      → ShowsAll G L (orderIn l flat (take (l .slots) s)) (boundsIn l (take (l .slots) s)) (flagIn l t) copies edges
+      → ((c : ℕ) → c < l .copies → ReachedRow G L (orderIn l listed (take (l .slots) s)) (boundsIn l (take (l .slots) s)) (reachedBy (flagIn l s)) c)
+      → ShowsAll G L (orderIn l listed (take (l .slots) s)) (boundsIn l (take (l .slots) s)) (flagIn l t) copies edges

@@ -18,66 +18,66 @@ use Rattle.removal.specs.Slots.{Bounds, Bounded, slots, slotMark, Used}
 
 -- an edge and then a mark, the `len` edges from `at` on
 abbrev pub following : List ℕ → ℕ → ℕ → ℕ → List ℕ
-following flat name at len = name ∷ take len (drop at flat)
+following listed name at len = name ∷ take len (drop at listed)
 
 -- how many edges the path has from the position at a place, and these edges
 abbrev pub restFor : List ℕ → ℕ → ℕ → ℕ → ℕ
 restFor s rest order t = getD s (rest + getD s (order + t) 0) 0
 
 abbrev pub tailFor : List ℕ → List ℕ → ℕ → ℕ → ℕ → List ℕ
-tailFor flat s rest order t = take (restFor s rest order t) (drop (getD s (order + t) 0) flat)
+tailFor listed s rest order t = take (restFor s rest order t) (drop (getD s (order + t) 0) listed)
 
 -- whether w begins with them
 unfoldable pub fitting : List ℕ → List ℕ → ℕ → ℕ → List ℕ → ℕ → Bool
-fitting flat s rest order w t = isPrefix (tailFor flat s rest order t) w
+fitting listed s rest order w t = isPrefix (tailFor listed s rest order t) w
 
 -- the same number and then these edges: by this the places of a kind at a node are ordered
 abbrev pub sizeKey : List ℕ → List ℕ → ℕ → ℕ → ℕ → List ℕ
-sizeKey flat s rest order t = restFor s rest order t ∷ tailFor flat s rest order t
+sizeKey listed s rest order t = restFor s rest order t ∷ tailFor listed s rest order t
 
--- it never falls from `from` to `to`
-pub record Rising (flat s : List ℕ) (rest order from to : ℕ) : Type 0 where
-  pub rises : (a b : ℕ) → from ≤ a → a < b → b < to → T (before (sizeKey flat s rest order b) (sizeKey flat s rest order a)) → ⊥
+-- it never falls from `first` to `end`
+pub record Rising (listed s : List ℕ) (rest order first end : ℕ) : Type 0 where
+  pub rises : (a b : ℕ) → first ≤ a → a < b → b < end → T (before (sizeKey listed s rest order b) (sizeKey listed s rest order a)) → ⊥
 
 -- whether a place comes before the first k edges of w
 unfoldable pub comesBefore : List ℕ → List ℕ → ℕ → ℕ → List ℕ → ℕ → ℕ → Bool
-comesBefore flat s rest order w k t = before (sizeKey flat s rest order t) (k ∷ take k w)
+comesBefore listed s rest order w k t = before (sizeKey listed s rest order t) (k ∷ take k w)
 
 -- the places before r do so, and those from r on do not
-pub record Parted (low : ℕ → Bool) (from to r : ℕ) : Type 0 where
-  pub below : (t : ℕ) → from ≤ t → t < r → low t ≡ true
-  pub above : (t : ℕ) → r ≤ t → t < to → low t ≡ false
+pub record Parted (low : ℕ → Bool) (first end r : ℕ) : Type 0 where
+  pub below : (t : ℕ) → first ≤ t → t < r → low t ≡ true
+  pub above : (t : ℕ) → r ≤ t → t < end → low t ≡ false
 
-pub record Halved (flat s : List ℕ) (rest order from to name at len r : ℕ) : Type 0 where
-  pub least : from ≤ r
-  pub most : r ≤ to
-  pub parted : Rising flat s rest order from to → Parted (comesBefore flat s rest order (following flat name at len) (len + 1)) from to r
+pub record Halved (listed s : List ℕ) (rest order first end name at len r : ℕ) : Type 0 where
+  pub least : first ≤ r
+  pub most : r ≤ end
+  pub parted : Rising listed s rest order first end → Parted (comesBefore listed s rest order (following listed name at len) (len + 1)) first end r
 
--- whether place t, if it is one before `to`, has as many edges as the edge and the mark, and fits
-pub record PlaceFits (flat s : List ℕ) (rest order t to name at len : ℕ) (r : Bool) : Type 0 where
-  pub yes : r ≡ true → (t < to) × (restFor s rest order t ≡ len + 1) × (fitting flat s rest order (following flat name at len) t ≡ true)
-  pub no : r ≡ false → t < to → restFor s rest order t ≡ len + 1 → fitting flat s rest order (following flat name at len) t ≡ false
+-- whether place t, if it is one before `end`, has as many edges as the edge and the mark, and fits
+pub record PlaceFits (listed s : List ℕ) (rest order t end name at len : ℕ) (r : Bool) : Type 0 where
+  pub yes : r ≡ true → (t < end) × (restFor s rest order t ≡ len + 1) × (fitting listed s rest order (following listed name at len) t ≡ true)
+  pub no : r ≡ false → t < end → restFor s rest order t ≡ len + 1 → fitting listed s rest order (following listed name at len) t ≡ false
 
--- what has to lie inside the flat list and the scratch: for a place and for those from `from` to `to`, for one position and for
+-- what has to lie inside the flat list and the scratch: for a place and for those from `first` to `end`, for one position and for
 -- the positions of these places, for a slot
-pub record PlaceIn (flat s : List ℕ) (order t : ℕ) : Type 0 where
+pub record PlaceIn (listed s : List ℕ) (order t : ℕ) : Type 0 where
   pub read : order + t < length s
-  pub inside : getD s (order + t) 0 < length flat
+  pub inside : getD s (order + t) 0 < length listed
 
-pub record PlacesIn (flat s : List ℕ) (order from to : ℕ) : Type 0 where
-  pub up : from ≤ to
-  pub places : (t : ℕ) → t < to → PlaceIn flat s order t
+pub record PlacesIn (listed s : List ℕ) (order first end : ℕ) : Type 0 where
+  pub up : first ≤ end
+  pub places : (t : ℕ) → t < end → PlaceIn listed s order t
 
-pub record PositionRoom (flat s : List ℕ) (rest i at len : ℕ) : Type 0 where
+pub record PositionRoom (listed s : List ℕ) (rest i at len : ℕ) : Type 0 where
   pub read : rest + i < length s
   pub some : 1 ≤ getD s (rest + i) 0
-  pub inside : i + getD s (rest + i) 0 ≤ length flat
-  pub mark-inside : at + len ≤ length flat
+  pub inside : i + getD s (rest + i) 0 ≤ length listed
+  pub mark-inside : at + len ≤ length listed
 
-pub record PlacesRoom (flat s : List ℕ) (rest order from to at len : ℕ) : Type 0 where
-  pub up : from ≤ to
-  pub read : order + to ≤ length s
-  pub positions : (t : ℕ) → t < to → PositionRoom flat s rest (getD s (order + t) 0) at len
+pub record PlacesRoom (listed s : List ℕ) (rest order first end at len : ℕ) : Type 0 where
+  pub up : first ≤ end
+  pub read : order + end ≤ length s
+  pub positions : (t : ℕ) → t < end → PositionRoom listed s rest (getD s (order + t) 0) at len
 
 pub record SpanRoom (s : List ℕ) (rest order low slot : ℕ) : Type 0 where
   pub place : 0 < slot → order + (low + (slot - 1)) < length s
@@ -85,16 +85,16 @@ pub record SpanRoom (s : List ℕ) (rest order low slot : ℕ) : Type 0 where
 
 -- the longest place that fits, the first of these, counted from 1
 abbrev pub Longest : (ℕ → Bool) → (ℕ → ℕ) → ℕ → ℕ → ℕ → Type 0
-Longest fit size from to zero = (t : ℕ) → from ≤ t → t < to → fit t ≡ true → ⊥
-Longest fit size from to (suc k) =
-    (from + k < to)
-    × (fit (from + k) ≡ true)
-    × ((t : ℕ) → from ≤ t → t < to → fit t ≡ true → size t ≤ size (from + k))
-    × ((t : ℕ) → from ≤ t → t < from + k → fit t ≡ true → size t < size (from + k))
+Longest fit size first end zero = (t : ℕ) → first ≤ t → t < end → fit t ≡ true → ⊥
+Longest fit size first end (suc k) =
+    (first + k < end)
+    × (fit (first + k) ≡ true)
+    × ((t : ℕ) → first ≤ t → t < end → fit t ≡ true → size t ≤ size (first + k))
+    × ((t : ℕ) → first ≤ t → t < first + k → fit t ≡ true → size t < size (first + k))
 
 -- what a search for the longest place finds
 abbrev pub LongestIn : List ℕ → List ℕ → ℕ → ℕ → List ℕ → ℕ → ℕ → ℕ → Type 0
-LongestIn flat s rest order w from to j = Rising flat s rest order from to → Longest (fitting flat s rest order w) (restFor s rest order) from to j
+LongestIn listed s rest order w first end j = Rising listed s rest order first end → Longest (fitting listed s rest order w) (restFor s rest order) first end j
 
 -- the tables that say the slots of a copy
 pub record SlotTables (D : Design) (L : PathList) (G : Graph) (B : Bounds) (s : List ℕ) (rest order c : ℕ) : Type 0 where
@@ -119,13 +119,13 @@ StepIs L order B c w (Live j) = LiveIs L order B c w j
 
 -- the step is right, whatever these tables are of
 unfoldable pub StepMeets : List ℕ → List ℕ → ℕ → ℕ → ℕ → ℕ → ℕ → ℕ → ℕ → ℕ → Step → Type 0
-StepMeets flat s rest order low middle high name at len r =
-    (D : Design) (lengths : List ℕ) (G : Graph) (B : Bounds) (c : ℕ) → SlotTables D (pathList flat lengths) G B s rest order c
+StepMeets listed s rest order low middle high name at len r =
+    (D : Design) (lengths : List ℕ) (G : Graph) (B : Bounds) (c : ℕ) → SlotTables D (pathList listed lengths) G B s rest order c
     → low ≡ B .low c
     → middle ≡ B .middle c
     → high ≡ B .high c
     → edgeStart D name ≡ nodeOf G c
-    → StepIs (pathList flat lengths) (table s order (length flat)) B c (following flat name at len) r
+    → StepIs (pathList listed lengths) (table s order (length listed)) B c (following listed name at len) r
 
 -- the part of the flat list that is the mark of a slot
 pub record SpanIs (s : List ℕ) (rest order low slot at len : ℕ) : Type 0 where

@@ -18,14 +18,14 @@ use crate::rows::Layout;
 use crate::tables::fill_tables;
 
 // The tables one after the other, with the slots last.
-pub(crate) fn layout(copies: usize, edges: usize, listed: usize) -> Layout
-    requires { ⌜ (copies ≤ 16384) × (edges ≤ 65536) × (listed ≤ 8192) ⌝ }
-    ensures { λ r. ⌜ LaidOut copies edges listed r ⌝ }
+pub(crate) fn layout(copies: usize, edges: usize, positions: usize) -> Layout
+    requires { ⌜ (copies ≤ 16384) × (edges ≤ 65536) × (positions ≤ 8192) ⌝ }
+    ensures { λ r. ⌜ LaidOut copies edges positions r ⌝ }
 {
-    let order = listed;
-    let rank = order + listed;
-    let link = rank + listed;
-    let low = link + listed;
+    let order = positions;
+    let rank = order + positions;
+    let link = rank + positions;
+    let low = link + positions;
     let into = low + 4 * copies;
     let out = into + (copies + edges);
     Layout {
@@ -45,25 +45,28 @@ pub(crate) fn layout(copies: usize, edges: usize, listed: usize) -> Layout
 // Fills all tables, and clears the slots.
 pub(crate) fn build(
     starts: &[u32],
-    flat: &[u32],
+    listed: &[u32],
     lengths: &[u32],
     nodes: &[u32],
-    gs: &[u32],
-    ge: &[u32],
-    gn: &[u32],
-    s: &mut [u32],
+    from: &[u32],
+    to: &[u32],
+    via: &[u32],
+    scratch: &mut [u32],
 ) -> Layout
-    requires { ⌜ Buildable (now starts) (now flat) (now lengths) (now nodes) (now gs) (now ge) (now gn) (now s) ⌝ }
-    ensures { λ r. ⌜ Built (now (starts .entry)) (now (flat .entry)) (now (lengths .entry)) (now (nodes .entry)) (now (gs .entry)) (now (ge .entry)) (now (gn .entry)) (now (s .entry)) (now (s .exit)) r ⌝ }
+    requires { ⌜ Buildable (now starts) (now listed) (now lengths)
+        (now nodes) (now from) (now to) (now via) (now scratch) ⌝ }
+    ensures { λ r.
+        ⌜ Built (now (starts .entry)) (now (listed .entry)) (now (lengths .entry)) (now (nodes .entry))
+        (now (from .entry)) (now (to .entry)) (now (via .entry)) (now (scratch .entry)) (now (scratch .exit)) r ⌝ }
 {
-    let l = layout(nodes.len(), gs.len(), flat.len());
-    fill_rest(s, l.rest, lengths);
+    let l = layout(nodes.len(), from.len(), listed.len());
+    fill_rest(scratch, l.rest, lengths);
     let mut firsts = [0u32; 8193];
     fill_tables(
         starts,
-        flat,
+        listed,
         lengths,
-        s,
+        scratch,
         l.rest,
         l.order,
         l.rank,
@@ -72,44 +75,47 @@ pub(crate) fn build(
     );
     let total = fill_bounds(
         starts,
-        flat,
+        listed,
         lengths,
         nodes,
-        s,
+        scratch,
         l.rest,
         l.order,
         l.low,
         &firsts,
     );
-    link_edges(s, l.into, l.copies, ge);
-    link_named(s, l.out, l.copies, gs, flat, gn);
-    clear(s, l.slots, total as usize);
+    link_edges(scratch, l.into, l.copies, to);
+    link_named(scratch, l.out, l.copies, from, listed, via);
+    clear(scratch, l.slots, total as usize);
     l
 }
 
-// Counts the listed edges from place `from` to `to`, each at the node where it starts.
-fn count_path(starts: &[u32], flat: &[u32], from: usize, to: usize, counts: &mut [u32])
-    requires { ⌜ Counting (now starts) (now flat) (now counts) from to ⌝ }
-    ensures { λ r. ⌜ Counted (now (starts .entry)) (now (flat .entry)) (now (counts .entry)) (now (counts .exit)) from to ⌝ }
+// Counts the listed edges from place `first` to `end`, each at the node where it starts.
+fn count_path(starts: &[u32], listed: &[u32], first: usize, end: usize, counts: &mut [u32])
+    requires { ⌜ Counting (now starts) (now listed) (now counts) first end ⌝ }
+    ensures { λ r.
+        ⌜ Counted (now (starts .entry)) (now (listed .entry)) (now (counts .entry)) (now (counts .exit)) first end ⌝ }
 {
-    let mut i = from;
-    while i < to {
-        let v = start_at(starts, flat, i) as usize;
+    let mut i = first;
+    while i < end {
+        let v = start_at(starts, listed, i) as usize;
         counts[v] = counts[v] + 1;
         i += 1;
     }
 }
 
 // Counts the listed edges that are not first in their path.
-fn count_inner(starts: &[u32], flat: &[u32], lengths: &[u32], counts: &mut [u32])
-    requires { ⌜ ListCountable (now starts) (now flat) (now lengths) × (length (now counts) ≡ 4096) × ((v : ℕ) → getD (now counts) v 0 ≡ 0) ⌝ }
-    ensures { λ r. ⌜ Tallied (now (starts .entry)) (now (flat .entry)) (now (lengths .entry)) (now (counts .exit)) ⌝ }
+fn count_inner(starts: &[u32], listed: &[u32], lengths: &[u32], counts: &mut [u32])
+    requires { ⌜ ListCountable (now starts) (now listed) (now lengths)
+        × (length (now counts) ≡ 4096)
+        × ((v : ℕ) → getD (now counts) v 0 ≡ 0) ⌝ }
+    ensures { λ r. ⌜ Tallied (now (starts .entry)) (now (listed .entry)) (now (lengths .entry)) (now (counts .exit)) ⌝ }
 {
     let mut at = 0;
     let mut k = 0;
     while k < lengths.len() {
         let end = at + lengths[k] as usize;
-        count_path(starts, flat, at + 1, end, counts);
+        count_path(starts, listed, at + 1, end, counts);
         at = end;
         k += 1;
     }
@@ -117,7 +123,9 @@ fn count_inner(starts: &[u32], flat: &[u32], lengths: &[u32], counts: &mut [u32]
 
 // One for each copy, and the count of its node.
 fn count_copies(nodes: &[u32], counts: &[u32]) -> usize
-    requires { ⌜ CopiesCountable (now nodes) × (length (now counts) ≡ 4096) × ((v : ℕ) → getD (now counts) v 0 ≤ 8192) ⌝ }
+    requires { ⌜ CopiesCountable (now nodes)
+        × (length (now counts) ≡ 4096)
+        × ((v : ℕ) → getD (now counts) v 0 ≤ 8192) ⌝ }
     ensures { λ r. ⌜ (r ≡ shares (now (counts .entry)) (now (nodes .entry))) × (r ≤ 134234112) ⌝ }
 {
     let mut total: usize = 0;
@@ -133,22 +141,25 @@ fn count_copies(nodes: &[u32], counts: &[u32]) -> usize
 // How many candidates there are, without scratch.
 pub(crate) fn count_candidates(
     starts: &[u32],
-    flat: &[u32],
+    listed: &[u32],
     lengths: &[u32],
     nodes: &[u32],
 ) -> usize
-    requires { ⌜ ListCountable (now starts) (now flat) (now lengths) × CopiesCountable (now nodes) ⌝ }
-    ensures { λ r. ⌜ (r ≡ candidates (ofStarts (now (starts .entry))) (ofNodes (now (nodes .entry))) (pathList (now (flat .entry)) (now (lengths .entry)))) × (r ≤ 134234112) ⌝ }
+    requires { ⌜ ListCountable (now starts) (now listed) (now lengths) × CopiesCountable (now nodes) ⌝ }
+    ensures { λ r.
+        ⌜ (r ≡ candidates (ofStarts (now (starts .entry))) (ofNodes (now (nodes .entry)))
+        (pathList (now (listed .entry)) (now (lengths .entry))))
+        × (r ≤ 134234112) ⌝ }
 {
     let mut counts = [0u32; 4096];
-    count_inner(starts, flat, lengths, &mut counts);
+    count_inner(starts, listed, lengths, &mut counts);
     count_copies(nodes, &counts)
 }
 
 // Whether the scratch is as long as test 31 asks.
-pub(crate) fn scratch_fits(words: usize, candidates: usize, listed: usize, edges: usize) -> bool
-    requires { ⌜ (candidates ≤ 134234112) × (listed ≤ 8192) × (edges ≤ 65536) ⌝ }
-    ensures { λ r. ⌜ r ≡ leb (16 * (candidates + listed + edges)) words ⌝ }
+pub(crate) fn scratch_fits(words: usize, candidates: usize, positions: usize, edges: usize) -> bool
+    requires { ⌜ (candidates ≤ 134234112) × (positions ≤ 8192) × (edges ≤ 65536) ⌝ }
+    ensures { λ r. ⌜ r ≡ leb (16 * (candidates + positions + edges)) words ⌝ }
 {
-    16 * (candidates + listed + edges) <= words
+    16 * (candidates + positions + edges) <= words
 }

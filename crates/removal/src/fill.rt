@@ -4,7 +4,8 @@ ghost use Prim.Native.Nat.{_<_};
 ghost use lib.ListN.{getD};
 ghost use Rattle.removal.specs.Slots.{slots};
 ghost use Rattle.removal.specs.Result.{slotAt, shownIn, shownBelow, edgeAt};
-ghost use Rattle.removal.specs.Fill.{EdgesFilled, EdgeRoom, EdgesRoom, SlotsRoom, SlotsFilled, ResultFilled, boundsNow, shownNow, numberNow, ifShown, edgeNow, edgesNow};
+ghost use Rattle.removal.specs.Fill.{EdgesFilled, EdgeRoom, EdgesRoom, SlotsRoom, SlotsFilled, ResultFilled};
+ghost use Rattle.removal.specs.Fill.{boundsNow, shownNow, numberNow, ifShown, edgeNow, edgesNow};
 use crate::rows::Layout;
 use crate::rows::slot_count;
 use crate::rows::slot_place;
@@ -15,29 +16,36 @@ use entries::number_at;
 // `at` of the room; `number` is that of slot j. Gives the next place.
 fn fill_edge(
     l: Layout,
-    flat: &[u32],
-    gs: &[u32],
-    ge: &[u32],
-    gn: &[u32],
-    s: &[u32],
+    listed: &[u32],
+    from: &[u32],
+    to: &[u32],
+    via: &[u32],
+    scratch: &[u32],
     e: usize,
     j: usize,
     number: u32,
-    from: &mut [u32],
-    to: &mut [u32],
-    via: &mut [u32],
+    room_from: &mut [u32],
+    room_to: &mut [u32],
+    room_via: &mut [u32],
     at: usize,
 ) -> usize
-    requires { ⌜ EdgeRoom l (now flat) (now gs) (now ge) (now gn) (now s) e j number (now from) (now to) (now via) at ⌝ }
-    ensures { λ r. ⌜ EdgesFilled l (now (flat .entry)) (now (gs .entry)) (now (ge .entry)) (now (gn .entry)) (now (s .entry)) (λ L G. edgeNow l (now (flat .entry)) (now (s .entry)) L (getD (now (ge .entry)) e 0) j (edgeAt (now (gs .entry)) (now (ge .entry)) (now (gn .entry)) e)) at (now (from .entry)) (now (to .entry)) (now (via .entry)) (now (from .exit)) (now (to .exit)) (now (via .exit)) r ⌝ }
+    requires { ⌜ EdgeRoom l (now listed) (now from) (now to) (now via) (now scratch)
+        e j number (now «room_from») (now «room_to») (now «room_via») at ⌝ }
+    ensures { λ r.
+        ⌜ EdgesFilled l (now (listed .entry)) (now (from .entry)) (now (to .entry)) (now (via .entry))
+        (now (scratch .entry))
+        (λ L G. edgeNow l (now (listed .entry)) (now (scratch .entry)) L (getD (now (to .entry)) e 0)
+        j (edgeAt (now (from .entry)) (now (to .entry)) (now (via .entry)) e))
+        at (now («room_from» .entry)) (now («room_to» .entry)) (now («room_via» .entry)) (now («room_from» .exit))
+        (now («room_to» .exit)) (now («room_via» .exit)) r ⌝ }
 {
-    let v = shown_start(l, flat, gs, ge, gn, s, e, j);
+    let v = shown_start(l, listed, from, to, via, scratch, e, j);
     if v == 0 {
         return at;
     }
-    from[at] = v - 2;
-    to[at] = number;
-    via[at] = number_at(gn, e);
+    room_from[at] = v - 2;
+    room_to[at] = number;
+    room_via[at] = number_at(via, e);
     at + 1
 }
 
@@ -45,30 +53,49 @@ fn fill_edge(
 // next place.
 fn fill_edges(
     l: Layout,
-    flat: &[u32],
-    gs: &[u32],
-    ge: &[u32],
-    gn: &[u32],
-    s: &[u32],
+    listed: &[u32],
+    from: &[u32],
+    to: &[u32],
+    via: &[u32],
+    scratch: &[u32],
     c: usize,
     j: usize,
     number: u32,
-    from: &mut [u32],
-    to: &mut [u32],
-    via: &mut [u32],
+    room_from: &mut [u32],
+    room_to: &mut [u32],
+    room_via: &mut [u32],
     k: usize,
 ) -> usize
-    requires { ⌜ EdgesRoom l (now flat) (now gs) (now ge) (now gn) (now s) c j (now from) (now to) (now via) k ⌝ }
-    requires { ⌜ number ≡ numberNow l (now s) c j ⌝ }
-    ensures { λ r. ⌜ EdgesFilled l (now (flat .entry)) (now (gs .entry)) (now (ge .entry)) (now (gn .entry)) (now (s .entry)) (λ L G. edgesNow l (now (flat .entry)) (now (s .entry)) L G (slotAt c j)) k (now (from .entry)) (now (to .entry)) (now (via .entry)) (now (from .exit)) (now (to .exit)) (now (via .exit)) r ⌝ }
+    requires { ⌜ EdgesRoom l (now listed) (now from) (now to) (now via)
+        (now scratch) c j (now «room_from») (now «room_to») (now «room_via») k ⌝ }
+    requires { ⌜ number ≡ numberNow l (now scratch) c j ⌝ }
+    ensures { λ r.
+        ⌜ EdgesFilled l (now (listed .entry)) (now (from .entry)) (now (to .entry)) (now (via .entry))
+        (now (scratch .entry)) (λ L G. edgesNow l (now (listed .entry)) (now (scratch .entry)) L G (slotAt c j))
+        k (now («room_from» .entry)) (now («room_to» .entry)) (now («room_via» .entry))
+        (now («room_from» .exit)) (now («room_to» .exit)) (now («room_via» .exit)) r ⌝ }
 {
     let next = l.into + l.copies;
     let mut at = k;
-    let mut h = number_at(s, l.into + c) as usize;
+    let mut h = number_at(scratch, l.into + c) as usize;
     while h != 0 {
         let e = h - 1;
-        at = fill_edge(l, flat, gs, ge, gn, s, e, j, number, from, to, via, at);
-        h = number_at(s, next + e) as usize;
+        at = fill_edge(
+            l,
+            listed,
+            from,
+            to,
+            via,
+            scratch,
+            e,
+            j,
+            number,
+            room_from,
+            room_to,
+            room_via,
+            at,
+        );
+        h = number_at(scratch, next + e) as usize;
     }
     at
 }
@@ -76,59 +103,102 @@ fn fill_edges(
 // Writes slot j of copy c, if it is shown: its node, and the edges into it.
 fn fill_slot(
     l: Layout,
-    flat: &[u32],
+    listed: &[u32],
     nodes: &[u32],
-    gs: &[u32],
-    ge: &[u32],
-    gn: &[u32],
-    s: &[u32],
+    from: &[u32],
+    to: &[u32],
+    via: &[u32],
+    scratch: &[u32],
     c: usize,
     j: usize,
-    room: &mut [u32],
-    from: &mut [u32],
-    to: &mut [u32],
-    via: &mut [u32],
+    room_nodes: &mut [u32],
+    room_from: &mut [u32],
+    room_to: &mut [u32],
+    room_via: &mut [u32],
     k: usize,
 ) -> usize
-    requires { ⌜ (c < l .copies) × (j < slots (boundsNow l (now s)) c) ⌝ }
-    requires { ⌜ SlotsRoom l (now flat) (now nodes) (now gs) (now ge) (now gn) (now s) (ifShown l (now s) c j) (numberNow l (now s) c j) (now room) (now from) (now to) (now via) k ⌝ }
-    ensures { λ r. ⌜ SlotsFilled l (now (flat .entry)) (now (nodes .entry)) (now (gs .entry)) (now (ge .entry)) (now (gn .entry)) (now (s .entry)) (ifShown l (now (s .entry)) c j) (numberNow l (now (s .entry)) c j) (now (room .entry)) (now (from .entry)) (now (to .entry)) (now (via .entry)) (now (room .exit)) (now (from .exit)) (now (to .exit)) (now (via .exit)) k r ⌝ }
+    requires { ⌜ (c < l .copies) × (j < slots (boundsNow l (now scratch)) c) ⌝ }
+    requires { ⌜ SlotsRoom l (now listed) (now nodes) (now from) (now to) (now via)
+        (now scratch) (ifShown l (now scratch) c j) (numberNow l (now scratch) c j)
+        (now «room_nodes») (now «room_from») (now «room_to») (now «room_via») k ⌝ }
+    ensures { λ r.
+        ⌜ SlotsFilled l (now (listed .entry)) (now (nodes .entry)) (now (from .entry)) (now (to .entry))
+        (now (via .entry)) (now (scratch .entry)) (ifShown l (now (scratch .entry)) c j)
+        (numberNow l (now (scratch .entry)) c j) (now («room_nodes» .entry)) (now («room_from» .entry))
+        (now («room_to» .entry)) (now («room_via» .entry)) (now («room_nodes» .exit))
+        (now («room_from» .exit)) (now («room_to» .exit)) (now («room_via» .exit)) k r ⌝ }
 {
-    let v = number_at(s, slot_place(l, s, c, j));
+    let v = number_at(scratch, slot_place(l, scratch, c, j));
     if v < 2 {
         return k;
     }
     let number = v - 2;
     let place = number as usize;
-    room[place] = number_at(nodes, c);
-    fill_edges(l, flat, gs, ge, gn, s, c, j, number, from, to, via, k)
+    room_nodes[place] = number_at(nodes, c);
+    fill_edges(
+        l,
+        listed,
+        from,
+        to,
+        via,
+        scratch,
+        c,
+        j,
+        number,
+        room_from,
+        room_to,
+        room_via,
+        k,
+    )
 }
 
 // Writes the shown slots of copy c.
 fn fill_copy(
     l: Layout,
-    flat: &[u32],
+    listed: &[u32],
     nodes: &[u32],
-    gs: &[u32],
-    ge: &[u32],
-    gn: &[u32],
-    s: &[u32],
+    from: &[u32],
+    to: &[u32],
+    via: &[u32],
+    scratch: &[u32],
     c: usize,
-    room: &mut [u32],
-    from: &mut [u32],
-    to: &mut [u32],
-    via: &mut [u32],
+    room_nodes: &mut [u32],
+    room_from: &mut [u32],
+    room_to: &mut [u32],
+    room_via: &mut [u32],
     k: usize,
 ) -> usize
     requires { ⌜ c < l .copies ⌝ }
-    requires { ⌜ SlotsRoom l (now flat) (now nodes) (now gs) (now ge) (now gn) (now s) (shownIn (shownNow l (now s)) c (slots (boundsNow l (now s)) c)) (numberNow l (now s) c 0) (now room) (now from) (now to) (now via) k ⌝ }
-    ensures { λ r. ⌜ SlotsFilled l (now (flat .entry)) (now (nodes .entry)) (now (gs .entry)) (now (ge .entry)) (now (gn .entry)) (now (s .entry)) (shownIn (shownNow l (now (s .entry))) c (slots (boundsNow l (now (s .entry))) c)) (numberNow l (now (s .entry)) c 0) (now (room .entry)) (now (from .entry)) (now (to .entry)) (now (via .entry)) (now (room .exit)) (now (from .exit)) (now (to .exit)) (now (via .exit)) k r ⌝ }
+    requires { ⌜ SlotsRoom l (now listed) (now nodes) (now from) (now to) (now via) (now scratch)
+        (shownIn (shownNow l (now scratch)) c (slots (boundsNow l (now scratch)) c))
+        (numberNow l (now scratch) c 0) (now «room_nodes») (now «room_from») (now «room_to») (now «room_via») k ⌝ }
+    ensures { λ r.
+        let shown = shownIn (shownNow l (now (scratch .entry))) c (slots (boundsNow l (now (scratch .entry))) c) in
+        ⌜ SlotsFilled l (now (listed .entry)) (now (nodes .entry)) (now (from .entry)) (now (to .entry))
+        (now (via .entry)) (now (scratch .entry)) shown (numberNow l (now (scratch .entry)) c 0)
+        (now («room_nodes» .entry)) (now («room_from» .entry)) (now («room_to» .entry)) (now («room_via» .entry))
+        (now («room_nodes» .exit)) (now («room_from» .exit)) (now («room_to» .exit)) (now («room_via» .exit)) k r ⌝ }
 {
-    let count = slot_count(l, s, c);
+    let count = slot_count(l, scratch, c);
     let mut at = k;
     let mut j = 0;
     while j < count {
-        at = fill_slot(l, flat, nodes, gs, ge, gn, s, c, j, room, from, to, via, at);
+        at = fill_slot(
+            l,
+            listed,
+            nodes,
+            from,
+            to,
+            via,
+            scratch,
+            c,
+            j,
+            room_nodes,
+            room_from,
+            room_to,
+            room_via,
+            at,
+        );
         j += 1;
     }
     at
@@ -137,24 +207,44 @@ fn fill_copy(
 // Writes the whole result to the front of the room.
 pub(crate) fn fill_all(
     l: Layout,
-    flat: &[u32],
+    listed: &[u32],
     nodes: &[u32],
-    gs: &[u32],
-    ge: &[u32],
-    gn: &[u32],
-    s: &[u32],
-    room: &mut [u32],
-    from: &mut [u32],
-    to: &mut [u32],
-    via: &mut [u32],
+    from: &[u32],
+    to: &[u32],
+    via: &[u32],
+    scratch: &[u32],
+    room_nodes: &mut [u32],
+    room_from: &mut [u32],
+    room_to: &mut [u32],
+    room_via: &mut [u32],
 )
-    requires { ⌜ SlotsRoom l (now flat) (now nodes) (now gs) (now ge) (now gn) (now s) (shownBelow (boundsNow l (now s)) (shownNow l (now s)) (l .copies)) 0 (now room) (now from) (now to) (now via) 0 ⌝ }
-    ensures { λ r. ⌜ ResultFilled l (now (flat .entry)) (now (nodes .entry)) (now (gs .entry)) (now (ge .entry)) (now (gn .entry)) (now (s .entry)) (now (room .entry)) (now (from .entry)) (now (to .entry)) (now (via .entry)) (now (room .exit)) (now (from .exit)) (now (to .exit)) (now (via .exit)) ⌝ }
+    requires { ⌜ SlotsRoom l (now listed) (now nodes) (now from) (now to) (now via) (now scratch)
+        (shownBelow (boundsNow l (now scratch)) (shownNow l (now scratch)) (l .copies)) 0
+        (now «room_nodes») (now «room_from») (now «room_to») (now «room_via») 0 ⌝ }
+    ensures { λ r.
+        ⌜ ResultFilled l (now (listed .entry)) (now (nodes .entry)) (now (from .entry)) (now (to .entry))
+        (now (via .entry)) (now (scratch .entry)) (now («room_nodes» .entry)) (now («room_from» .entry))
+        (now («room_to» .entry)) (now («room_via» .entry)) (now («room_nodes» .exit))
+        (now («room_from» .exit)) (now («room_to» .exit)) (now («room_via» .exit)) ⌝ }
 {
     let mut k = 0;
     let mut c = 0;
     while c < l.copies {
-        k = fill_copy(l, flat, nodes, gs, ge, gn, s, c, room, from, to, via, k);
+        k = fill_copy(
+            l,
+            listed,
+            nodes,
+            from,
+            to,
+            via,
+            scratch,
+            c,
+            room_nodes,
+            room_from,
+            room_to,
+            room_via,
+            k,
+        );
         c += 1;
     }
 }

@@ -10,8 +10,9 @@ ghost use lib.ListN.{length};
 ghost use Rattle.timing.specs.Graphs.{design};
 ghost use Rattle.timing.specs.Marks.{pathList};
 ghost use Rattle.timing.specs.Refusals.{_then_};
-ghost use Rattle.timing.specs.Tests.{sameSizes, designSizes, listSizes, designTests, listTests, graphTest};
-ghost use Rattle.timing.specs.Calls.{graphSlices, graphOf, lentRemoval, removeFromDesign, removeFromGraph, graphAnswer, nodesAfter, startsAfter, endsAfter, namesAfter, scratchAfter};
+ghost use Rattle.timing.specs.Tests.{designSizes, listSizes, designTests, listTests, graphTest};
+ghost use Rattle.timing.specs.Calls.{graphSlices, graphOf, graphSizes, lentRemoval, removeFromDesign, removeFromGraph};
+ghost use Rattle.timing.specs.Calls.{graphAnswer, nodesAfter, startsAfter, endsAfter, namesAfter, scratchAfter};
 ghost use Rattle.removal.specs.Numbered.{Numberable, DesignRemoved};
 use crate::numbers::number_places;
 use crate::remove::remove;
@@ -51,7 +52,10 @@ fn list_tests(
     lengths: &[u32],
     others: Verdict,
 ) -> Verdict
-    ensures { λ r. ⌜ r ≡ (designSizes (design n (now (starts .entry)) (now (ends .entry)) (now (delays .entry))) then listSizes (pathList (now (listed .entry)) (now (lengths .entry))) then others then designTests (design n (now (starts .entry)) (now (ends .entry)) (now (delays .entry))) then listTests (design n (now (starts .entry)) (now (ends .entry)) (now (delays .entry))) (pathList (now (listed .entry)) (now (lengths .entry)))) ⌝ }
+    ensures { λ r.
+        let D = design n (now (starts .entry)) (now (ends .entry)) (now (delays .entry)) in
+        let L = pathList (now (listed .entry)) (now (lengths .entry)) in
+        ⌜ r ≡ (designSizes D then listSizes L then others then designTests D then listTests D L) ⌝ }
 {
     let slices = design_sizes(starts, ends, delays);
     let sums = and_list_sizes(slices, listed, lengths);
@@ -69,14 +73,19 @@ fn remove_tested(
     ends: &[u32],
     listed: &[u32],
     lengths: &[u32],
-    nodes: &mut [u32],
-    from: &mut [u32],
-    to: &mut [u32],
-    via: &mut [u32],
+    room_nodes: &mut [u32],
+    room_from: &mut [u32],
+    room_to: &mut [u32],
+    room_via: &mut [u32],
     scratch: &mut [u32],
 ) -> GraphMade
-    requires { ⌜ Numberable (now starts) (now ends) (now listed) (now lengths) n (length (now starts)) (now from) (now to) (now via) ⌝ }
-    ensures { λ r. ⌜ DesignRemoved (now (starts .entry)) (now (ends .entry)) (now (listed .entry)) (now (lengths .entry)) n r (now (nodes .entry)) (now (from .entry)) (now (to .entry)) (now (via .entry)) (now (scratch .entry)) (now (nodes .exit)) (now (from .exit)) (now (to .exit)) (now (via .exit)) (now (scratch .exit)) ⌝ }
+    requires { ⌜ Numberable (now starts) (now ends) (now listed) (now lengths) n
+        (length (now starts)) (now «room_from») (now «room_to») (now «room_via») ⌝ }
+    ensures { λ r.
+        ⌜ DesignRemoved (now (starts .entry)) (now (ends .entry)) (now (listed .entry))
+        (now (lengths .entry)) n r (now («room_nodes» .entry)) (now («room_from» .entry))
+        (now («room_to» .entry)) (now («room_via» .entry)) (now (scratch .entry)) (now («room_nodes» .exit))
+        (now («room_from» .exit)) (now («room_to» .exit)) (now («room_via» .exit)) (now (scratch .exit)) ⌝ }
 {
     let m = starts.len();
     let mut numbers = [0u32; 4096];
@@ -91,10 +100,10 @@ fn remove_tested(
         starts,
         ends,
         &names[..m],
-        nodes,
-        from,
-        to,
-        via,
+        room_nodes,
+        room_from,
+        room_to,
+        room_via,
         scratch,
     )
 }
@@ -107,20 +116,25 @@ pub fn remove_from_design(
     delays: &[i32],
     listed: &[u32],
     lengths: &[u32],
-    nodes: &mut [u32],
-    from: &mut [u32],
-    to: &mut [u32],
-    via: &mut [u32],
+    room_nodes: &mut [u32],
+    room_from: &mut [u32],
+    room_to: &mut [u32],
+    room_via: &mut [u32],
     scratch: &mut [u32],
 ) -> GraphMade
-    ensures { λ r. ⌜ r ≡ graphAnswer (removeFromDesign (design n (now (starts .entry)) (now (ends .entry)) (now (delays .entry))) (lentRemoval (now (listed .entry)) (now (lengths .entry)) (now (nodes .entry)) (now (from .entry)) (now (to .entry)) (now (via .entry)) (now (scratch .entry)))) ⌝ }
-    ensures { λ r. ⌜ now (nodes .exit) ≡ nodesAfter (removeFromDesign (design n (now (starts .entry)) (now (ends .entry)) (now (delays .entry))) (lentRemoval (now (listed .entry)) (now (lengths .entry)) (now (nodes .entry)) (now (from .entry)) (now (to .entry)) (now (via .entry)) (now (scratch .entry)))) (now (nodes .entry)) ⌝ }
-    ensures { λ r. ⌜ now (from .exit) ≡ startsAfter (removeFromDesign (design n (now (starts .entry)) (now (ends .entry)) (now (delays .entry))) (lentRemoval (now (listed .entry)) (now (lengths .entry)) (now (nodes .entry)) (now (from .entry)) (now (to .entry)) (now (via .entry)) (now (scratch .entry)))) (now (from .entry)) ⌝ }
-    ensures { λ r. ⌜ now (to .exit) ≡ endsAfter (removeFromDesign (design n (now (starts .entry)) (now (ends .entry)) (now (delays .entry))) (lentRemoval (now (listed .entry)) (now (lengths .entry)) (now (nodes .entry)) (now (from .entry)) (now (to .entry)) (now (via .entry)) (now (scratch .entry)))) (now (to .entry)) ⌝ }
-    ensures { λ r. ⌜ now (via .exit) ≡ namesAfter (removeFromDesign (design n (now (starts .entry)) (now (ends .entry)) (now (delays .entry))) (lentRemoval (now (listed .entry)) (now (lengths .entry)) (now (nodes .entry)) (now (from .entry)) (now (to .entry)) (now (via .entry)) (now (scratch .entry)))) (now (via .entry)) ⌝ }
-    ensures { λ r. ⌜ now (scratch .exit) ≡ scratchAfter (removeFromDesign (design n (now (starts .entry)) (now (ends .entry)) (now (delays .entry))) (lentRemoval (now (listed .entry)) (now (lengths .entry)) (now (nodes .entry)) (now (from .entry)) (now (to .entry)) (now (via .entry)) (now (scratch .entry)))) (now (scratch .entry)) ⌝ }
+    ensures { λ r.
+        let D = design n (now (starts .entry)) (now (ends .entry)) (now (delays .entry)) in
+        let lent = lentRemoval (now (listed .entry)) (now (lengths .entry)) (now («room_nodes» .entry))
+        (now («room_from» .entry)) (now («room_to» .entry)) (now («room_via» .entry)) (now (scratch .entry)) in
+        let o = removeFromDesign D lent in
+        ⌜ (r ≡ graphAnswer o)
+        × (now («room_nodes» .exit) ≡ nodesAfter o (now («room_nodes» .entry)))
+        × (now («room_from» .exit) ≡ startsAfter o (now («room_from» .entry)))
+        × (now («room_to» .exit) ≡ endsAfter o (now («room_to» .entry)))
+        × (now («room_via» .exit) ≡ namesAfter o (now («room_via» .entry)))
+        × (now (scratch .exit) ≡ scratchAfter o (now (scratch .entry))) ⌝ }
 {
-    let room = same_sizes(from.len(), to.len(), via.len());
+    let room = same_sizes(room_from.len(), room_to.len(), room_via.len());
     let verdict = list_tests(n, starts, ends, delays, listed, lengths, room);
     if let Verdict::Refused(r) = verdict {
         return GraphMade::Refused(r);
@@ -131,10 +145,10 @@ pub fn remove_from_design(
         ends,
         listed,
         lengths,
-        nodes,
-        from,
-        to,
-        via,
+        room_nodes,
+        room_from,
+        room_to,
+        room_via,
         scratch,
     )
 }
@@ -147,21 +161,26 @@ fn graph_tests(
     delays: &[i32],
     listed: &[u32],
     lengths: &[u32],
-    copies: &[u32],
-    gs: &[u32],
-    ge: &[u32],
-    gn: &[u32],
+    nodes: &[u32],
+    from: &[u32],
+    to: &[u32],
+    via: &[u32],
     room: Verdict,
 ) -> Verdict
-    ensures { λ r. ⌜ r ≡ (designSizes (design n (now (starts .entry)) (now (ends .entry)) (now (delays .entry))) then listSizes (pathList (now (listed .entry)) (now (lengths .entry))) then sameSizes (length (now (gs .entry))) (length (now (ge .entry))) (length (now (gn .entry))) then room then designTests (design n (now (starts .entry)) (now (ends .entry)) (now (delays .entry))) then listTests (design n (now (starts .entry)) (now (ends .entry)) (now (delays .entry))) (pathList (now (listed .entry)) (now (lengths .entry))) then graphTest (design n (now (starts .entry)) (now (ends .entry)) (now (delays .entry))) (graphOf (graphSlices (now (copies .entry)) (now (gs .entry)) (now (ge .entry)) (now (gn .entry))))) ⌝ }
+    ensures { λ r.
+        let D = design n (now (starts .entry)) (now (ends .entry)) (now (delays .entry)) in
+        let L = pathList (now (listed .entry)) (now (lengths .entry)) in
+        let S = graphSlices (now (nodes .entry)) (now (from .entry)) (now (to .entry)) (now (via .entry)) in
+        ⌜ r ≡ (designSizes D then listSizes L then graphSizes S then room
+        then designTests D then listTests D L then graphTest D (graphOf S)) ⌝ }
 {
-    let earlier = same_sizes(gs.len(), ge.len(), gn.len());
+    let earlier = same_sizes(from.len(), to.len(), via.len());
     let others = then(earlier, room);
     let fit = list_tests(n, starts, ends, delays, listed, lengths, others);
-    and_graph_test(fit, n, starts, ends, copies, gs, ge, gn)
+    and_graph_test(fit, n, starts, ends, nodes, from, to, via)
 }
 
-// What is left of an earlier true graph (`copies`, `gs`, `ge`, `gn`) after a
+// What is left of an earlier true graph (`nodes`, `from`, `to`, `via`) after a
 // further list of paths.
 pub fn remove_from_graph(
     n: u32,
@@ -170,24 +189,30 @@ pub fn remove_from_graph(
     delays: &[i32],
     listed: &[u32],
     lengths: &[u32],
-    copies: &[u32],
-    gs: &[u32],
-    ge: &[u32],
-    gn: &[u32],
-    nodes: &mut [u32],
-    from: &mut [u32],
-    to: &mut [u32],
-    via: &mut [u32],
+    nodes: &[u32],
+    from: &[u32],
+    to: &[u32],
+    via: &[u32],
+    room_nodes: &mut [u32],
+    room_from: &mut [u32],
+    room_to: &mut [u32],
+    room_via: &mut [u32],
     scratch: &mut [u32],
 ) -> GraphMade
-    ensures { λ r. ⌜ r ≡ graphAnswer (removeFromGraph (design n (now (starts .entry)) (now (ends .entry)) (now (delays .entry))) (graphSlices (now (copies .entry)) (now (gs .entry)) (now (ge .entry)) (now (gn .entry))) (lentRemoval (now (listed .entry)) (now (lengths .entry)) (now (nodes .entry)) (now (from .entry)) (now (to .entry)) (now (via .entry)) (now (scratch .entry)))) ⌝ }
-    ensures { λ r. ⌜ now (nodes .exit) ≡ nodesAfter (removeFromGraph (design n (now (starts .entry)) (now (ends .entry)) (now (delays .entry))) (graphSlices (now (copies .entry)) (now (gs .entry)) (now (ge .entry)) (now (gn .entry))) (lentRemoval (now (listed .entry)) (now (lengths .entry)) (now (nodes .entry)) (now (from .entry)) (now (to .entry)) (now (via .entry)) (now (scratch .entry)))) (now (nodes .entry)) ⌝ }
-    ensures { λ r. ⌜ now (from .exit) ≡ startsAfter (removeFromGraph (design n (now (starts .entry)) (now (ends .entry)) (now (delays .entry))) (graphSlices (now (copies .entry)) (now (gs .entry)) (now (ge .entry)) (now (gn .entry))) (lentRemoval (now (listed .entry)) (now (lengths .entry)) (now (nodes .entry)) (now (from .entry)) (now (to .entry)) (now (via .entry)) (now (scratch .entry)))) (now (from .entry)) ⌝ }
-    ensures { λ r. ⌜ now (to .exit) ≡ endsAfter (removeFromGraph (design n (now (starts .entry)) (now (ends .entry)) (now (delays .entry))) (graphSlices (now (copies .entry)) (now (gs .entry)) (now (ge .entry)) (now (gn .entry))) (lentRemoval (now (listed .entry)) (now (lengths .entry)) (now (nodes .entry)) (now (from .entry)) (now (to .entry)) (now (via .entry)) (now (scratch .entry)))) (now (to .entry)) ⌝ }
-    ensures { λ r. ⌜ now (via .exit) ≡ namesAfter (removeFromGraph (design n (now (starts .entry)) (now (ends .entry)) (now (delays .entry))) (graphSlices (now (copies .entry)) (now (gs .entry)) (now (ge .entry)) (now (gn .entry))) (lentRemoval (now (listed .entry)) (now (lengths .entry)) (now (nodes .entry)) (now (from .entry)) (now (to .entry)) (now (via .entry)) (now (scratch .entry)))) (now (via .entry)) ⌝ }
-    ensures { λ r. ⌜ now (scratch .exit) ≡ scratchAfter (removeFromGraph (design n (now (starts .entry)) (now (ends .entry)) (now (delays .entry))) (graphSlices (now (copies .entry)) (now (gs .entry)) (now (ge .entry)) (now (gn .entry))) (lentRemoval (now (listed .entry)) (now (lengths .entry)) (now (nodes .entry)) (now (from .entry)) (now (to .entry)) (now (via .entry)) (now (scratch .entry)))) (now (scratch .entry)) ⌝ }
+    ensures { λ r.
+        let D = design n (now (starts .entry)) (now (ends .entry)) (now (delays .entry)) in
+        let S = graphSlices (now (nodes .entry)) (now (from .entry)) (now (to .entry)) (now (via .entry)) in
+        let lent = lentRemoval (now (listed .entry)) (now (lengths .entry)) (now («room_nodes» .entry))
+        (now («room_from» .entry)) (now («room_to» .entry)) (now («room_via» .entry)) (now (scratch .entry)) in
+        let o = removeFromGraph D S lent in
+        ⌜ (r ≡ graphAnswer o)
+        × (now («room_nodes» .exit) ≡ nodesAfter o (now («room_nodes» .entry)))
+        × (now («room_from» .exit) ≡ startsAfter o (now («room_from» .entry)))
+        × (now («room_to» .exit) ≡ endsAfter o (now («room_to» .entry)))
+        × (now («room_via» .exit) ≡ namesAfter o (now («room_via» .entry)))
+        × (now (scratch .exit) ≡ scratchAfter o (now (scratch .entry))) ⌝ }
 {
-    let room = same_sizes(from.len(), to.len(), via.len());
+    let room = same_sizes(room_from.len(), room_to.len(), room_via.len());
     let verdict = graph_tests(
         n,
         starts,
@@ -195,10 +220,10 @@ pub fn remove_from_graph(
         delays,
         listed,
         lengths,
-        copies,
-        gs,
-        ge,
-        gn,
+        nodes,
+        from,
+        to,
+        via,
         room,
     );
     if let Verdict::Refused(r) = verdict {
@@ -208,14 +233,14 @@ pub fn remove_from_graph(
         starts,
         listed,
         lengths,
-        copies,
-        gs,
-        ge,
-        gn,
         nodes,
         from,
         to,
         via,
+        room_nodes,
+        room_from,
+        room_to,
+        room_via,
         scratch,
     )
 }

@@ -18,12 +18,13 @@ fn flag(names: &mut [u32], k: usize)
 }
 
 // Flags the listed edges.
-fn flag_listed(names: &mut [u32], flat: &[u32])
-    ensures { λ r. ⌜ Noted (now (flat .entry)) (now (names .entry)) (now (names .exit)) (length (now (flat .entry))) ⌝ }
+fn flag_listed(names: &mut [u32], listed: &[u32])
+    ensures { λ r.
+        ⌜ Noted (now (listed .entry)) (now (names .entry)) (now (names .exit)) (length (now (listed .entry))) ⌝ }
 {
     let mut i = 0;
-    while i < flat.len() {
-        let k = number_at(flat, i) as usize;
+    while i < listed.len() {
+        let k = number_at(listed, i) as usize;
         flag(names, k);
         i += 1;
     }
@@ -37,40 +38,47 @@ fn flag_at(names: &[u32], k: usize) -> u32
 }
 
 // Stores a word for each edge of the graph: 0 only if the edge that it names is not listed.
-fn name_with(names: &mut [u32], flat: &[u32], gn: &[u32], s: &mut [u32], base: usize)
-    requires { ⌜ base + length (now gn) ≤ length (now s) ⌝ }
-    ensures { λ r. ⌜ Named (now (flat .entry)) (now (gn .entry)) (now (s .entry)) (now (s .exit)) base (length (now (gn .entry))) ⌝ }
+fn name_with(names: &mut [u32], listed: &[u32], via: &[u32], scratch: &mut [u32], base: usize)
+    requires { ⌜ base + length (now via) ≤ length (now scratch) ⌝ }
+    ensures { λ r.
+        ⌜ Named (now (listed .entry)) (now (via .entry)) (now (scratch .entry))
+        (now (scratch .exit)) base (length (now (via .entry))) ⌝ }
 {
-    flag_listed(names, flat);
+    flag_listed(names, listed);
     let mut e = 0;
-    while e < gn.len() {
-        let k = number_at(gn, e) as usize;
-        s[base + e] = flag_at(names, k);
+    while e < via.len() {
+        let k = number_at(via, e) as usize;
+        scratch[base + e] = flag_at(names, k);
         e += 1;
     }
 }
 
 // The same, with flags for as many edges as a design has at most.
-fn name_edges(flat: &[u32], gn: &[u32], s: &mut [u32], base: usize)
-    requires { ⌜ base + length (now gn) ≤ length (now s) ⌝ }
-    ensures { λ r. ⌜ Named (now (flat .entry)) (now (gn .entry)) (now (s .entry)) (now (s .exit)) base (length (now (gn .entry))) ⌝ }
+fn name_edges(listed: &[u32], via: &[u32], scratch: &mut [u32], base: usize)
+    requires { ⌜ base + length (now via) ≤ length (now scratch) ⌝ }
+    ensures { λ r.
+        ⌜ Named (now (listed .entry)) (now (via .entry)) (now (scratch .entry))
+        (now (scratch .exit)) base (length (now (via .entry))) ⌝ }
 {
     let mut names = [0u32; 16384];
-    name_with(&mut names, flat, gn, s, base);
+    name_with(&mut names, listed, via, scratch, base);
 }
 
 // Links the edges by their starts, and stores after these tables which of them name a listed edge.
 pub(crate) fn link_named(
-    s: &mut [u32],
+    scratch: &mut [u32],
     first: usize,
     n: usize,
-    gs: &[u32],
-    flat: &[u32],
-    gn: &[u32],
+    from: &[u32],
+    listed: &[u32],
+    via: &[u32],
 )
-    requires { ⌜ Linkable (now s) (now gs) first n × (first + n + length (now gs) + length (now gn) ≤ length (now s)) ⌝ }
-    ensures { λ r. ⌜ LinkedNamed (now (gs .entry)) (now (flat .entry)) (now (gn .entry)) (now (s .entry)) (now (s .exit)) first n ⌝ }
+    requires { ⌜ Linkable (now scratch) (now from) first n
+        × (first + n + length (now from) + length (now via) ≤ length (now scratch)) ⌝ }
+    ensures { λ r.
+        ⌜ LinkedNamed (now (from .entry)) (now (listed .entry)) (now (via .entry))
+        (now (scratch .entry)) (now (scratch .exit)) first n ⌝ }
 {
-    link_edges(s, first, n, gs);
-    name_edges(flat, gn, s, first + n + gs.len());
+    link_edges(scratch, first, n, from);
+    name_edges(listed, via, scratch, first + n + from.len());
 }

@@ -21,7 +21,9 @@ pub(crate) fn number_places(t: &mut [u32], n: usize)
 // All numbers of places, in order by two tables.
 pub(crate) fn arrange(high: &[u32], low: &[u32], places: &mut [u32])
     requires { ⌜ length (now places) ≤ 8192 ⌝ }
-    ensures { λ r. ⌜ InOrder (now (high .entry)) (now (low .entry)) (upto (length (now (places .entry))) 0) (now (places .exit)) ⌝ }
+    ensures { λ r.
+        ⌜ InOrder (now (high .entry)) (now (low .entry))
+        (upto (length (now (places .entry))) 0) (now (places .exit)) ⌝ }
 {
     let n = places.len();
     number_places(places, n);

@@ -33,20 +33,24 @@ struct Finding {
 // Finds the shown slots: the tables, what reaches an end, and of that what a path shows.
 fn search(
     starts: &[u32],
-    flat: &[u32],
+    listed: &[u32],
     lengths: &[u32],
     nodes: &[u32],
-    gs: &[u32],
-    ge: &[u32],
-    gn: &[u32],
-    s: &mut [u32],
+    from: &[u32],
+    to: &[u32],
+    via: &[u32],
+    scratch: &mut [u32],
 ) -> Finding
-    requires { ⌜ WorkableIn (now starts) (now flat) (now lengths) (now nodes) (now gs) (now ge) (now gn) (now s) ⌝ }
-    ensures { λ r. ⌜ Found (now (starts .entry)) (now (flat .entry)) (now (lengths .entry)) (now (nodes .entry)) (now (gs .entry)) (now (ge .entry)) (now (gn .entry)) (now (s .entry)) (now (s .exit)) (r .layout) (r .counts .copies) (r .counts .edges) ⌝ }
+    requires { ⌜ WorkableIn (now starts) (now listed) (now lengths)
+        (now nodes) (now from) (now to) (now via) (now scratch) ⌝ }
+    ensures { λ r.
+        ⌜ Found (now (starts .entry)) (now (listed .entry)) (now (lengths .entry)) (now (nodes .entry))
+        (now (from .entry)) (now (to .entry)) (now (via .entry)) (now (scratch .entry))
+        (now (scratch .exit)) (r .layout) (r .counts .copies) (r .counts .edges) ⌝ }
 {
-    let layout = build(starts, flat, lengths, nodes, gs, ge, gn, s);
-    reach_all(layout, flat, gs, ge, gn, s);
-    let counts = show_all(layout, flat, gs, ge, gn, s);
+    let layout = build(starts, listed, lengths, nodes, from, to, via, scratch);
+    reach_all(layout, listed, from, to, via, scratch);
+    let counts = show_all(layout, listed, from, to, via, scratch);
     Finding { layout, counts }
 }
 
@@ -57,38 +61,63 @@ fn smaller(a: usize, b: usize) -> usize
 }
 
 // 33 and 34, from the counts of the result and the lent lengths.
-fn room_tests(copies: usize, edges: usize, nodes: usize, starts: usize) -> Verdict
-    ensures { λ r. ⌜ r ≡ (passedIf 33 (leb copies (min nodes 16384)) then passedIf 34 (leb edges (min starts 65536))) ⌝ }
+fn room_tests(copies: usize, edges: usize, node_room: usize, edge_room: usize) -> Verdict
+    ensures { λ r.
+        ⌜ r ≡ (passedIf 33 (leb copies (min «node_room» 16384))
+        then passedIf 34 (leb edges (min «edge_room» 65536))) ⌝ }
 {
-    if smaller(nodes, MAX_COPIES) < copies {
+    if smaller(node_room, MAX_COPIES) < copies {
         return unless(33, false);
     }
-    unless(34, edges <= smaller(starts, MAX_COPY_EDGES))
+    unless(34, edges <= smaller(edge_room, MAX_COPY_EDGES))
 }
 
 // 33 and 34, and then the result to the room. The scratch is only read.
 fn write_result(
     l: Layout,
     counts: Counts,
-    flat: &[u32],
+    listed: &[u32],
     nodes: &[u32],
-    gs: &[u32],
-    ge: &[u32],
-    gn: &[u32],
-    s: &[u32],
-    room: &mut [u32],
-    from: &mut [u32],
-    to: &mut [u32],
-    via: &mut [u32],
+    from: &[u32],
+    to: &[u32],
+    via: &[u32],
+    scratch: &[u32],
+    room_nodes: &mut [u32],
+    room_from: &mut [u32],
+    room_to: &mut [u32],
+    room_via: &mut [u32],
 ) -> GraphMade
-    requires { ⌜ AllFound l (now flat) (now nodes) (now gs) (now ge) (now gn) (now s) (counts .copies) (counts .edges) × SameRooms (now from) (now to) (now via) ⌝ }
-    ensures { λ r. ⌜ RoomAnswered l (now (flat .entry)) (now (nodes .entry)) (now (gs .entry)) (now (ge .entry)) (now (gn .entry)) (now (s .entry)) r (now (room .entry)) (now (from .entry)) (now (to .entry)) (now (via .entry)) (now (room .exit)) (now (from .exit)) (now (to .exit)) (now (via .exit)) ⌝ }
+    requires { ⌜ AllFound l (now listed) (now nodes) (now from) (now to)
+        (now via) (now scratch) (counts .copies) (counts .edges)
+        × SameRooms (now «room_from») (now «room_to») (now «room_via») ⌝ }
+    ensures { λ r.
+        ⌜ RoomAnswered l (now (listed .entry)) (now (nodes .entry)) (now (from .entry)) (now (to .entry))
+        (now (via .entry)) (now (scratch .entry)) r (now («room_nodes» .entry)) (now («room_from» .entry))
+        (now («room_to» .entry)) (now («room_via» .entry)) (now («room_nodes» .exit))
+        (now («room_from» .exit)) (now («room_to» .exit)) (now («room_via» .exit)) ⌝ }
 {
-    let verdict = room_tests(counts.copies, counts.edges, room.len(), from.len());
+    let verdict = room_tests(
+        counts.copies,
+        counts.edges,
+        room_nodes.len(),
+        room_from.len(),
+    );
     if let Verdict::Refused(r) = verdict {
         return GraphMade::Refused(r);
     }
-    fill_all(l, flat, nodes, gs, ge, gn, s, room, from, to, via);
+    fill_all(
+        l,
+        listed,
+        nodes,
+        from,
+        to,
+        via,
+        scratch,
+        room_nodes,
+        room_from,
+        room_to,
+        room_via,
+    );
     GraphMade::Counts {
         copies: counts.copies,
         edges: counts.edges,
@@ -99,39 +128,45 @@ fn write_result(
 // zero afterwards.
 pub(crate) fn remove(
     starts: &[u32],
-    flat: &[u32],
+    listed: &[u32],
     lengths: &[u32],
     nodes: &[u32],
-    gs: &[u32],
-    ge: &[u32],
-    gn: &[u32],
-    room: &mut [u32],
-    from: &mut [u32],
-    to: &mut [u32],
-    via: &mut [u32],
-    s: &mut [u32],
+    from: &[u32],
+    to: &[u32],
+    via: &[u32],
+    room_nodes: &mut [u32],
+    room_from: &mut [u32],
+    room_to: &mut [u32],
+    room_via: &mut [u32],
+    scratch: &mut [u32],
 ) -> GraphMade
-    requires { ⌜ Workable (now starts) (now flat) (now lengths) (now nodes) (now gs) (now ge) (now gn) × SameRooms (now from) (now to) (now via) ⌝ }
-    ensures { λ r. ⌜ AllRemoved (now (starts .entry)) (now (flat .entry)) (now (lengths .entry)) (now (nodes .entry)) (now (gs .entry)) (now (ge .entry)) (now (gn .entry)) r (now (room .entry)) (now (from .entry)) (now (to .entry)) (now (via .entry)) (now (s .entry)) (now (room .exit)) (now (from .exit)) (now (to .exit)) (now (via .exit)) (now (s .exit)) ⌝ }
+    requires { ⌜ Workable (now starts) (now listed) (now lengths) (now nodes) (now from) (now to) (now via)
+        × SameRooms (now «room_from») (now «room_to») (now «room_via») ⌝ }
+    ensures { λ r.
+        ⌜ AllRemoved (now (starts .entry)) (now (listed .entry)) (now (lengths .entry)) (now (nodes .entry))
+        (now (from .entry)) (now (to .entry)) (now (via .entry)) r (now («room_nodes» .entry))
+        (now («room_from» .entry)) (now («room_to» .entry)) (now («room_via» .entry)) (now (scratch .entry))
+        (now («room_nodes» .exit)) (now («room_from» .exit)) (now («room_to» .exit))
+        (now («room_via» .exit)) (now (scratch .exit)) ⌝ }
 {
-    let candidates = count_candidates(starts, flat, lengths, nodes);
-    if scratch_fits(s.len(), candidates, flat.len(), gs.len()) {
-        let finding = search(starts, flat, lengths, nodes, gs, ge, gn, s);
+    let candidates = count_candidates(starts, listed, lengths, nodes);
+    if scratch_fits(scratch.len(), candidates, listed.len(), from.len()) {
+        let finding = search(starts, listed, lengths, nodes, from, to, via, scratch);
         let made = write_result(
             finding.layout,
             finding.counts,
-            flat,
+            listed,
             nodes,
-            gs,
-            ge,
-            gn,
-            s,
-            room,
             from,
             to,
             via,
+            scratch,
+            room_nodes,
+            room_from,
+            room_to,
+            room_via,
         );
-        zero(s);
+        zero(scratch);
         return made;
     }
     GraphMade::Refused(refuse(31, 0))

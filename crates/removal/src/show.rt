@@ -20,23 +20,25 @@ pub(crate) struct Counts {
 // The flag of the shown slot at the start of edge e to which slot j at its end leads; or 0.
 pub(crate) fn shown_start(
     l: Layout,
-    flat: &[u32],
-    gs: &[u32],
-    ge: &[u32],
-    gn: &[u32],
-    s: &[u32],
+    listed: &[u32],
+    from: &[u32],
+    to: &[u32],
+    via: &[u32],
+    scratch: &[u32],
     e: usize,
     j: usize,
 ) -> u32
-    requires { ⌜ Ready l (now flat) (now gs) (now ge) (now gn) (now s) ⌝ }
-    requires { ⌜ (e < l .edges) × (j < slots (boundsIn l (take (l .slots) (now s))) (getD (now ge) e 0)) ⌝ }
-    ensures { λ r. ⌜ StartMeets l (now (flat .entry)) (now (gs .entry)) (now (ge .entry)) (now (gn .entry)) (now (s .entry)) e j r ⌝ }
+    requires { ⌜ Ready l (now listed) (now from) (now to) (now via) (now scratch) ⌝ }
+    requires { ⌜ (e < l .edges) × (j < slots (boundsIn l (take (l .slots) (now scratch))) (getD (now to) e 0)) ⌝ }
+    ensures { λ r.
+        ⌜ StartMeets l (now (listed .entry)) (now (from .entry))
+        (now (to .entry)) (now (via .entry)) (now (scratch .entry)) e j r ⌝ }
 {
-    let step = step_along(l, flat, gs, ge, gn, s, e, j);
+    let step = step_along(l, listed, from, to, via, scratch, e, j);
     match step {
         Step::Live(r) => {
-            let at = slot_place(l, s, gs[e] as usize, r);
-            let v = s[at];
+            let at = slot_place(l, scratch, from[e] as usize, r);
+            let v = scratch[at];
             if 2 <= v { v } else { 0 }
         }
         Step::Dead => 0,
@@ -46,29 +48,31 @@ pub(crate) fn shown_start(
 // How many edges into copy c come from shown slots to slot j.
 fn shown_edges(
     l: Layout,
-    flat: &[u32],
-    gs: &[u32],
-    ge: &[u32],
-    gn: &[u32],
-    s: &[u32],
+    listed: &[u32],
+    from: &[u32],
+    to: &[u32],
+    via: &[u32],
+    scratch: &[u32],
     c: usize,
     j: usize,
 ) -> usize
-    requires { ⌜ Ready l (now flat) (now gs) (now ge) (now gn) (now s) ⌝ }
-    requires { ⌜ (c < l .copies) × (j < slots (boundsIn l (take (l .slots) (now s))) c) ⌝ }
-    ensures { λ r. ⌜ EdgesMeet l (now (flat .entry)) (now (gs .entry)) (now (ge .entry)) (now (gn .entry)) (now (s .entry)) c j r ⌝ }
+    requires { ⌜ Ready l (now listed) (now from) (now to) (now via) (now scratch) ⌝ }
+    requires { ⌜ (c < l .copies) × (j < slots (boundsIn l (take (l .slots) (now scratch))) c) ⌝ }
+    ensures { λ r.
+        ⌜ EdgesMeet l (now (listed .entry)) (now (from .entry))
+        (now (to .entry)) (now (via .entry)) (now (scratch .entry)) c j r ⌝ }
 {
     let first = l.into + c;
     let next = l.into + l.copies;
     let mut count = 0;
-    let mut h = s[first] as usize;
+    let mut h = scratch[first] as usize;
     while h != 0 {
         let e = h - 1;
-        if shown_start(l, flat, gs, ge, gn, s, e, j) != 0 {
+        if shown_start(l, listed, from, to, via, scratch, e, j) != 0 {
             count += 1;
         }
         let at = next + e;
-        h = s[at] as usize;
+        h = scratch[at] as usize;
     }
     count
 }
@@ -76,31 +80,33 @@ fn shown_edges(
 // Shows slot j of copy c if it is reached and paths start at c or come to it from shown slots.
 fn show_slot(
     l: Layout,
-    flat: &[u32],
-    gs: &[u32],
-    ge: &[u32],
-    gn: &[u32],
-    s: &mut [u32],
+    listed: &[u32],
+    from: &[u32],
+    to: &[u32],
+    via: &[u32],
+    scratch: &mut [u32],
     c: usize,
     j: usize,
     counts: Counts,
 ) -> Counts
-    requires { ⌜ Ready l (now flat) (now gs) (now ge) (now gn) (now s) ⌝ }
-    requires { ⌜ SlotRoom l (now s) c j (counts .copies) (counts .edges) ⌝ }
-    ensures { λ r. ⌜ SlotShown l (now (flat .entry)) (now (gs .entry)) (now (ge .entry)) (now (gn .entry)) (now (s .entry)) (now (s .exit)) c j (counts .copies) (counts .edges) (r .copies) (r .edges) ⌝ }
+    requires { ⌜ Ready l (now listed) (now from) (now to) (now via) (now scratch) ⌝ }
+    requires { ⌜ SlotRoom l (now scratch) c j (counts .copies) (counts .edges) ⌝ }
+    ensures { λ r.
+        ⌜ SlotShown l (now (listed .entry)) (now (from .entry)) (now (to .entry)) (now (via .entry))
+        (now (scratch .entry)) (now (scratch .exit)) c j (counts .copies) (counts .edges) (r .copies) (r .edges) ⌝ }
 {
-    let at = slot_place(l, s, c, j);
-    if s[at] == 0 {
+    let at = slot_place(l, scratch, c, j);
+    if scratch[at] == 0 {
         return counts;
     }
-    let edges = shown_edges(l, flat, gs, ge, gn, s, c, j);
+    let edges = shown_edges(l, listed, from, to, via, scratch, c, j);
     let first = l.into + c;
     if edges == 0 {
-        if s[first] != 0 {
+        if scratch[first] != 0 {
             return counts;
         }
     }
-    s[at] = (counts.copies + 2) as u32;
+    scratch[at] = (counts.copies + 2) as u32;
     Counts {
         copies: counts.copies + 1,
         edges: counts.edges + edges,
@@ -110,23 +116,28 @@ fn show_slot(
 // Shows the slots of copy c; those of the lower copies are done.
 fn show_copy(
     l: Layout,
-    flat: &[u32],
-    gs: &[u32],
-    ge: &[u32],
-    gn: &[u32],
-    s: &mut [u32],
+    listed: &[u32],
+    from: &[u32],
+    to: &[u32],
+    via: &[u32],
+    scratch: &mut [u32],
     c: usize,
     counts: Counts,
 ) -> Counts
-    requires { ⌜ Ready l (now flat) (now gs) (now ge) (now gn) (now s) ⌝ }
-    requires { ⌜ (c < l .copies) × (counts .copies ≤ slotBase (boundsIn l (take (l .slots) (now s))) c) × (counts .edges ≤ counts .copies * 65536) ⌝ }
-    ensures { λ r. ⌜ PassedTo l (now (flat .entry)) (now (gs .entry)) (now (ge .entry)) (now (gn .entry)) (now (s .entry)) (now (s .exit)) c (counts .copies) (counts .edges) (c + 1) 0 (r .copies) (r .edges) ⌝ }
+    requires { ⌜ Ready l (now listed) (now from) (now to) (now via) (now scratch) ⌝ }
+    requires { ⌜ (c < l .copies)
+        × (counts .copies ≤ slotBase (boundsIn l (take (l .slots) (now scratch))) c)
+        × (counts .edges ≤ counts .copies * 65536) ⌝ }
+    ensures { λ r.
+        ⌜ PassedTo l (now (listed .entry)) (now (from .entry)) (now (to .entry))
+        (now (via .entry)) (now (scratch .entry)) (now (scratch .exit)) c
+        (counts .copies) (counts .edges) (c + 1) 0 (r .copies) (r .edges) ⌝ }
 {
-    let count = slot_count(l, s, c);
+    let count = slot_count(l, scratch, c);
     let mut so_far = counts;
     let mut j = 0;
     while j < count {
-        so_far = show_slot(l, flat, gs, ge, gn, s, c, j, so_far);
+        so_far = show_slot(l, listed, from, to, via, scratch, c, j, so_far);
         j += 1;
     }
     so_far
@@ -135,14 +146,16 @@ fn show_copy(
 // Shows the slots of all copies, and numbers them: the flag of a shown slot is 2 and its number.
 pub(crate) fn show_all(
     l: Layout,
-    flat: &[u32],
-    gs: &[u32],
-    ge: &[u32],
-    gn: &[u32],
-    s: &mut [u32],
+    listed: &[u32],
+    from: &[u32],
+    to: &[u32],
+    via: &[u32],
+    scratch: &mut [u32],
 ) -> Counts
-    requires { ⌜ Ready l (now flat) (now gs) (now ge) (now gn) (now s) ⌝ }
-    ensures { λ r. ⌜ AllShown l (now (flat .entry)) (now (gs .entry)) (now (ge .entry)) (now (gn .entry)) (now (s .entry)) (now (s .exit)) (r .copies) (r .edges) ⌝ }
+    requires { ⌜ Ready l (now listed) (now from) (now to) (now via) (now scratch) ⌝ }
+    ensures { λ r.
+        ⌜ AllShown l (now (listed .entry)) (now (from .entry)) (now (to .entry))
+        (now (via .entry)) (now (scratch .entry)) (now (scratch .exit)) (r .copies) (r .edges) ⌝ }
 {
     let mut counts = Counts {
         copies: 0,
@@ -150,7 +163,7 @@ pub(crate) fn show_all(
     };
     let mut c = 0;
     while c < l.copies {
-        counts = show_copy(l, flat, gs, ge, gn, s, c, counts);
+        counts = show_copy(l, listed, from, to, via, scratch, c, counts);
         c += 1;
     }
     counts

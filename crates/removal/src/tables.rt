@@ -15,20 +15,26 @@ use crate::listed::store;
 use crate::ranks::rank_tails;
 
 // The ranks, by the rest table in the scratch.
-fn rank_listed(flat: &[u32], s: &[u32], rest: usize, places: &mut [u32], ranks: &mut [u32])
-    requires { ⌜ (rest + length (now flat) ≤ length (now s)) × Rankable (now flat) (table (now s) rest (length (now flat))) (length (now places)) (length (now ranks)) ⌝ }
-    ensures { λ r. ⌜ Ranked (now (flat .entry)) (table (now (s .entry)) rest (length (now (flat .entry)))) (now (ranks .exit)) × Levels (table (now (s .entry)) rest (length (now (flat .entry)))) (now (places .exit)) (length (now (flat .entry))) (length (now (flat .entry))) ⌝ }
+fn rank_listed(listed: &[u32], scratch: &[u32], rest: usize, places: &mut [u32], ranks: &mut [u32])
+    requires { let n = length (now listed) in
+        ⌜ (rest + n ≤ length (now scratch))
+        × Rankable (now listed) (table (now scratch) rest n) (length (now places)) (length (now ranks)) ⌝ }
+    ensures { λ r.
+        let n = length (now (listed .entry)) in
+        let rests = table (now (scratch .entry)) rest n in
+        ⌜ Ranked (now (listed .entry)) rests (now (ranks .exit))
+        × Levels rests (now (places .exit)) n n ⌝ }
 {
-    let end = rest + flat.len();
-    rank_tails(flat, &s[rest..end], places, ranks);
+    let end = rest + listed.len();
+    rank_tails(listed, &scratch[rest..end], places, ranks);
 }
 
 // These tables, with a word for each position in three more slices to work in.
 fn fill_with(
     starts: &[u32],
-    flat: &[u32],
+    listed: &[u32],
     lengths: &[u32],
-    s: &mut [u32],
+    scratch: &mut [u32],
     rest: usize,
     order: usize,
     rank: usize,
@@ -38,19 +44,26 @@ fn fill_with(
     codes: &mut [u32],
     firsts: &mut [u32],
 )
-    requires { ⌜ Orderable (now starts) (now flat) (now lengths) (now s) rest order rank link ⌝ }
-    requires { ⌜ (length (now places) ≡ length (now flat)) × (length (now ranks) ≡ length (now flat)) × (length (now codes) ≡ length (now flat)) × (length (now firsts) ≡ 8193) ⌝ }
-    ensures { λ r. ⌜ Tabulated (now (starts .entry)) (now (flat .entry)) (now (s .entry)) (now (s .exit)) rest order rank link × Firsts (now (starts .entry)) (pathList (now (flat .entry)) (now (lengths .entry))) (table (now (s .exit)) order (length (now (flat .entry)))) (now (firsts .exit)) ⌝ }
+    requires { ⌜ Orderable (now starts) (now listed) (now lengths) (now scratch) rest order rank link ⌝ }
+    requires { ⌜ (length (now places) ≡ length (now listed))
+        × (length (now ranks) ≡ length (now listed))
+        × (length (now codes) ≡ length (now listed))
+        × (length (now firsts) ≡ 8193) ⌝ }
+    ensures { λ r.
+        ⌜ Tabulated (now (starts .entry)) (now (listed .entry))
+        (now (scratch .entry)) (now (scratch .exit)) rest order rank link
+        × Firsts (now (starts .entry)) (pathList (now (listed .entry)) (now (lengths .entry)))
+        (table (now (scratch .exit)) order (length (now (listed .entry)))) (now (firsts .exit)) ⌝ }
 {
-    rank_listed(flat, s, rest, places, ranks);
-    order_positions(starts, flat, s, rest, order, codes, ranks);
-    store(s, rank, ranks);
-    fill_firsts(s, order, codes, firsts);
+    rank_listed(listed, scratch, rest, places, ranks);
+    order_positions(starts, listed, scratch, rest, order, codes, ranks);
+    store(scratch, rank, ranks);
+    fill_firsts(scratch, order, codes, firsts);
     fill_links(
         starts,
-        flat,
+        listed,
         lengths,
-        s,
+        scratch,
         rest,
         order,
         rank,
@@ -63,27 +76,32 @@ fn fill_with(
 // These tables.
 pub(crate) fn fill_tables(
     starts: &[u32],
-    flat: &[u32],
+    listed: &[u32],
     lengths: &[u32],
-    s: &mut [u32],
+    scratch: &mut [u32],
     rest: usize,
     order: usize,
     rank: usize,
     link: usize,
     firsts: &mut [u32],
 )
-    requires { ⌜ Orderable (now starts) (now flat) (now lengths) (now s) rest order rank link × (length (now firsts) ≡ 8193) ⌝ }
-    ensures { λ r. ⌜ Tabulated (now (starts .entry)) (now (flat .entry)) (now (s .entry)) (now (s .exit)) rest order rank link × Firsts (now (starts .entry)) (pathList (now (flat .entry)) (now (lengths .entry))) (table (now (s .exit)) order (length (now (flat .entry)))) (now (firsts .exit)) ⌝ }
+    requires { ⌜ Orderable (now starts) (now listed) (now lengths) (now scratch) rest order rank link
+        × (length (now firsts) ≡ 8193) ⌝ }
+    ensures { λ r.
+        ⌜ Tabulated (now (starts .entry)) (now (listed .entry))
+        (now (scratch .entry)) (now (scratch .exit)) rest order rank link
+        × Firsts (now (starts .entry)) (pathList (now (listed .entry)) (now (lengths .entry)))
+        (table (now (scratch .exit)) order (length (now (listed .entry)))) (now (firsts .exit)) ⌝ }
 {
-    let n = flat.len();
+    let n = listed.len();
     let mut places = [0u32; 8192];
     let mut ranks = [0u32; 8192];
     let mut codes = [0u32; 8192];
     fill_with(
         starts,
-        flat,
+        listed,
         lengths,
-        s,
+        scratch,
         rest,
         order,
         rank,

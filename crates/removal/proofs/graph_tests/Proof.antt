@@ -30,8 +30,8 @@ returns c =
     let a = c .before .before .before .before .before .before .before .before .before .before .before .before .args in
     let D = design (a .n) (a .starts .now) (a .ends .now) (a .delays .now) in
     let L = pathList (a .listed .now) (a .lengths .now) in
-    let G = graphOf (graphSlices (a .copies .now) (a .gs .now) (a .ge .now) (a .gn .now)) in
-    let g : Verdict = sameSizes (length (a .gs .now)) (length (a .ge .now)) (length (a .gn .now)) in
+    let G = graphOf (graphSlices (a .nodes .now) (a .from .now) (a .to .now) (a .via .now)) in
+    let g : Verdict = sameSizes (length (a .from .now)) (length (a .to .now)) (length (a .via .now)) in
     c .and-graph-test .ensures
     ∙ ap (λ (v : Verdict). v then (nodeCount (a .n) then graphTest (design (a .n) (a .starts .now) (a .ends .now) []) G))
     (c .before .list-tests .ensures

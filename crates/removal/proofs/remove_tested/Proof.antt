@@ -39,7 +39,7 @@ remove-requires c κs =
     let st = c .before .before .before .before .before .before .before .before .before .before .before .before .before .before .before .before .before .before .before .before .before .before in
     let a = st .args in (
       subst₂ (λ (x y : List ℕ). Workable (a .starts .now) (a .listed .now) (a .lengths .now) x (a .starts .now) (a .ends .now) y) (sym (c .before .before .before .before .before .before .before .before .before .before .before .number-places .ensures)) (sym (c .before .before .before .before .before .before .before .before .number-places2 .ensures))
-          (numbered-workable (a .starts .now) (a .ends .now) (a .listed .now) (a .lengths .now) (a .n) (length (a .starts .now)) refl (a .from .now) (a .to .now) (a .via .now) (st .pre)),
+          (numbered-workable (a .starts .now) (a .ends .now) (a .listed .now) (a .lengths .now) (a .n) (length (a .starts .now)) refl (a .room-from .now) (a .room-to .now) (a .room-via .now) (st .pre)),
       st .pre .same,
     )
 
@@ -62,8 +62,8 @@ returns : tie.Need-returns
 returns c =
     let r = c .before .before .before .before .before .before .before .before .before .before in
     let a = c .before .before .before .before .before .before .before .before .before .before .before .before .before .before .before .before .before .before .before .before .before .before .before .before .before .before .before .before .before .before .before .before .before .args in
-    numbered-removed (a .starts .now) (a .ends .now) (a .listed .now) (a .lengths .now) (a .n) (length (a .starts .now)) refl (r .remove .result) (a .nodes .now) (a .from .now) (a .to .now) (a .via .now) (a .scratch .now) (r .remove .last .1 .1 .1 .1 .1 .1 .1 .0) (r .remove .last .1 .1 .1 .1 .1 .1 .1 .1 .0) (r .remove .last .1 .1 .1 .1 .1 .1 .1 .1 .1 .0) (r .remove .last .1 .1 .1 .1 .1 .1 .1 .1 .1 .1 .0) (r .remove .last .1 .1 .1 .1 .1 .1 .1 .1 .1 .1 .1 .0)
-    (subst₂ (λ (x y : List ℕ). AllRemoved (a .starts .now) (a .listed .now) (a .lengths .now) x (a .starts .now) (a .ends .now) y (r .remove .result) (a .nodes .now) (a .from .now) (a .to .now) (a .via .now) (a .scratch .now) (r .remove .last .1 .1 .1 .1 .1 .1 .1 .0) (r .remove .last .1 .1 .1 .1 .1 .1 .1 .1 .0) (r .remove .last .1 .1 .1 .1 .1 .1 .1 .1 .1 .0) (r .remove .last .1 .1 .1 .1 .1 .1 .1 .1 .1 .1 .0) (r .remove .last .1 .1 .1 .1 .1 .1 .1 .1 .1 .1 .1 .0)) (c .before .before .before .before .before .before .before .before .before .before .before .before .before .before .before .before .before .before .before .before .before .before .number-places .ensures) (c .before .before .before .before .before .before .before .before .before .before .before .before .before .before .before .before .before .before .before .number-places2 .ensures) (r .remove .ensures))
+    numbered-removed (a .starts .now) (a .ends .now) (a .listed .now) (a .lengths .now) (a .n) (length (a .starts .now)) refl (r .remove .result) (a .room-nodes .now) (a .room-from .now) (a .room-to .now) (a .room-via .now) (a .scratch .now) (r .remove .last .1 .1 .1 .1 .1 .1 .1 .0) (r .remove .last .1 .1 .1 .1 .1 .1 .1 .1 .0) (r .remove .last .1 .1 .1 .1 .1 .1 .1 .1 .1 .0) (r .remove .last .1 .1 .1 .1 .1 .1 .1 .1 .1 .1 .0) (r .remove .last .1 .1 .1 .1 .1 .1 .1 .1 .1 .1 .1 .0)
+    (subst₂ (λ (x y : List ℕ). AllRemoved (a .starts .now) (a .listed .now) (a .lengths .now) x (a .starts .now) (a .ends .now) y (r .remove .result) (a .room-nodes .now) (a .room-from .now) (a .room-to .now) (a .room-via .now) (a .scratch .now) (r .remove .last .1 .1 .1 .1 .1 .1 .1 .0) (r .remove .last .1 .1 .1 .1 .1 .1 .1 .1 .0) (r .remove .last .1 .1 .1 .1 .1 .1 .1 .1 .1 .0) (r .remove .last .1 .1 .1 .1 .1 .1 .1 .1 .1 .1 .0) (r .remove .last .1 .1 .1 .1 .1 .1 .1 .1 .1 .1 .1 .0)) (c .before .before .before .before .before .before .before .before .before .before .before .before .before .before .before .before .before .before .before .before .before .before .number-places .ensures) (c .before .before .before .before .before .before .before .before .before .before .before .before .before .before .before .before .before .before .before .number-places2 .ensures) (r .remove .ensures))
 
 pub remove-tested-spec : {M : Type 1} → statement M
 remove-tested-spec =

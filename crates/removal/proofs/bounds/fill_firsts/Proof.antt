@@ -20,16 +20,16 @@ abbrev μ-loop : tie.MeasureT-loop
 
 -- the code read for place t, which is below 8,192
 module _ (c : tie.After-number-at2 Inv-loop μ-loop) where
-  code-is : c .number-at2 .result ≡ codeIn (c .before .before .before .before .before .before .before .args .codes .now) (table (c .before .before .before .before .before .before .before .args .s .now) (c .before .before .before .before .before .before .before .args .order) (length (c .before .before .before .before .before .before .before .args .codes .now))) (c .before .before .before .loop .t)
+  code-is : c .number-at2 .result ≡ codeIn (c .before .before .before .before .before .before .before .args .codes .now) (table (c .before .before .before .before .before .before .before .args .scratch .now) (c .before .before .before .before .before .before .before .args .order) (length (c .before .before .before .before .before .before .before .args .codes .now))) (c .before .before .before .loop .t)
   code-is =
       let a = c .before .before .before .before .before .before .before .args in
-      c .number-at2 .ensures ∙ ap (λ (p : ℕ). getD (a .codes .now) p 0) (c .before .number-at .ensures ∙ sym (table-at (a .s .now) (a .order) (length (a .codes .now)) (c .before .before .before .loop .t) (c .before .before .loop-test .taken)))
+      c .number-at2 .ensures ∙ ap (λ (p : ℕ). getD (a .codes .now) p 0) (c .before .number-at .ensures ∙ sym (table-at (a .scratch .now) (a .order) (length (a .codes .now)) (c .before .before .before .loop .t) (c .before .before .loop-test .taken)))
 
   code-small : c .number-at2 .result < 8192
   code-small = omega (arith, code-is, c .before .before .before .before .before .before .before .pre .3 .small (c .before .before .before .loop .t) (c .before .before .loop-test .taken))
 
 loop-holds : tie.Need-loop-holds Inv-loop μ-loop
-loop-holds c = let p = c .before .before .before in (omega arith, omega arith, firsts-start (codeIn (p .args .codes .now) (table (p .args .s .now) (p .args .order) (length (p .args .codes .now)))) (length (p .args .codes .now)) (p .args .firsts .now) (p .pre .2))
+loop-holds c = let p = c .before .before .before in (omega arith, omega arith, firsts-start (codeIn (p .args .codes .now) (table (p .args .scratch .now) (p .args .order) (length (p .args .codes .now)))) (length (p .args .codes .now)) (p .args .firsts .now) (p .pre .2))
 
 add-number-at : tie.Need-add-number-at Inv-loop μ-loop
 add-number-at c = omega (arith, c .loop-test .taken, c .before .before .before .before .before .pre .0)
@@ -72,7 +72,7 @@ loop-again c =
         | yes m ↦ omega (arith, f .ensures .next m, code-small w)
         | no m ↦ omega (arith, l .inv .1)
       ],
-      firsts-next (codeIn (p .args .codes .now) (table (p .args .s .now) (p .args .order) (length (p .args .codes .now)))) (length (p .args .codes .now)) (l .firsts) (f .last .0) (l .t) (l .key) (w .number-at2 .result) (f .result) (p .pre .3) (w .before .before .loop-test .taken) (code-is w) (l .inv .2) (f .ensures),
+      firsts-next (codeIn (p .args .codes .now) (table (p .args .scratch .now) (p .args .order) (length (p .args .codes .now)))) (length (p .args .codes .now)) (l .firsts) (f .last .0) (l .t) (l .key) (w .number-at2 .result) (f .result) (p .pre .3) (w .before .before .loop-test .taken) (code-is w) (l .inv .2) (f .ensures),
     )
 
 cast-fill-to-2 : tie.Need-cast-fill-to-2 Inv-loop μ-loop
@@ -89,7 +89,7 @@ returns c =
     let f = c .before .before .fill-to2 in
     let l = c .before .before .before .before .before .loop in
     let p = c .before .before .before .before .before .before .before .before .before in
-    firsts-done (codeIn (p .args .codes .now) (table (p .args .s .now) (p .args .order) (length (p .args .codes .now)))) (length (p .args .codes .now)) (l .firsts) (f .last .0) (l .t) (l .key) (f .result) (omega (arith, c .before .before .before .before .loop-test .left)) (l .inv .2) (f .ensures)
+    firsts-done (codeIn (p .args .codes .now) (table (p .args .scratch .now) (p .args .order) (length (p .args .codes .now)))) (length (p .args .codes .now)) (l .firsts) (f .last .0) (l .t) (l .key) (f .result) (omega (arith, c .before .before .before .before .loop-test .left)) (l .inv .2) (f .ensures)
 
 pub fill-firsts-spec : {M : Type 1} → statement M
 fill-firsts-spec =

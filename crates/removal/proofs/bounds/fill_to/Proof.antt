@@ -8,13 +8,13 @@ use Rattle.removal.proofs.bounds.fill_to.Statement.{statement}
 use Rattle.removal.proofs.bounds.fill_to.Tie as tie
 
 abbrev Inv-loop : tie.InvT-loop
-Inv-loop firsts₀ from to v k₀ firsts k = (from < k → k ≤ to) × FilledTo firsts₀ firsts from k v k
+Inv-loop firsts₀ first end v k₀ firsts k = (first < k → k ≤ end) × FilledTo firsts₀ firsts first k v k
 
 abbrev μ-loop : tie.MeasureT-loop
-μ-loop firsts₀ from to v k₀ firsts k = to - k
+μ-loop firsts₀ first end v k₀ firsts k = end - k
 
 loop-holds : tie.Need-loop-holds Inv-loop μ-loop
-loop-holds c = ((λ h. absurd (omega arith)), filled-start (c .args .firsts .now) (c .args .from) (c .args .v))
+loop-holds c = ((λ h. absurd (omega arith)), filled-start (c .args .firsts .now) (c .args .first) (c .args .v))
 
 mul-firsts : tie.Need-mul-firsts Inv-loop μ-loop
 mul-firsts c =
@@ -45,7 +45,7 @@ loop-again c =
     let l = c .before .loop in
     let p = c .before .before in
     let h : l .k < length (p .args .firsts .now) = omega (arith, c .loop-test .taken, p .pre) in
-    ((λ m. omega (arith, c .loop-test .taken)), filled-more (p .args .firsts .now) (l .firsts) (p .args .from) (p .args .v) (l .k) h (l .inv .1))
+    ((λ m. omega (arith, c .loop-test .taken)), filled-more (p .args .firsts .now) (l .firsts) (p .args .first) (p .args .v) (l .k) h (l .inv .1))
 
 same-length : tie.Need-same-length Inv-loop μ-loop
 same-length c = c .before .loop .inv .1 .size
@@ -54,7 +54,7 @@ returns : tie.Need-returns Inv-loop μ-loop
 returns c =
     let l = c .before .loop in
     let p = c .before .before in
-    filled-end (p .args .firsts .now) (l .firsts) (p .args .from) (p .args .to) (p .args .v) (l .k) (c .loop-test .left) (l .inv .0) (l .inv .1)
+    filled-end (p .args .firsts .now) (l .firsts) (p .args .first) (p .args .end) (p .args .v) (l .k) (c .loop-test .left) (l .inv .0) (l .inv .1)
 
 pub fill-to-spec : {M : Type 1} → statement M
 fill-to-spec =

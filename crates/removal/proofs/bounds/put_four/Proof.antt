@@ -17,41 +17,41 @@ add-third c = search needs
 add-fourth : tie.Need-add-fourth
 add-fourth c = search needs
 
-add-s : tie.Need-add-s
-add-s c = search needs
+add-scratch : tie.Need-add-scratch
+add-scratch c = search needs
 
-mul-s : tie.Need-mul-s
-mul-s c = search needs
+mul-scratch : tie.Need-mul-scratch
+mul-scratch c = search needs
 
-slice-write-s : tie.Need-slice-write-s
-slice-write-s c = search needs
+slice-write-scratch : tie.Need-slice-write-scratch
+slice-write-scratch c = search needs
 
-add-s-2 : tie.Need-add-s-2
-add-s-2 c = search needs
+add-scratch-2 : tie.Need-add-scratch-2
+add-scratch-2 c = search needs
 
-mul-s-2 : tie.Need-mul-s-2
-mul-s-2 c = search needs
+mul-scratch-2 : tie.Need-mul-scratch-2
+mul-scratch-2 c = search needs
 
-slice-write-s-2 : tie.Need-slice-write-s-2
-slice-write-s-2 c = simp length-set (omega arith)
+slice-write-scratch-2 : tie.Need-slice-write-scratch-2
+slice-write-scratch-2 c = simp length-set (omega arith)
 
-add-s-3 : tie.Need-add-s-3
-add-s-3 c = search needs
+add-scratch-3 : tie.Need-add-scratch-3
+add-scratch-3 c = search needs
 
-mul-s-3 : tie.Need-mul-s-3
-mul-s-3 c = search needs
+mul-scratch-3 : tie.Need-mul-scratch-3
+mul-scratch-3 c = search needs
 
-slice-write-s-3 : tie.Need-slice-write-s-3
-slice-write-s-3 c = simp length-set (omega arith)
+slice-write-scratch-3 : tie.Need-slice-write-scratch-3
+slice-write-scratch-3 c = simp length-set (omega arith)
 
-add-s-4 : tie.Need-add-s-4
-add-s-4 c = search needs
+add-scratch-4 : tie.Need-add-scratch-4
+add-scratch-4 c = search needs
 
-mul-s-4 : tie.Need-mul-s-4
-mul-s-4 c = search needs
+mul-scratch-4 : tie.Need-mul-scratch-4
+mul-scratch-4 c = search needs
 
-slice-write-s-4 : tie.Need-slice-write-s-4
-slice-write-s-4 c = simp length-set (omega arith)
+slice-write-scratch-4 : tie.Need-slice-write-scratch-4
+slice-write-scratch-4 c = simp length-set (omega arith)
 
 same-length : tie.Need-same-length
 same-length c = simp length-set
@@ -67,17 +67,17 @@ put-four-spec =
     add-second
     add-third
     add-fourth
-    add-s
-    mul-s
-    slice-write-s
-    add-s-2
-    mul-s-2
-    slice-write-s-2
-    add-s-3
-    mul-s-3
-    slice-write-s-3
-    add-s-4
-    mul-s-4
-    slice-write-s-4
+    add-scratch
+    mul-scratch
+    slice-write-scratch
+    add-scratch-2
+    mul-scratch-2
+    slice-write-scratch-2
+    add-scratch-3
+    mul-scratch-3
+    slice-write-scratch-3
+    add-scratch-4
+    mul-scratch-4
+    slice-write-scratch-4
     same-length
     returns)

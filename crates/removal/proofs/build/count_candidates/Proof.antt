@@ -25,7 +25,7 @@ returns c =
     let st = i .before .before .before .before .before .before in
     let a = st .args in (
       c .count-copies .ensures .0
-          ∙ shares-candidates (a .starts .now) (a .flat .now) (a .lengths .now) (a .nodes .now) (i .count-inner .last .1 .1 .1 .0) (st .pre .1) (i .count-inner .ensures),
+          ∙ shares-candidates (a .starts .now) (a .listed .now) (a .lengths .now) (a .nodes .now) (i .count-inner .last .1 .1 .1 .0) (st .pre .1) (i .count-inner .ensures),
       c .count-copies .ensures .1,
     )
 

@@ -9,27 +9,27 @@ use Rattle.removal.proofs.build.count_inner.Statement.{statement}
 use Rattle.removal.proofs.build.count_inner.Tie as tie
 
 abbrev Inv-loop : tie.InvT-loop
-Inv-loop starts flat lengths counts₀ at₀ k₀ counts at k = TallyAt starts flat lengths counts at k
+Inv-loop starts listed lengths counts₀ at₀ k₀ counts at k = TallyAt starts listed lengths counts at k
 
 abbrev μ-loop : tie.MeasureT-loop
-μ-loop starts flat lengths counts₀ at₀ k₀ counts at k = length lengths - k
+μ-loop starts listed lengths counts₀ at₀ k₀ counts at k = length lengths - k
 
 -- the path of a turn lies in the flat list
 inside : (i : tie.In-loop Inv-loop μ-loop) →
     let l = i .before in
     let a = l .before .before .before .before .before .args in
-    l .loop .at + getD (a .lengths .now) (l .loop .k) 0 ≤ length (a .flat .now)
+    l .loop .at + getD (a .lengths .now) (l .loop .k) 0 ≤ length (a .listed .now)
 inside i =
     let l = i .before in
     let st = l .before .before .before .before .before in
     let a = st .args in
-    path-inside (a .starts .now) (a .flat .now) (a .lengths .now) (l .loop .counts) (l .loop .at) (l .loop .k) (st .pre .0) (l .loop .inv) (i .loop-test .taken)
+    path-inside (a .starts .now) (a .listed .now) (a .lengths .now) (l .loop .counts) (l .loop .at) (l .loop .k) (st .pre .0) (l .loop .inv) (i .loop-test .taken)
 
 loop-holds : tie.Need-loop-holds Inv-loop μ-loop
 loop-holds c =
     let st = c .before .before .before .before in
     let a = st .args in
-    tally-start (a .starts .now) (a .flat .now) (a .lengths .now) (a .counts .now) (st .pre .1) (st .pre .2)
+    tally-start (a .starts .now) (a .listed .now) (a .lengths .now) (a .counts .now) (st .pre .1) (st .pre .2)
 
 mul-end : tie.Need-mul-end Inv-loop μ-loop
 mul-end c = omega arith
@@ -52,7 +52,7 @@ count-path-requires c κs =
     let l = i .before in
     let st = l .before .before .before .before .before in
     let a = st .args in
-    path-counting (a .starts .now) (a .flat .now) (a .lengths .now) (l .loop .counts) (l .loop .at) (l .loop .k) (st .pre .0) (l .loop .inv) (i .loop-test .taken)
+    path-counting (a .starts .now) (a .listed .now) (a .lengths .now) (l .loop .counts) (l .loop .at) (l .loop .k) (st .pre .0) (l .loop .inv) (i .loop-test .taken)
 
 add-k : tie.Need-add-k Inv-loop μ-loop
 add-k c = omega arith
@@ -67,7 +67,7 @@ loop-again c =
     let st = l .before .before .before .before .before in
     let a = st .args in
     let w = c .before .before .count-path in
-    rw (add-one (l .loop .k)) (tally-turn (a .starts .now) (a .flat .now) (a .lengths .now) (l .loop .counts) (l .loop .at) (l .loop .k) (st .pre .0) (l .loop .inv) (i .loop-test .taken) (w .last .1 .1 .1 .1 .0) (w .ensures))
+    rw (add-one (l .loop .k)) (tally-turn (a .starts .now) (a .listed .now) (a .lengths .now) (l .loop .counts) (l .loop .at) (l .loop .k) (st .pre .0) (l .loop .inv) (i .loop-test .taken) (w .last .1 .1 .1 .1 .0) (w .ensures))
 
 same-length : tie.Need-same-length Inv-loop μ-loop
 same-length c =
@@ -79,7 +79,7 @@ returns c =
     let l = c .before in
     let st = l .before .before .before .before .before in
     let a = st .args in
-    tally-done (a .starts .now) (a .flat .now) (a .lengths .now) (l .loop .counts) (l .loop .at) (l .loop .k) (st .pre .0) (l .loop .inv) (c .loop-test .left)
+    tally-done (a .starts .now) (a .listed .now) (a .lengths .now) (l .loop .counts) (l .loop .at) (l .loop .k) (st .pre .0) (l .loop .inv) (c .loop-test .left)
 
 pub count-inner-spec : {M : Type 1} → statement M
 count-inner-spec =

@@ -10,16 +10,16 @@ use Rattle.removal.proofs.build.count_path.Statement.{statement}
 use Rattle.removal.proofs.build.count_path.Tie as tie
 
 abbrev Inv-loop : tie.InvT-loop
-Inv-loop starts flat from to counts₀ i₀ counts i = CountingAt starts flat counts₀ counts from to i
+Inv-loop starts listed first end counts₀ i₀ counts i = CountingAt starts listed counts₀ counts first end i
 
 abbrev μ-loop : tie.MeasureT-loop
-μ-loop starts flat from to counts₀ i₀ counts i = to - i
+μ-loop starts listed first end counts₀ i₀ counts i = end - i
 
 loop-holds : tie.Need-loop-holds Inv-loop μ-loop
 loop-holds c =
     let st = c .before .before .before in
     let a = st .args in
-    counting-start (a .starts .now) (a .flat .now) (a .counts .now) (a .from) (a .to) (st .pre)
+    counting-start (a .starts .now) (a .listed .now) (a .counts .now) (a .first) (a .end) (st .pre)
 
 start-at-requires : tie.Need-start-at-requires Inv-loop μ-loop
 start-at-requires c κs = search needs
@@ -27,7 +27,7 @@ start-at-requires c κs = search needs
 cast-v : tie.Need-cast-v Inv-loop μ-loop
 cast-v c =
     let st = c .before .before .before .before .before .before in
-    omega (arith, c .start-at .ensures, st .pre .starts-below (getD (st .args .flat .now) (c .before .before .loop .i) 0))
+    omega (arith, c .start-at .ensures, st .pre .starts-below (getD (st .args .listed .now) (c .before .before .loop .i) 0))
 
 mul-counts : tie.Need-mul-counts Inv-loop μ-loop
 mul-counts c =
@@ -35,7 +35,7 @@ mul-counts c =
     let l = i .before in
     let st = l .before .before .before .before in
     let a = st .args in
-    rw (c .start-at .ensures) (omega (arith, st .pre .starts-below (getD (a .flat .now) (l .loop .i) 0)))
+    rw (c .start-at .ensures) (omega (arith, st .pre .starts-below (getD (a .listed .now) (l .loop .i) 0)))
 
 slice-read-counts : tie.Need-slice-read-counts Inv-loop μ-loop
 slice-read-counts c =
@@ -43,7 +43,7 @@ slice-read-counts c =
     let l = i .before in
     let st = l .before .before .before .before in
     let a = st .args in
-    rw (c .before .start-at .ensures) (node-inside (a .starts .now) (a .flat .now) (a .counts .now) (l .loop .counts) (a .from) (a .to) (l .loop .i) (st .pre) (l .loop .inv) (i .loop-test .taken))
+    rw (c .before .start-at .ensures) (node-inside (a .starts .now) (a .listed .now) (a .counts .now) (l .loop .counts) (a .first) (a .end) (l .loop .i) (st .pre) (l .loop .inv) (i .loop-test .taken))
 
 add-counts : tie.Need-add-counts Inv-loop μ-loop
 add-counts c =
@@ -51,7 +51,7 @@ add-counts c =
     let l = i .before in
     let st = l .before .before .before .before in
     let a = st .args in
-    rw (c .before .start-at .ensures) (omega (arith, node-few (a .starts .now) (a .flat .now) (a .counts .now) (l .loop .counts) (a .from) (a .to) (l .loop .i) (st .pre) (l .loop .inv) (i .loop-test .taken)))
+    rw (c .before .start-at .ensures) (omega (arith, node-few (a .starts .now) (a .listed .now) (a .counts .now) (l .loop .counts) (a .first) (a .end) (l .loop .i) (st .pre) (l .loop .inv) (i .loop-test .taken)))
 
 mul-counts-2 : tie.Need-mul-counts-2 Inv-loop μ-loop
 mul-counts-2 c =
@@ -59,7 +59,7 @@ mul-counts-2 c =
     let l = i .before in
     let st = l .before .before .before .before in
     let a = st .args in
-    rw (c .before .start-at .ensures) (omega (arith, st .pre .starts-below (getD (a .flat .now) (l .loop .i) 0)))
+    rw (c .before .start-at .ensures) (omega (arith, st .pre .starts-below (getD (a .listed .now) (l .loop .i) 0)))
 
 slice-write-counts : tie.Need-slice-write-counts Inv-loop μ-loop
 slice-write-counts c =
@@ -67,7 +67,7 @@ slice-write-counts c =
     let l = i .before in
     let st = l .before .before .before .before in
     let a = st .args in
-    rw (c .before .start-at .ensures) (node-inside (a .starts .now) (a .flat .now) (a .counts .now) (l .loop .counts) (a .from) (a .to) (l .loop .i) (st .pre) (l .loop .inv) (i .loop-test .taken))
+    rw (c .before .start-at .ensures) (node-inside (a .starts .now) (a .listed .now) (a .counts .now) (l .loop .counts) (a .first) (a .end) (l .loop .i) (st .pre) (l .loop .inv) (i .loop-test .taken))
 
 add-i : tie.Need-add-i Inv-loop μ-loop
 add-i c = omega arith
@@ -81,7 +81,7 @@ loop-again c =
     let l = i .before in
     let st = l .before .before .before .before in
     let a = st .args in
-    rw (c .before .start-at .ensures, add-one (l .loop .i)) (counting-turn (a .starts .now) (a .flat .now) (a .counts .now) (l .loop .counts) (a .from) (a .to) (l .loop .i) (st .pre) (l .loop .inv) (i .loop-test .taken))
+    rw (c .before .start-at .ensures, add-one (l .loop .i)) (counting-turn (a .starts .now) (a .listed .now) (a .counts .now) (l .loop .counts) (a .first) (a .end) (l .loop .i) (st .pre) (l .loop .inv) (i .loop-test .taken))
 
 same-length : tie.Need-same-length Inv-loop μ-loop
 same-length c = c .before .loop .inv .size
@@ -90,7 +90,7 @@ returns : tie.Need-returns Inv-loop μ-loop
 returns c =
     let l = c .before in
     let a = l .before .before .before .before .args in
-    counting-done (a .starts .now) (a .flat .now) (a .counts .now) (l .loop .counts) (a .from) (a .to) (l .loop .i) (l .loop .inv) (c .loop-test .left)
+    counting-done (a .starts .now) (a .listed .now) (a .counts .now) (l .loop .counts) (a .first) (a .end) (l .loop .i) (l .loop .inv) (c .loop-test .left)
 
 pub count-path-spec : {M : Type 1} → statement M
 count-path-spec =

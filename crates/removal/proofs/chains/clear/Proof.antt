@@ -35,7 +35,7 @@ unfolding table
 returns c =
     let z = c .before .before in
     let p = z .before .before .before in
-    let s = p .args .s .now in
+    let s = p .args .scratch .now in
     let b = p .args .base in
     let n = p .args .n in
     let d : b + n - b ≡ n = omega arith in

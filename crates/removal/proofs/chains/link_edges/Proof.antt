@@ -31,7 +31,7 @@ loop-holds : tie.Need-loop-holds Inv-loop μ-loop
 loop-holds c =
     let w = c .before .before in
     let p = w .before .before .before .before in
-    linking-start (p .args .ends .now) (p .args .s .now) (w .clear .last .0) (p .args .first) (p .args .n) (p .pre) (w .clear .ensures .0) (w .clear .ensures .1)
+    linking-start (p .args .ends .now) (p .args .scratch .now) (w .clear .last .0) (p .args .first) (p .args .n) (p .pre) (w .clear .ensures .0) (w .clear .ensures .1)
 
 sub-e : tie.Need-sub-e Inv-loop μ-loop
 sub-e c = omega arith
@@ -65,8 +65,8 @@ loop-again c =
     let k = l .loop .k in
     let next : k ≡ suc (k - 1) = omega arith in
     rw (w .link .ensures)
-    (linking-turn (p .args .ends .now) (l .before .before .before .clear .last .0) (l .loop .s) (p .args .first) (p .args .n) (k - 1)
-    (subst (λ (i : ℕ). Linking (p .args .ends .now) (l .before .before .before .clear .last .0) (l .loop .s) (p .args .first) (p .args .n) i) next (l .loop .inv)))
+    (linking-turn (p .args .ends .now) (l .before .before .before .clear .last .0) (l .loop .scratch) (p .args .first) (p .args .n) (k - 1)
+    (subst (λ (i : ℕ). Linking (p .args .ends .now) (l .before .before .before .clear .last .0) (l .loop .scratch) (p .args .first) (p .args .n) i) next (l .loop .inv)))
 
 same-length : tie.Need-same-length Inv-loop μ-loop
 same-length c =
@@ -78,7 +78,7 @@ returns c =
     let l = c .before in
     let w = l .before .before .before in
     let a = w .before .before .before .before .args in
-    linking-done (a .ends .now) (a .s .now) (w .clear .last .0) (l .loop .s) (a .first) (a .n) (l .loop .k) (w .clear .ensures .1) (l .loop .inv) (omega arith)
+    linking-done (a .ends .now) (a .scratch .now) (w .clear .last .0) (l .loop .scratch) (a .first) (a .n) (l .loop .k) (w .clear .ensures .1) (l .loop .inv) (omega arith)
 
 pub link-edges-spec : {M : Type 1} → statement M
 link-edges-spec =

@@ -14,46 +14,46 @@ returns : tie.Need-returns
 returns c =
     let w = c .before in
     let p = w .before .before .before .before .before .before .before .before .before in
-    edge-hidden (p .args .l) (p .args .flat .now) (p .args .gs .now) (p .args .ge .now) (p .args .gn .now) (p .args .s .now) (p .args .e) (p .args .j) (p .args .number)
-    (p .args .from .now) (p .args .to .now) (p .args .via .now) (p .args .at) (w .shown-start .result) (p .pre) (w .shown-start .ensures) (omega arith)
+    edge-hidden (p .args .l) (p .args .listed .now) (p .args .from .now) (p .args .to .now) (p .args .via .now) (p .args .scratch .now) (p .args .e) (p .args .j) (p .args .number)
+    (p .args .room-from .now) (p .args .room-to .now) (p .args .room-via .now) (p .args .at) (w .shown-start .result) (p .pre) (w .shown-start .ensures) (omega arith)
 
-sub-from : tie.Need-sub-from
-sub-from c =
+sub-room-from : tie.Need-sub-room-from
+sub-room-from c =
     let w = c .before in
     let p = w .before .before .before .before .before .before .before .before .before in
-    flag-two (p .args .l) (p .args .flat .now) (p .args .gs .now) (p .args .ge .now) (p .args .gn .now) (p .args .s .now) (p .args .e) (p .args .j) (p .args .number)
-    (p .args .from .now) (p .args .to .now) (p .args .via .now) (p .args .at) (w .shown-start .result) (p .pre) (w .shown-start .ensures) (omega arith)
+    flag-two (p .args .l) (p .args .listed .now) (p .args .from .now) (p .args .to .now) (p .args .via .now) (p .args .scratch .now) (p .args .e) (p .args .j) (p .args .number)
+    (p .args .room-from .now) (p .args .room-to .now) (p .args .room-via .now) (p .args .at) (w .shown-start .result) (p .pre) (w .shown-start .ensures) (omega arith)
 
 -- there is room for the edge
 fits : (c : tie.Else1) →
     let p = c .before .before .before .before .before .before .before .before .before .before in
-    p .args .at < length (p .args .from .now)
+    p .args .at < length (p .args .room-from .now)
 fits c =
     let w = c .before in
     let p = w .before .before .before .before .before .before .before .before .before in
-    edge-fits (p .args .l) (p .args .flat .now) (p .args .gs .now) (p .args .ge .now) (p .args .gn .now) (p .args .s .now) (p .args .e) (p .args .j) (p .args .number)
-    (p .args .from .now) (p .args .to .now) (p .args .via .now) (p .args .at) (w .shown-start .result) (p .pre) (w .shown-start .ensures) (omega arith)
+    edge-fits (p .args .l) (p .args .listed .now) (p .args .from .now) (p .args .to .now) (p .args .via .now) (p .args .scratch .now) (p .args .e) (p .args .j) (p .args .number)
+    (p .args .room-from .now) (p .args .room-to .now) (p .args .room-via .now) (p .args .at) (w .shown-start .result) (p .pre) (w .shown-start .ensures) (omega arith)
 
-mul-from : tie.Need-mul-from
-mul-from c = omega (arith, fits c, c .before .before .before .before .before .before .before .before .before .before .good .1 .1 .1 .1 .1 .1 .1 .1 .1 .0 .1)
+mul-room-from : tie.Need-mul-room-from
+mul-room-from c = omega (arith, fits c, c .before .before .before .before .before .before .before .before .before .before .good .1 .1 .1 .1 .1 .1 .1 .1 .1 .0 .1)
 
-slice-write-from : tie.Need-slice-write-from
-slice-write-from c = fits c
+slice-write-room-from : tie.Need-slice-write-room-from
+slice-write-room-from c = fits c
 
-mul-to : tie.Need-mul-to
-mul-to c = omega (arith, fits c, c .before .before .before .before .before .before .before .before .before .before .good .1 .1 .1 .1 .1 .1 .1 .1 .1 .0 .1)
+mul-room-to : tie.Need-mul-room-to
+mul-room-to c = omega (arith, fits c, c .before .before .before .before .before .before .before .before .before .before .good .1 .1 .1 .1 .1 .1 .1 .1 .1 .0 .1)
 
-slice-write-to : tie.Need-slice-write-to
-slice-write-to c = let p = c .before .before .before .before .before .before .before .before .before .before in omega (arith, fits c, p .pre .same .0)
+slice-write-room-to : tie.Need-slice-write-room-to
+slice-write-room-to c = let p = c .before .before .before .before .before .before .before .before .before .before in omega (arith, fits c, p .pre .same .0)
 
 number-at-requires : tie.Need-number-at-requires
 number-at-requires c κs = search needs
 
-mul-via : tie.Need-mul-via
-mul-via c = omega (arith, fits (c .before), c .before .before .before .before .before .before .before .before .before .before .before .good .1 .1 .1 .1 .1 .1 .1 .1 .1 .0 .1)
+mul-room-via : tie.Need-mul-room-via
+mul-room-via c = omega (arith, fits (c .before), c .before .before .before .before .before .before .before .before .before .before .before .good .1 .1 .1 .1 .1 .1 .1 .1 .1 .0 .1)
 
-slice-write-via : tie.Need-slice-write-via
-slice-write-via c = let p = c .before .before .before .before .before .before .before .before .before .before .before in omega (arith, fits (c .before), p .pre .same .1)
+slice-write-room-via : tie.Need-slice-write-room-via
+slice-write-room-via c = let p = c .before .before .before .before .before .before .before .before .before .before .before in omega (arith, fits (c .before), p .pre .same .1)
 
 add-result : tie.Need-add-result
 add-result c = omega (arith, fits (c .before), c .before .before .before .before .before .before .before .before .before .before .before .good .1 .1 .1 .1 .1 .1 .1 .1 .1 .0 .0)
@@ -72,8 +72,8 @@ returns-2 c =
     let w = c .before .before in
     let p = w .before .before .before .before .before .before .before .before .before in
     rw (c .number-at .ensures)
-    (edge-shown (p .args .l) (p .args .flat .now) (p .args .gs .now) (p .args .ge .now) (p .args .gn .now) (p .args .s .now) (p .args .e) (p .args .j) (p .args .number)
-    (p .args .from .now) (p .args .to .now) (p .args .via .now) (p .args .at) (w .shown-start .result) (p .pre) (w .shown-start .ensures) (omega arith))
+    (edge-shown (p .args .l) (p .args .listed .now) (p .args .from .now) (p .args .to .now) (p .args .via .now) (p .args .scratch .now) (p .args .e) (p .args .j) (p .args .number)
+    (p .args .room-from .now) (p .args .room-to .now) (p .args .room-via .now) (p .args .at) (w .shown-start .result) (p .pre) (w .shown-start .ensures) (omega arith))
 
 pub fill-edge-spec : {M : Type 1} → statement M
 fill-edge-spec =
@@ -81,14 +81,14 @@ fill-edge-spec =
     (tie.spec
     shown-start-requires
     returns
-    sub-from
-    mul-from
-    slice-write-from
-    mul-to
-    slice-write-to
+    sub-room-from
+    mul-room-from
+    slice-write-room-from
+    mul-room-to
+    slice-write-room-to
     number-at-requires
-    mul-via
-    slice-write-via
+    mul-room-via
+    slice-write-room-via
     add-result
     same-length
     same-length-2

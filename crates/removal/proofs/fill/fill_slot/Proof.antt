@@ -12,7 +12,7 @@ use Rattle.removal.proofs.fill.fill_slot.Tie as tie
 slot-place-requires : tie.Need-slot-place-requires
 slot-place-requires c κs =
     let p = c .before .before .before .before .before .before .before .before .before .before in
-    (ready-held (p .args .l) (p .args .flat .now) (p .args .gs .now) (p .args .ge .now) (p .args .gn .now) (p .args .s .now) (p .pre .1 .shown .ready), p .pre .0 .0, p .pre .0 .1)
+    (ready-held (p .args .l) (p .args .listed .now) (p .args .from .now) (p .args .to .now) (p .args .via .now) (p .args .scratch .now) (p .pre .1 .shown .ready), p .pre .0 .0, p .pre .0 .1)
 
 number-at-requires : tie.Need-number-at-requires
 number-at-requires c κs = search needs
@@ -20,13 +20,13 @@ number-at-requires c κs = search needs
 -- what is read is the flag of the slot
 flag : (c : tie.After-number-at) →
     let p = c .before .before .before .before .before .before .before .before .before .before .before .before in
-    c .number-at .result ≡ flagIn (p .args .l) (p .args .s .now) (p .args .c) (p .args .j)
-flag c = let p = c .before .before .before .before .before .before .before .before .before .before .before .before in c .number-at .ensures ∙ ap (λ i. getD (p .args .s .now) i 0) (c .before .slot-place .ensures)
+    c .number-at .result ≡ flagIn (p .args .l) (p .args .scratch .now) (p .args .c) (p .args .j)
+flag c = let p = c .before .before .before .before .before .before .before .before .before .before .before .before in c .number-at .ensures ∙ ap (λ i. getD (p .args .scratch .now) i 0) (c .before .slot-place .ensures)
 
 returns : tie.Need-returns
 returns c =
     let p = c .before .before .before .before .before .before .before .before .before .before .before .before .before in
-    slot-hidden (p .args .l) (p .args .flat .now) (p .args .nodes .now) (p .args .gs .now) (p .args .ge .now) (p .args .gn .now) (p .args .s .now) (p .args .c) (p .args .j) (p .args .room .now) (p .args .from .now) (p .args .to .now) (p .args .via .now) (p .args .k) (p .pre .0 .0) (p .pre .0 .1) (p .pre .1) (omega (arith, flag (c .before)))
+    slot-hidden (p .args .l) (p .args .listed .now) (p .args .nodes .now) (p .args .from .now) (p .args .to .now) (p .args .via .now) (p .args .scratch .now) (p .args .c) (p .args .j) (p .args .room-nodes .now) (p .args .room-from .now) (p .args .room-to .now) (p .args .room-via .now) (p .args .k) (p .pre .0 .0) (p .pre .0 .1) (p .pre .1) (omega (arith, flag (c .before)))
 
 cast-place : tie.Need-cast-place
 cast-place c = search needs
@@ -34,20 +34,20 @@ cast-place c = search needs
 number-at-requires-2 : tie.Need-number-at-requires-2
 number-at-requires-2 c κs = search needs
 
-mul-room : tie.Need-mul-room
-mul-room c = search needs
+mul-room-nodes : tie.Need-mul-room-nodes
+mul-room-nodes c = search needs
 
-slice-write-room : tie.Need-slice-write-room
-slice-write-room c =
+slice-write-room-nodes : tie.Need-slice-write-room-nodes
+slice-write-room-nodes c =
     let p = c .before .before .before .before .before .before .before .before .before .before .before .before .before .before in
     let f = flag (c .before .before) in
-    omega (arith, f, slot-number (p .args .l) (p .args .flat .now) (p .args .nodes .now) (p .args .gs .now) (p .args .ge .now) (p .args .gn .now) (p .args .s .now) (p .args .c) (p .args .j) (p .args .room .now) (p .args .from .now) (p .args .to .now) (p .args .via .now) (p .args .k) (p .pre .0 .0) (p .pre .0 .1) (p .pre .1) (omega (arith, f)), slot-fits (p .args .l) (p .args .flat .now) (p .args .nodes .now) (p .args .gs .now) (p .args .ge .now) (p .args .gn .now) (p .args .s .now) (p .args .c) (p .args .j) (p .args .room .now) (p .args .from .now) (p .args .to .now) (p .args .via .now) (p .args .k) (p .pre .0 .0) (p .pre .0 .1) (p .pre .1) (omega (arith, f)))
+    omega (arith, f, slot-number (p .args .l) (p .args .listed .now) (p .args .nodes .now) (p .args .from .now) (p .args .to .now) (p .args .via .now) (p .args .scratch .now) (p .args .c) (p .args .j) (p .args .room-nodes .now) (p .args .room-from .now) (p .args .room-to .now) (p .args .room-via .now) (p .args .k) (p .pre .0 .0) (p .pre .0 .1) (p .pre .1) (omega (arith, f)), slot-fits (p .args .l) (p .args .listed .now) (p .args .nodes .now) (p .args .from .now) (p .args .to .now) (p .args .via .now) (p .args .scratch .now) (p .args .c) (p .args .j) (p .args .room-nodes .now) (p .args .room-from .now) (p .args .room-to .now) (p .args .room-via .now) (p .args .k) (p .pre .0 .0) (p .pre .0 .1) (p .pre .1) (omega (arith, f)))
 
 fill-edges-requires : tie.Need-fill-edges-requires
 fill-edges-requires c κs =
     let p = c .before .before .before .before .before .before .before .before .before .before .before .before .before .before .before .before .before in
     let f = flag (c .before .before .before .before .before) in
-    (slot-edges (p .args .l) (p .args .flat .now) (p .args .nodes .now) (p .args .gs .now) (p .args .ge .now) (p .args .gn .now) (p .args .s .now) (p .args .c) (p .args .j) (p .args .room .now) (p .args .from .now) (p .args .to .now) (p .args .via .now) (p .args .k) (p .pre .0 .0) (p .pre .0 .1) (p .pre .1) (omega (arith, f)), omega (arith, f, slot-number (p .args .l) (p .args .flat .now) (p .args .nodes .now) (p .args .gs .now) (p .args .ge .now) (p .args .gn .now) (p .args .s .now) (p .args .c) (p .args .j) (p .args .room .now) (p .args .from .now) (p .args .to .now) (p .args .via .now) (p .args .k) (p .pre .0 .0) (p .pre .0 .1) (p .pre .1) (omega (arith, f))))
+    (slot-edges (p .args .l) (p .args .listed .now) (p .args .nodes .now) (p .args .from .now) (p .args .to .now) (p .args .via .now) (p .args .scratch .now) (p .args .c) (p .args .j) (p .args .room-nodes .now) (p .args .room-from .now) (p .args .room-to .now) (p .args .room-via .now) (p .args .k) (p .pre .0 .0) (p .pre .0 .1) (p .pre .1) (omega (arith, f)), omega (arith, f, slot-number (p .args .l) (p .args .listed .now) (p .args .nodes .now) (p .args .from .now) (p .args .to .now) (p .args .via .now) (p .args .scratch .now) (p .args .c) (p .args .j) (p .args .room-nodes .now) (p .args .room-from .now) (p .args .room-to .now) (p .args .room-via .now) (p .args .k) (p .pre .0 .0) (p .pre .0 .1) (p .pre .1) (omega (arith, f))))
 
 same-length : tie.Need-same-length
 same-length c = search needs
@@ -66,7 +66,7 @@ returns-2 c =
     let p = c .before .before .before .before .before .before .before .before .before .before .before .before .before .before .before .before .before .before .before .before .before .before .before .before in
     let e = c .before .before .before .before .before .before .fill-edges in
     rw (c .before .before .before .before .before .before .before .before .before .before .number-at2 .ensures, flag (c .before .before .before .before .before .before .before .before .before .before .before .before))
-    (slot-written (p .args .l) (p .args .flat .now) (p .args .nodes .now) (p .args .gs .now) (p .args .ge .now) (p .args .gn .now) (p .args .s .now) (p .args .c) (p .args .j) (p .args .room .now) (p .args .from .now) (p .args .to .now) (p .args .via .now) (p .args .k) (p .pre .0 .0) (p .pre .0 .1) (p .pre .1) (omega (arith, flag (c .before .before .before .before .before .before .before .before .before .before .before .before), c .before .before .before .before .before .before .before .before .before .before .before .if1 .left)) (e .last .1 .1 .1 .1 .1 .1 .1 .1 .1 .0) (e .last .1 .1 .1 .1 .1 .1 .1 .1 .1 .1 .0) (e .last .1 .1 .1 .1 .1 .1 .1 .1 .1 .1 .1 .0) (e .result) (e .ensures))
+    (slot-written (p .args .l) (p .args .listed .now) (p .args .nodes .now) (p .args .from .now) (p .args .to .now) (p .args .via .now) (p .args .scratch .now) (p .args .c) (p .args .j) (p .args .room-nodes .now) (p .args .room-from .now) (p .args .room-to .now) (p .args .room-via .now) (p .args .k) (p .pre .0 .0) (p .pre .0 .1) (p .pre .1) (omega (arith, flag (c .before .before .before .before .before .before .before .before .before .before .before .before), c .before .before .before .before .before .before .before .before .before .before .before .if1 .left)) (e .last .1 .1 .1 .1 .1 .1 .1 .1 .1 .0) (e .last .1 .1 .1 .1 .1 .1 .1 .1 .1 .1 .0) (e .last .1 .1 .1 .1 .1 .1 .1 .1 .1 .1 .1 .0) (e .result) (e .ensures))
 
 pub fill-slot-spec : {M : Type 1} → statement M
 fill-slot-spec =
@@ -77,8 +77,8 @@ fill-slot-spec =
     returns
     cast-place
     number-at-requires-2
-    mul-room
-    slice-write-room
+    mul-room-nodes
+    slice-write-room-nodes
     fill-edges-requires
     same-length
     same-length-2

@@ -10,13 +10,13 @@ use Rattle.removal.proofs.names.flag_listed.Statement.{statement}
 use Rattle.removal.proofs.names.flag_listed.Tie as tie
 
 abbrev Inv-loop : tie.InvT-loop
-Inv-loop names₀ flat i₀ names i = (i ≤ length flat) × Noted flat names₀ names i
+Inv-loop names₀ listed i₀ names i = (i ≤ length listed) × Noted listed names₀ names i
 
 abbrev μ-loop : tie.MeasureT-loop
-μ-loop names₀ flat i₀ names i = length flat - i
+μ-loop names₀ listed i₀ names i = length listed - i
 
 loop-holds : tie.Need-loop-holds Inv-loop μ-loop
-loop-holds c = (omega arith, noted-none (c .before .before .args .flat .now) (c .before .before .args .names .now))
+loop-holds c = (omega arith, noted-none (c .before .before .args .listed .now) (c .before .before .args .names .now))
 
 number-at-requires : tie.Need-number-at-requires Inv-loop μ-loop
 number-at-requires c κs = tt
@@ -39,7 +39,7 @@ loop-again c =
     let n = w .before .before in
     let l = n .before .before .loop in
     let a = n .before .before .before .before .before .args in
-    (omega arith, noted-step (a .flat .now) (a .names .now) (l .names) (w .flag .last .0) (l .i) (n .number-at .result) (n .number-at .ensures) (l .inv .1) (w .flag .ensures))
+    (omega arith, noted-step (a .listed .now) (a .names .now) (l .names) (w .flag .last .0) (l .i) (n .number-at .result) (n .number-at .ensures) (l .inv .1) (w .flag .ensures))
 
 same-length : tie.Need-same-length Inv-loop μ-loop
 same-length c = c .before .loop .inv .1 .size

@@ -24,7 +24,7 @@ returns c =
     let m = c .before .before in
     let l = m .before .before .before .before in
     let a = c .before .before .before .before .before .before .before .before .before .before .before .before .args in
-    linked-named (a .gs .now) (a .flat .now) (a .gn .now) (a .s .now) (l .link-edges .last .0) (m .name-edges .last .1 .1 .0) (a .first) (a .n) (l .link-edges .ensures) (m .name-edges .ensures)
+    linked-named (a .from .now) (a .listed .now) (a .via .now) (a .scratch .now) (l .link-edges .last .0) (m .name-edges .last .1 .1 .0) (a .first) (a .n) (l .link-edges .ensures) (m .name-edges .ensures)
 
 pub link-named-spec : {M : Type 1} → statement M
 link-named-spec =

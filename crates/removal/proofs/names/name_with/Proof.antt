@@ -10,10 +10,10 @@ use Rattle.removal.proofs.names.name_with.Statement.{statement}
 use Rattle.removal.proofs.names.name_with.Tie as tie
 
 abbrev Inv-loop : tie.InvT-loop
-Inv-loop names flat gn s₀ base e₀ s e = (e ≤ length gn) × Named flat gn s₀ s base e
+Inv-loop names listed via s₀ base e₀ s e = (e ≤ length via) × Named listed via s₀ s base e
 
 abbrev μ-loop : tie.MeasureT-loop
-μ-loop names flat gn s₀ base e₀ s e = length gn - e
+μ-loop names listed via s₀ base e₀ s e = length via - e
 
 flag-listed-requires : tie.Need-flag-listed-requires Inv-loop μ-loop
 flag-listed-requires c κs = tt
@@ -21,7 +21,7 @@ flag-listed-requires c κs = tt
 loop-holds : tie.Need-loop-holds Inv-loop μ-loop
 loop-holds c =
     let a = c .before .before .before .before .before .before .before .before .args in
-    (omega arith, named-none (a .flat .now) (a .gn .now) (a .s .now) (a .base))
+    (omega arith, named-none (a .listed .now) (a .via .now) (a .scratch .now) (a .base))
 
 number-at-requires : tie.Need-number-at-requires Inv-loop μ-loop
 number-at-requires c κs = tt
@@ -32,14 +32,14 @@ cast-k c = search needs
 flag-at-requires : tie.Need-flag-at-requires Inv-loop μ-loop
 flag-at-requires c κs = tt
 
-add-s : tie.Need-add-s Inv-loop μ-loop
-add-s c = omega (arith, c .before .before .before .before .before .before .before .before .before .before .before .before .before .pre, c .before .before .before .loop-test .taken)
+add-scratch : tie.Need-add-scratch Inv-loop μ-loop
+add-scratch c = omega (arith, c .before .before .before .before .before .before .before .before .before .before .before .before .before .pre, c .before .before .before .loop-test .taken)
 
-mul-s : tie.Need-mul-s Inv-loop μ-loop
-mul-s c = omega (arith, c .before .before .before .before .before .before .before .before .before .before .before .before .before .pre, c .before .before .before .loop-test .taken)
+mul-scratch : tie.Need-mul-scratch Inv-loop μ-loop
+mul-scratch c = omega (arith, c .before .before .before .before .before .before .before .before .before .before .before .before .before .pre, c .before .before .before .loop-test .taken)
 
-slice-write-s : tie.Need-slice-write-s Inv-loop μ-loop
-slice-write-s c = omega (arith, c .before .before .before .before .before .before .before .before .before .before .before .before .before .pre, c .before .before .before .loop-test .taken, c .before .before .before .before .loop .inv .1 .frame .size)
+slice-write-scratch : tie.Need-slice-write-scratch Inv-loop μ-loop
+slice-write-scratch c = omega (arith, c .before .before .before .before .before .before .before .before .before .before .before .before .before .pre, c .before .before .before .loop-test .taken, c .before .before .before .before .loop .inv .1 .frame .size)
 
 add-e : tie.Need-add-e Inv-loop μ-loop
 add-e c = omega arith
@@ -55,7 +55,7 @@ loop-again c =
     let st = c .before .before .before .before .before .before .before .before .before .before .before .before .before in
     let a = st .args in
     let h = c .before .before .before .loop-test .taken in
-    (omega (arith, h), named-step (a .flat .now) (a .gn .now) (a .names .now) (w .last .0) (a .s .now) (l .s) (a .base) (l .e) (n .number-at .result) (c .flag-at .result) (st .pre) h (n .number-at .ensures) (w .ensures) (c .flag-at .ensures) (l .inv .1))
+    (omega (arith, h), named-step (a .listed .now) (a .via .now) (a .names .now) (w .last .0) (a .scratch .now) (l .scratch) (a .base) (l .e) (n .number-at .result) (c .flag-at .result) (st .pre) h (n .number-at .ensures) (w .ensures) (c .flag-at .ensures) (l .inv .1))
 
 same-length : tie.Need-same-length Inv-loop μ-loop
 same-length c = c .before .before .before .before .flag-listed .ensures .size
@@ -77,9 +77,9 @@ name-with-spec =
     number-at-requires
     cast-k
     flag-at-requires
-    add-s
-    mul-s
-    slice-write-s
+    add-scratch
+    mul-scratch
+    slice-write-scratch
     add-e
     loop-less
     loop-again

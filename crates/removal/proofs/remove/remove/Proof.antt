@@ -17,14 +17,14 @@ count-candidates-requires : tie.Need-count-candidates-requires
 count-candidates-requires c κs =
     let st = c .before .before .before .before .before .before .before .before .before .before .before .before in
     let a = st .args in
-    work-countable (a .starts .now) (a .flat .now) (a .lengths .now) (a .nodes .now) (a .gs .now) (a .ge .now) (a .gn .now) (st .pre .0)
+    work-countable (a .starts .now) (a .listed .now) (a .lengths .now) (a .nodes .now) (a .from .now) (a .to .now) (a .via .now) (st .pre .0)
 
 scratch-fits-requires : tie.Need-scratch-fits-requires
 scratch-fits-requires c κs =
     let st = c .before .before .before .before .before .before .before .before .before .before .before .before .before in
     let g = st .pre .0 .worked .given in
     let a = st .args in
-    (c .count-candidates .ensures .1, work-countable (a .starts .now) (a .flat .now) (a .lengths .now) (a .nodes .now) (a .gs .now) (a .ge .now) (a .gn .now) (st .pre .0) .0 .few, g .few-edges)
+    (c .count-candidates .ensures .1, work-countable (a .starts .now) (a .listed .now) (a .lengths .now) (a .nodes .now) (a .from .now) (a .to .now) (a .via .now) (st .pre .0) .0 .few, g .few-edges)
 
 search-requires : tie.Need-search-requires
 search-requires c κs =
@@ -32,7 +32,7 @@ search-requires c κs =
     let st = c .before .before .before .before .before .before .before .before .before .before .before .before .before .before .before .before in
     let a = st .args in
     let n : ℕ = k .count-candidates .result in
-    work-in (a .starts .now) (a .flat .now) (a .lengths .now) (a .nodes .now) (a .gs .now) (a .ge .now) (a .gn .now) n (k .count-candidates .ensures .0) (a .s .now) (st .pre .0) (holds (leb (16 * (n + length (a .flat .now) + length (a .gs .now))) (length (a .s .now))) (sym (c .before .before .scratch-fits .ensures) ∙ c .before .if1 .taken))
+    work-in (a .starts .now) (a .listed .now) (a .lengths .now) (a .nodes .now) (a .from .now) (a .to .now) (a .via .now) n (k .count-candidates .ensures .0) (a .scratch .now) (st .pre .0) (holds (leb (16 * (n + length (a .listed .now) + length (a .from .now))) (length (a .scratch .now))) (sym (c .before .before .scratch-fits .ensures) ∙ c .before .if1 .taken))
 
 write-result-requires : tie.Need-write-result-requires
 write-result-requires c κs = (c .before .before .before .before .before .before .before .search .ensures .all, c .before .before .before .before .before .before .before .before .before .before .before .before .before .before .before .before .before .before .before .before .before .before .before .before .pre .1)
@@ -62,8 +62,8 @@ returns c =
     let w = r .before .before .before .before .before .before .before .before in
     let k = w .before .before .before .before in
     let a = k .before .before .before .before .before .before .before .before .before .before .before .before .before .args in
-    removed-made (a .starts .now) (a .flat .now) (a .lengths .now) (a .nodes .now) (a .gs .now) (a .ge .now) (a .gn .now) (k .count-candidates .result) (k .count-candidates .ensures .0) (a .room .now) (a .from .now) (a .to .now) (a .via .now) (a .s .now) (sym (w .before .before .before .scratch-fits .ensures) ∙ w .before .before .if1 .taken) (r .write-result .result) (r .write-result .last .1 .1 .1 .1 .1 .1 .1 .1 .0) (r .write-result .last .1 .1 .1 .1 .1 .1 .1 .1 .1 .0) (r .write-result .last .1 .1 .1 .1 .1 .1 .1 .1 .1 .1 .0) (r .write-result .last .1 .1 .1 .1 .1 .1 .1 .1 .1 .1 .1 .0) (z .zero .last .0)
-    (search-removed (a .starts .now) (a .flat .now) (a .lengths .now) (a .nodes .now) (a .gs .now) (a .ge .now) (a .gn .now) (a .room .now) (a .from .now) (a .to .now) (a .via .now) (a .s .now) (w .search .result .layout) (w .search .result .counts .copies) (w .search .result .counts .edges) (w .search .last .1 .1 .1 .1 .1 .1 .1 .0) (r .write-result .last .1 .1 .1 .1 .1 .1 .1 .1 .0) (r .write-result .last .1 .1 .1 .1 .1 .1 .1 .1 .1 .0) (r .write-result .last .1 .1 .1 .1 .1 .1 .1 .1 .1 .1 .0) (r .write-result .last .1 .1 .1 .1 .1 .1 .1 .1 .1 .1 .1 .0) (z .zero .last .0) (r .write-result .result) (w .search .ensures) (r .write-result .ensures) (z .zero .ensures))
+    removed-made (a .starts .now) (a .listed .now) (a .lengths .now) (a .nodes .now) (a .from .now) (a .to .now) (a .via .now) (k .count-candidates .result) (k .count-candidates .ensures .0) (a .room-nodes .now) (a .room-from .now) (a .room-to .now) (a .room-via .now) (a .scratch .now) (sym (w .before .before .before .scratch-fits .ensures) ∙ w .before .before .if1 .taken) (r .write-result .result) (r .write-result .last .1 .1 .1 .1 .1 .1 .1 .1 .0) (r .write-result .last .1 .1 .1 .1 .1 .1 .1 .1 .1 .0) (r .write-result .last .1 .1 .1 .1 .1 .1 .1 .1 .1 .1 .0) (r .write-result .last .1 .1 .1 .1 .1 .1 .1 .1 .1 .1 .1 .0) (z .zero .last .0)
+    (search-removed (a .starts .now) (a .listed .now) (a .lengths .now) (a .nodes .now) (a .from .now) (a .to .now) (a .via .now) (a .room-nodes .now) (a .room-from .now) (a .room-to .now) (a .room-via .now) (a .scratch .now) (w .search .result .layout) (w .search .result .counts .copies) (w .search .result .counts .edges) (w .search .last .1 .1 .1 .1 .1 .1 .1 .0) (r .write-result .last .1 .1 .1 .1 .1 .1 .1 .1 .0) (r .write-result .last .1 .1 .1 .1 .1 .1 .1 .1 .1 .0) (r .write-result .last .1 .1 .1 .1 .1 .1 .1 .1 .1 .1 .0) (r .write-result .last .1 .1 .1 .1 .1 .1 .1 .1 .1 .1 .1 .0) (z .zero .last .0) (r .write-result .result) (w .search .ensures) (r .write-result .ensures) (z .zero .ensures))
 
 refuse-requires : tie.Need-refuse-requires
 refuse-requires c κs = search needs
@@ -73,8 +73,8 @@ returns-2 c =
     let k = c .before .before .before in
     let st = k .before .before .before .before .before .before .before .before .before .before .before .before .before in
     let a = st .args in
-    subst (λ (x : Refusal). AllRemoved (a .starts .now) (a .flat .now) (a .lengths .now) (a .nodes .now) (a .gs .now) (a .ge .now) (a .gn .now) (NoGraph x) (a .room .now) (a .from .now) (a .to .now) (a .via .now) (a .s .now) (a .room .now) (a .from .now) (a .to .now) (a .via .now) (a .s .now)) (sym (c .refuse .ensures))
-    (removed-refused (a .starts .now) (a .flat .now) (a .lengths .now) (a .nodes .now) (a .gs .now) (a .ge .now) (a .gn .now) (k .count-candidates .result) (k .count-candidates .ensures .0) (a .room .now) (a .from .now) (a .to .now) (a .via .now) (a .s .now) (sym (c .before .before .scratch-fits .ensures) ∙ c .before .if1 .left))
+    subst (λ (x : Refusal). AllRemoved (a .starts .now) (a .listed .now) (a .lengths .now) (a .nodes .now) (a .from .now) (a .to .now) (a .via .now) (NoGraph x) (a .room-nodes .now) (a .room-from .now) (a .room-to .now) (a .room-via .now) (a .scratch .now) (a .room-nodes .now) (a .room-from .now) (a .room-to .now) (a .room-via .now) (a .scratch .now)) (sym (c .refuse .ensures))
+    (removed-refused (a .starts .now) (a .listed .now) (a .lengths .now) (a .nodes .now) (a .from .now) (a .to .now) (a .via .now) (k .count-candidates .result) (k .count-candidates .ensures .0) (a .room-nodes .now) (a .room-from .now) (a .room-to .now) (a .room-via .now) (a .scratch .now) (sym (c .before .before .scratch-fits .ensures) ∙ c .before .if1 .left))
 
 pub remove-spec : {M : Type 1} → statement M
 remove-spec =

@@ -22,7 +22,7 @@ unless-requires c κs = search needs
 returns : tie.Need-returns
 returns c =
     let a = c .before .before .before .args in
-    rw (lt-leb (a .copies) (min (a .nodes) 16384) (omega (arith, c .before .if1 .taken, c .before .before .smaller .ensures))) (c .unless .ensures)
+    rw (lt-leb (a .copies) (min (a .node-room) 16384) (omega (arith, c .before .if1 .taken, c .before .before .smaller .ensures))) (c .unless .ensures)
 
 -- src/remove.rt:66:25
 smaller-requires-2 : tie.Need-smaller-requires-2
@@ -36,7 +36,7 @@ unless-requires-2 c κs = search needs
 returns-2 : tie.Need-returns-2
 returns-2 c =
     let a = c .before .before .before .before .args in
-    rw (le-leb (a .copies) (min (a .nodes) 16384) (omega (arith, c .before .before .if1 .left, c .before .before .before .smaller .ensures))) (rw (sym (c .before .smaller2 .ensures)) (c .unless2 .ensures))
+    rw (le-leb (a .copies) (min (a .node-room) 16384) (omega (arith, c .before .before .if1 .left, c .before .before .before .smaller .ensures))) (rw (sym (c .before .smaller2 .ensures)) (c .unless2 .ensures))
 
 pub room-tests-spec : {M : Type 1} → statement M
 room-tests-spec =

@@ -8,15 +8,15 @@ build-requires : tie.Need-build-requires
 build-requires c κs =
     let st = c .before .before .before .before .before .before .before .before .before in
     let a = st .args in
-    buildable (a .starts .now) (a .flat .now) (a .lengths .now) (a .nodes .now) (a .gs .now) (a .ge .now) (a .gn .now) (a .s .now) (st .pre)
+    buildable (a .starts .now) (a .listed .now) (a .lengths .now) (a .nodes .now) (a .from .now) (a .to .now) (a .via .now) (a .scratch .now) (st .pre)
 
 reach-all-requires : tie.Need-reach-all-requires
 reach-all-requires c κs =
     let y = c .before .before .before in
     let st = y .before .before .before .before .before .before .before .before .before .before in
     let a = st .args in (
-      built-ready (a .starts .now) (a .flat .now) (a .lengths .now) (a .nodes .now) (a .gs .now) (a .ge .now) (a .gn .now) (a .s .now) (y .build .last .1 .1 .1 .1 .1 .1 .1 .0) (y .build .result) (st .pre) (y .build .ensures),
-      built-zero (a .starts .now) (a .flat .now) (a .lengths .now) (a .nodes .now) (a .gs .now) (a .ge .now) (a .gn .now) (a .s .now) (y .build .last .1 .1 .1 .1 .1 .1 .1 .0) (y .build .result) (st .pre) (y .build .ensures),
+      built-ready (a .starts .now) (a .listed .now) (a .lengths .now) (a .nodes .now) (a .from .now) (a .to .now) (a .via .now) (a .scratch .now) (y .build .last .1 .1 .1 .1 .1 .1 .1 .0) (y .build .result) (st .pre) (y .build .ensures),
+      built-zero (a .starts .now) (a .listed .now) (a .lengths .now) (a .nodes .now) (a .from .now) (a .to .now) (a .via .now) (a .scratch .now) (y .build .last .1 .1 .1 .1 .1 .1 .1 .0) (y .build .result) (st .pre) (y .build .ensures),
     )
 
 show-all-requires : tie.Need-show-all-requires
@@ -25,7 +25,7 @@ show-all-requires c κs =
     let y = z .before .before .before .before in
     let st = y .before .before .before .before .before .before .before .before .before .before in
     let a = st .args in
-    reached-ready (a .starts .now) (a .flat .now) (a .lengths .now) (a .nodes .now) (a .gs .now) (a .ge .now) (a .gn .now) (a .s .now) (y .build .last .1 .1 .1 .1 .1 .1 .1 .0) (y .build .result) (st .pre) (y .build .ensures)
+    reached-ready (a .starts .now) (a .listed .now) (a .lengths .now) (a .nodes .now) (a .from .now) (a .to .now) (a .via .now) (a .scratch .now) (y .build .last .1 .1 .1 .1 .1 .1 .1 .0) (y .build .result) (st .pre) (y .build .ensures)
     (z .reach-all .last .1 .1 .1 .1 .1 .0) (z .reach-all .ensures)
 
 same-length : tie.Need-same-length
@@ -38,7 +38,7 @@ returns c =
     let y = z .before .before .before .before in
     let st = y .before .before .before .before .before .before .before .before .before .before in
     let a = st .args in
-    found (a .starts .now) (a .flat .now) (a .lengths .now) (a .nodes .now) (a .gs .now) (a .ge .now) (a .gn .now) (a .s .now) (y .build .last .1 .1 .1 .1 .1 .1 .1 .0) (y .build .result) (st .pre) (y .build .ensures)
+    found (a .starts .now) (a .listed .now) (a .lengths .now) (a .nodes .now) (a .from .now) (a .to .now) (a .via .now) (a .scratch .now) (y .build .last .1 .1 .1 .1 .1 .1 .1 .0) (y .build .result) (st .pre) (y .build .ensures)
     (z .reach-all .last .1 .1 .1 .1 .1 .0) (z .reach-all .ensures)
     (w .show-all .last .1 .1 .1 .1 .1 .0) (w .show-all .result .copies) (w .show-all .result .edges) (w .show-all .ensures)
 

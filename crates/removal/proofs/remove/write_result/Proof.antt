@@ -18,7 +18,7 @@ returns c =
     let w = c .before .before .before in
     let st = w .before .before .before .before .before .before .before .before .before .before .before in
     let a = st .args in
-    room-refused (a .l) (a .flat .now) (a .nodes .now) (a .gs .now) (a .ge .now) (a .gn .now) (a .s .now) (a .room .now) (a .from .now) (a .to .now) (a .via .now) (a .counts .copies) (a .counts .edges) (st .pre .0) (c .before .verdict .given .0 .0) (sym (w .room-tests .ensures) ∙ c .before .verdict .given .1)
+    room-refused (a .l) (a .listed .now) (a .nodes .now) (a .from .now) (a .to .now) (a .via .now) (a .scratch .now) (a .room-nodes .now) (a .room-from .now) (a .room-to .now) (a .room-via .now) (a .counts .copies) (a .counts .edges) (st .pre .0) (c .before .verdict .given .0 .0) (sym (w .room-tests .ensures) ∙ c .before .verdict .given .1)
 
 enum-told : tie.Need-enum-told
 enum-told c = search needs
@@ -28,8 +28,8 @@ fill-all-requires c κs =
     let w = c .before .before .before .before .before .before in
     let st = w .before .before .before .before .before .before .before .before .before .before .before in
     let a = st .args in
-    let h = counts-fit (a .counts .copies) (a .counts .edges) (length (a .room .now)) (length (a .from .now)) (sym (w .room-tests .ensures) ∙ c .before .before .before .before .enum-told .given .1) in
-    slots-room (a .l) (a .flat .now) (a .nodes .now) (a .gs .now) (a .ge .now) (a .gn .now) (a .s .now) (a .room .now) (a .from .now) (a .to .now) (a .via .now) (a .counts .copies) (a .counts .edges) (st .pre .0) (st .pre .1) (h .0) (h .1)
+    let h = counts-fit (a .counts .copies) (a .counts .edges) (length (a .room-nodes .now)) (length (a .room-from .now)) (sym (w .room-tests .ensures) ∙ c .before .before .before .before .enum-told .given .1) in
+    slots-room (a .l) (a .listed .now) (a .nodes .now) (a .from .now) (a .to .now) (a .via .now) (a .scratch .now) (a .room-nodes .now) (a .room-from .now) (a .room-to .now) (a .room-via .now) (a .counts .copies) (a .counts .edges) (st .pre .0) (st .pre .1) (h .0) (h .1)
 
 same-length : tie.Need-same-length
 same-length c = search needs
@@ -49,7 +49,7 @@ returns-2 c =
     let w = f .before .before .before .before .before .before .before in
     let st = w .before .before .before .before .before .before .before .before .before .before .before in
     let a = st .args in
-    room-made (a .l) (a .flat .now) (a .nodes .now) (a .gs .now) (a .ge .now) (a .gn .now) (a .s .now) (a .room .now) (a .from .now) (a .to .now) (a .via .now) (a .counts .copies) (a .counts .edges) (st .pre .0) (sym (w .room-tests .ensures) ∙ f .before .before .before .before .before .enum-told .given .1) (f .fill-all .last .1 .1 .1 .1 .1 .1 .1 .0) (f .fill-all .last .1 .1 .1 .1 .1 .1 .1 .1 .0) (f .fill-all .last .1 .1 .1 .1 .1 .1 .1 .1 .1 .0) (f .fill-all .last .1 .1 .1 .1 .1 .1 .1 .1 .1 .1 .0) (f .fill-all .ensures)
+    room-made (a .l) (a .listed .now) (a .nodes .now) (a .from .now) (a .to .now) (a .via .now) (a .scratch .now) (a .room-nodes .now) (a .room-from .now) (a .room-to .now) (a .room-via .now) (a .counts .copies) (a .counts .edges) (st .pre .0) (sym (w .room-tests .ensures) ∙ f .before .before .before .before .before .enum-told .given .1) (f .fill-all .last .1 .1 .1 .1 .1 .1 .1 .0) (f .fill-all .last .1 .1 .1 .1 .1 .1 .1 .1 .0) (f .fill-all .last .1 .1 .1 .1 .1 .1 .1 .1 .1 .0) (f .fill-all .last .1 .1 .1 .1 .1 .1 .1 .1 .1 .1 .0) (f .fill-all .ensures)
 
 pub write-result-spec : {M : Type 1} → statement M
 write-result-spec =

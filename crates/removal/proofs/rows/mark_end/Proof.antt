@@ -23,7 +23,7 @@ returns : tie.Need-returns
 returns c =
     let a = c .before .before .before .before .before .before .before .before .before .args in
     let x = c .before .before .before .before in
-    rw (eq-eqb (getD (a .s .now) (a .l .out + a .c) 0) 0 (sym (x .before .number-at .ensures) ∙ x .if1 .taken)) (c .before .before .mark-reached .ensures)
+    rw (eq-eqb (getD (a .scratch .now) (a .l .out + a .c) 0) 0 (sym (x .before .number-at .ensures) ∙ x .if1 .taken)) (c .before .before .mark-reached .ensures)
 
 same-length-2 : tie.Need-same-length-2
 same-length-2 c = search needs
@@ -31,7 +31,7 @@ same-length-2 c = search needs
 returns-2 : tie.Need-returns-2
 returns-2 c =
     let a = c .before .before .before .before .before .args in
-    rw (ne-eqb (getD (a .s .now) (a .l .out + a .c) 0) 0 (λ q. c .if1 .left (c .before .number-at .ensures ∙ q)))
+    rw (ne-eqb (getD (a .scratch .now) (a .l .out + a .c) 0) 0 (λ q. c .if1 .left (c .before .number-at .ensures ∙ q)))
 
 pub mark-end-spec : {M : Type 1} → statement M
 mark-end-spec =

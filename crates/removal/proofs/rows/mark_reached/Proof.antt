@@ -9,26 +9,26 @@ use Rattle.removal.proofs.rows.mark_reached.Statement.{statement}
 use Rattle.removal.proofs.rows.mark_reached.Tie as tie
 
 -- the slot stands in the scratch
-inside : (c : tie.After-slot-place) → c .slot-place .result < length (c .before .before .before .args .s .now)
+inside : (c : tie.After-slot-place) → c .slot-place .result < length (c .before .before .before .args .scratch .now)
 inside c =
     let p = c .before .before .before in
-    omega (arith, c .slot-place .ensures, place-inside (p .args .l) (p .args .s .now) (p .pre .0) (p .args .c) (p .args .j) (p .pre .1) (p .pre .2))
+    omega (arith, c .slot-place .ensures, place-inside (p .args .l) (p .args .scratch .now) (p .pre .0) (p .args .c) (p .args .j) (p .pre .1) (p .pre .2))
 
 slot-place-requires : tie.Need-slot-place-requires
 slot-place-requires c κs = search needs
 
-mul-s : tie.Need-mul-s
-mul-s c = omega (arith, inside c)
+mul-scratch : tie.Need-mul-scratch
+mul-scratch c = omega (arith, inside c)
 
-slice-write-s : tie.Need-slice-write-s
-slice-write-s c = inside c
+slice-write-scratch : tie.Need-slice-write-scratch
+slice-write-scratch c = inside c
 
 same-length : tie.Need-same-length
 same-length c = search needs
 
 returns : tie.Need-returns
-returns c = ap (λ (i : ℕ). set (c .before .before .before .args .s .now) i 1) (c .slot-place .ensures)
+returns c = ap (λ (i : ℕ). set (c .before .before .before .args .scratch .now) i 1) (c .slot-place .ensures)
 
 pub mark-reached-spec : {M : Type 1} → statement M
 mark-reached-spec =
-    tie.close (tie.spec slot-place-requires mul-s slice-write-s same-length returns)
+    tie.close (tie.spec slot-place-requires mul-scratch slice-write-scratch same-length returns)

@@ -19,7 +19,7 @@ cast-result c = search needs
 
 returns : tie.Need-returns
 returns c =
-    let p = c .before .before .before in c .number-at .ensures ∙ middle-read (p .args .l) (p .args .s .now) (p .pre .0) (p .args .c) (p .pre .1)
+    let p = c .before .before .before in c .number-at .ensures ∙ middle-read (p .args .l) (p .args .scratch .now) (p .pre .0) (p .args .c) (p .pre .1)
 
 pub middle-at-spec : {M : Type 1} → statement M
 middle-at-spec =

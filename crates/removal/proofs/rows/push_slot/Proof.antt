@@ -13,16 +13,16 @@ use Rattle.removal.proofs.rows.push_slot.Tie as tie
 -- what is read is the flag of the slot
 flag-is : (c : tie.After-number-at) →
     let a = c .before .before .before .before .before .before .before .before .before .args in
-    c .number-at .result ≡ flagOf (a .l) (take (a .l .slots) (a .s .now)) (a .s .now) (a .c) (a .j)
+    c .number-at .result ≡ flagOf (a .l) (take (a .l .slots) (a .scratch .now)) (a .scratch .now) (a .c) (a .j)
 flag-is c =
     let a = c .before .before .before .before .before .before .before .before .before .args in
-    c .number-at .ensures ∙ ap (λ (i : ℕ). getD (a .s .now) i 0) (c .before .before .slot-place .ensures)
+    c .number-at .ensures ∙ ap (λ (i : ℕ). getD (a .scratch .now) i 0) (c .before .before .slot-place .ensures)
 
 slot-place-requires : tie.Need-slot-place-requires
 slot-place-requires c κs =
     let p = c .before .before .before .before .before .before in
     let a = p .args in
-    (ready-held (a .l) (a .flat .now) (a .gs .now) (a .ge .now) (a .gn .now) (a .s .now) (p .pre .0), p .pre .1, p .pre .2)
+    (ready-held (a .l) (a .listed .now) (a .from .now) (a .to .now) (a .via .now) (a .scratch .now) (p .pre .0), p .pre .1, p .pre .2)
 
 number-at-requires : tie.Need-number-at-requires
 number-at-requires c κs = search needs
@@ -33,7 +33,7 @@ same-length c = search needs
 returns : tie.Need-returns
 returns c =
     let a = c .before .before .before .before .before .before .before .before .before .before .args in
-    marking-off (a .l) (a .flat .now) (a .gs .now) (a .ge .now) (a .gn .now) (take (a .l .slots) (a .s .now)) (a .c) (a .s .now) (a .j) (sym (flag-is (c .before)) ∙ c .if1 .taken)
+    marking-off (a .l) (a .listed .now) (a .from .now) (a .to .now) (a .via .now) (take (a .l .slots) (a .scratch .now)) (a .c) (a .scratch .now) (a .j) (sym (flag-is (c .before)) ∙ c .if1 .taken)
 
 push-edges-requires : tie.Need-push-edges-requires
 push-edges-requires c κs =

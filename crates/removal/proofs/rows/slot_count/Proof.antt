@@ -17,7 +17,7 @@ sub-result c =
 
 add-result : tie.Need-add-result
 add-result c =
-    let p = c .before .before .before in omega (arith, c .low-at .ensures, c .before .middle-at .ensures, count-inside (p .args .l) (p .args .s .now) (p .pre .0) (p .args .c) (p .pre .1))
+    let p = c .before .before .before in omega (arith, c .low-at .ensures, c .before .middle-at .ensures, count-inside (p .args .l) (p .args .scratch .now) (p .pre .0) (p .args .c) (p .pre .1))
 
 returns : tie.Need-returns
 returns c = search needs

@@ -11,12 +11,12 @@ use Rattle.removal.proofs.rows.slot_place.Statement.{statement}
 use Rattle.removal.proofs.rows.slot_place.Tie as tie
 
 -- what the table has is where the slots of the copy start, and the slot stands in the scratch
-base : (c : tie.After-number-at) → c .number-at .result ≡ slotBase (boundsIn (c .before .before .before .before .args .l) (take (c .before .before .before .before .args .l .slots) (c .before .before .before .before .args .s .now))) (c .before .before .before .before .args .c)
+base : (c : tie.After-number-at) → c .number-at .result ≡ slotBase (boundsIn (c .before .before .before .before .args .l) (take (c .before .before .before .before .args .l .slots) (c .before .before .before .before .args .scratch .now))) (c .before .before .before .before .args .c)
 base c =
-    let p = c .before .before .before .before in c .number-at .ensures ∙ base-read (p .args .l) (p .args .s .now) (p .pre .0) (p .args .c) (p .pre .1)
+    let p = c .before .before .before .before in c .number-at .ensures ∙ base-read (p .args .l) (p .args .scratch .now) (p .pre .0) (p .args .c) (p .pre .1)
 
-inside : (p : tie.Start) → slotPlace (p .args .l) (take (p .args .l .slots) (p .args .s .now)) (p .args .c) (p .args .j) < length (p .args .s .now)
-inside p = place-inside (p .args .l) (p .args .s .now) (p .pre .0) (p .args .c) (p .args .j) (p .pre .1) (p .pre .2)
+inside : (p : tie.Start) → slotPlace (p .args .l) (take (p .args .l .slots) (p .args .scratch .now)) (p .args .c) (p .args .j) < length (p .args .scratch .now)
+inside p = place-inside (p .args .l) (p .args .scratch .now) (p .pre .0) (p .args .c) (p .args .j) (p .pre .1) (p .pre .2)
 
 mul-number-at : tie.Need-mul-number-at
 mul-number-at c = search needs

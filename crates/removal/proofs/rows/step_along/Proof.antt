@@ -25,7 +25,7 @@ returns c =
     let p = c .before .before .before .before .before .before .before .before .before in
     let a = p .args in
     λ D L G t.
-    along-unlisted D L G (a .l) (a .flat .now) (a .gs .now) (a .ge .now) (a .gn .now) (a .s .now) t (omega (arith, p .pre .0 .room)) (a .e) (a .j) (p .pre .1) (sym (c .before .number-at .ensures) ∙ c .if1 .taken)
+    along-unlisted D L G (a .l) (a .listed .now) (a .from .now) (a .to .now) (a .via .now) (a .scratch .now) t (omega (arith, p .pre .0 .room)) (a .e) (a .j) (p .pre .1) (sym (c .before .number-at .ensures) ∙ c .if1 .taken)
 
 step-listed-requires : tie.Need-step-listed-requires
 step-listed-requires c κs = search needs

@@ -15,10 +15,10 @@ use Rattle.removal.proofs.rows.step_listed.Tie as tie
 
 -- what the searches ask and find is in laws about one set of tables; these say it of the arguments
 module _ (p : tie.Start) where
-  held : Held (p .args .l) (p .args .s .now)
-  held = ready-held (p .args .l) (p .args .flat .now) (p .args .gs .now) (p .args .ge .now) (p .args .gn .now) (p .args .s .now) (p .pre .0)
+  held : Held (p .args .l) (p .args .scratch .now)
+  held = ready-held (p .args .l) (p .args .listed .now) (p .args .from .now) (p .args .to .now) (p .args .via .now) (p .args .scratch .now) (p .pre .0)
 
-  room : p .args .l .slots ≤ length (p .args .s .now)
+  room : p .args .l .slots ≤ length (p .args .scratch .now)
   room = omega (arith, p .pre .0 .room)
 
 -- the ends of the edge are copies
@@ -27,20 +27,20 @@ starts c =
     let p = c .before .before .before .before .before .before in
     let a = p .args in
     let r = p .pre .0 in
-    omega (arith, c .number-at .ensures, start-inside (r .design) (r .list) (r .graph) (a .l) (a .flat .now) (a .gs .now) (a .ge .now) (a .gn .now) (take (a .l .slots) (a .s .now)) (r .tabled) (a .e) (p .pre .1))
+    omega (arith, c .number-at .ensures, start-inside (r .design) (r .list) (r .graph) (a .l) (a .listed .now) (a .from .now) (a .to .now) (a .via .now) (take (a .l .slots) (a .scratch .now)) (r .tabled) (a .e) (p .pre .1))
 
 ends : (c : tie.After-number-at2) → c .number-at2 .result < c .before .before .before .before .before .before .before .args .l .copies
 ends c =
     let p = c .before .before .before .before .before .before .before in
     let a = p .args in
     let r = p .pre .0 in
-    omega (arith, c .number-at2 .ensures, end-inside (r .design) (r .list) (r .graph) (a .l) (a .flat .now) (a .gs .now) (a .ge .now) (a .gn .now) (take (a .l .slots) (a .s .now)) (r .tabled) (a .e) (p .pre .1))
+    omega (arith, c .number-at2 .ensures, end-inside (r .design) (r .list) (r .graph) (a .l) (a .listed .now) (a .from .now) (a .to .now) (a .via .now) (take (a .l .slots) (a .scratch .now)) (r .tabled) (a .e) (p .pre .1))
 
-slot : (c : tie.After-number-at2) → c .before .before .before .before .before .before .before .args .j < slots (boundsIn (c .before .before .before .before .before .before .before .args .l) (take (c .before .before .before .before .before .before .before .args .l .slots) (c .before .before .before .before .before .before .before .args .s .now))) (c .number-at2 .result)
+slot : (c : tie.After-number-at2) → c .before .before .before .before .before .before .before .args .j < slots (boundsIn (c .before .before .before .before .before .before .before .args .l) (take (c .before .before .before .before .before .before .before .args .l .slots) (c .before .before .before .before .before .before .before .args .scratch .now))) (c .number-at2 .result)
 slot c =
     let p = c .before .before .before .before .before .before .before in
     let a = p .args in
-    subst (λ (x : ℕ). a .j < slots (boundsIn (a .l) (take (a .l .slots) (a .s .now))) x) (sym (c .number-at2 .ensures)) (p .pre .2)
+    subst (λ (x : ℕ). a .j < slots (boundsIn (a .l) (take (a .l .slots) (a .scratch .now))) x) (sym (c .number-at2 .ensures)) (p .pre .2)
 
 number-at-requires : tie.Need-number-at-requires
 number-at-requires c κs = search needs
@@ -62,7 +62,7 @@ slot-span-requires c κs =
     let p = c .before .before .before .before .before .before .before .before in
     let a = p .args in
     let r = p .pre .0 in
-    span-asked (r .design) (r .list) (r .graph) (a .l) (a .flat .now) (a .gs .now) (a .ge .now) (a .gn .now) (a .s .now) (r .tabled) (room p) (c .before .number-at2 .result) (c .low-at .result) (a .j) (ends (c .before)) (c .low-at .ensures) (slot (c .before))
+    span-asked (r .design) (r .list) (r .graph) (a .l) (a .listed .now) (a .from .now) (a .to .now) (a .via .now) (a .scratch .now) (r .tabled) (room p) (c .before .number-at2 .result) (c .low-at .result) (a .j) (ends (c .before)) (c .low-at .ensures) (slot (c .before))
 
 low-at-requires-2 : tie.Need-low-at-requires-2
 low-at-requires-2 c κs = (held (c .before .before .before .before .before .before .before .before .before), starts (c .before .before .before))
@@ -83,13 +83,13 @@ step-back-requires c κs =
     let r = p .pre .0 in
     let span = c .before .before .before .before .slot-span in
     let asked =
-    places-asked (r .design) (r .list) (r .graph) (a .l) (a .flat .now) (a .gs .now) (a .ge .now) (a .gn .now) (a .s .now) (r .tabled) (room p) (c .before .before .before .before .before .before .before .number-at .result)
+    places-asked (r .design) (r .list) (r .graph) (a .l) (a .listed .now) (a .from .now) (a .to .now) (a .via .now) (a .scratch .now) (r .tabled) (room p) (c .before .before .before .before .before .before .before .number-at .result)
     (c .before .before .before .low-at2 .result) (c .before .before .middle-at .result) (c .before .high-at .result) (span .result .at) (span .result .len) (starts (c .before .before .before .before .before .before .before))
     (c .before .before .before .low-at2 .ensures) (c .before .before .middle-at .ensures) (c .before .high-at .ensures)
-    (span-within (r .design) (r .list) (r .graph) (a .l) (a .flat .now) (a .gs .now) (a .ge .now) (a .gn .now) (a .s .now) (r .tabled) (room p) (c .before .before .before .before .before .before .number-at2 .result) (c .before .before .before .before .before .low-at .result) (a .j) (span .result .at) (span .result .len)
+    (span-within (r .design) (r .list) (r .graph) (a .l) (a .listed .now) (a .from .now) (a .to .now) (a .via .now) (a .scratch .now) (r .tabled) (room p) (c .before .before .before .before .before .before .number-at2 .result) (c .before .before .before .before .before .low-at .result) (a .j) (span .result .at) (span .result .len)
     (ends (c .before .before .before .before .before .before)) (c .before .before .before .before .before .low-at .ensures) (slot (c .before .before .before .before .before .before)) (span .ensures)) in
     let found =
-    find-asked (r .design) (r .list) (r .graph) (a .l) (a .flat .now) (a .gs .now) (a .ge .now) (a .gn .now) (a .s .now) (r .tabled) (room p) (c .before .before .before .before .before .before .number-at2 .result) (c .before .before .before .before .before .low-at .result) (a .j) (span .result .at) (span .result .len)
+    find-asked (r .design) (r .list) (r .graph) (a .l) (a .listed .now) (a .from .now) (a .to .now) (a .via .now) (a .scratch .now) (r .tabled) (room p) (c .before .before .before .before .before .before .number-at2 .result) (c .before .before .before .before .before .low-at .result) (a .j) (span .result .at) (span .result .len)
     (ends (c .before .before .before .before .before .before)) (c .before .before .before .before .before .low-at .ensures) (slot (c .before .before .before .before .before .before)) (span .ensures) in
     ((asked .0, found), asked .1)
 
@@ -100,12 +100,12 @@ returns c =
     let a = p .args in
     let span = c .before .before .before .before .before .slot-span in
     λ D L G t.
-    along-is D L G (a .l) (a .flat .now) (a .gs .now) (a .ge .now) (a .gn .now) (a .s .now) t (room p)
+    along-is D L G (a .l) (a .listed .now) (a .from .now) (a .to .now) (a .via .now) (a .scratch .now) t (room p)
     (a .e) (a .j) (c .before .before .before .before .before .before .before .before .number-at .result) (c .before .before .before .before .before .before .before .number-at2 .result) (c .before .before .before .before .low-at2 .result) (c .before .before .before .middle-at .result) (c .before .before .high-at .result)
     (c .before .before .before .before .before .before .low-at .result) (span .result .at) (span .result .len) (c .step-back .result)
     (p .pre .1) (c .before .before .before .before .before .before .before .before .number-at .ensures) (c .before .before .before .before .before .before .before .number-at2 .ensures) (p .pre .2) (c .before .before .before .before .before .before .low-at .ensures) (span .ensures)
     (c .before .before .before .before .low-at2 .ensures) (c .before .before .before .middle-at .ensures) (c .before .before .high-at .ensures)
-    (subst (λ (n : ℕ). StepMeets (a .flat .now) (a .s .now) (a .l .rest) (a .l .order) (c .before .before .before .before .low-at2 .result) (c .before .before .before .middle-at .result) (c .before .before .high-at .result) n (span .result .at) (span .result .len) (c .step-back .result))
+    (subst (λ (n : ℕ). StepMeets (a .listed .now) (a .scratch .now) (a .l .rest) (a .l .order) (c .before .before .before .before .low-at2 .result) (c .before .before .before .middle-at .result) (c .before .before .high-at .result) n (span .result .at) (span .result .len) (c .step-back .result))
     (c .before .number-at3 .ensures) (c .step-back .ensures))
 
 pub step-listed-spec : {M : Type 1} → statement M

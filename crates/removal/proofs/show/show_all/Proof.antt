@@ -8,16 +8,16 @@ use Rattle.removal.proofs.show.show_all.Statement.{statement}
 use Rattle.removal.proofs.show.show_all.Tie as tie
 
 abbrev Inv-loop : tie.InvT-loop
-Inv-loop l flat gs ge gn s₀ counts₀ c₀ s counts c =
-    (c ≤ l .copies) × PassedTo l flat gs ge gn s₀ s 0 0 0 c 0 (counts .copies) (counts .edges)
+Inv-loop l listed from to via s₀ counts₀ c₀ s counts c =
+    (c ≤ l .copies) × PassedTo l listed from to via s₀ s 0 0 0 c 0 (counts .copies) (counts .edges)
 
 abbrev μ-loop : tie.MeasureT-loop
-μ-loop l flat gs ge gn s₀ counts₀ c₀ s counts c = l .copies - c
+μ-loop l listed from to via s₀ counts₀ c₀ s counts c = l .copies - c
 
 loop-holds : tie.Need-loop-holds Inv-loop μ-loop
 loop-holds c =
     let a = c .before .before .before .before .before .args in
-    (omega arith, to-start (a .l) (a .flat .now) (a .gs .now) (a .ge .now) (a .gn .now) (a .s .now) 0 0 0 (omega arith) (omega arith))
+    (omega arith, to-start (a .l) (a .listed .now) (a .from .now) (a .to .now) (a .via .now) (a .scratch .now) 0 0 0 (omega arith) (omega arith))
 
 show-copy-requires : tie.Need-show-copy-requires Inv-loop μ-loop
 show-copy-requires c κs =
@@ -25,8 +25,8 @@ show-copy-requires c κs =
     let b = l .before .before .before .before .before .before in
     let a = b .args in
     let n = l .loop in
-    let next = to-next (a .l) (a .flat .now) (a .gs .now) (a .ge .now) (a .gn .now) (a .s .now) (n .s) 0 0 0 (n .c) 0 (n .counts .copies) (n .counts .edges) (n .inv .1) refl in (
-      to-ready (a .l) (a .flat .now) (a .gs .now) (a .ge .now) (a .gn .now) (a .s .now) (n .s) 0 0 0 (n .c) 0 (n .counts .copies) (n .counts .edges) (n .inv .1) (b .pre),
+    let next = to-next (a .l) (a .listed .now) (a .from .now) (a .to .now) (a .via .now) (a .scratch .now) (n .scratch) 0 0 0 (n .c) 0 (n .counts .copies) (n .counts .edges) (n .inv .1) refl in (
+      to-ready (a .l) (a .listed .now) (a .from .now) (a .to .now) (a .via .now) (a .scratch .now) (n .scratch) 0 0 0 (n .c) 0 (n .counts .copies) (n .counts .edges) (n .inv .1) (b .pre),
       (c .before .if1 .taken, next .0, next .1),
     )
 
@@ -44,7 +44,7 @@ loop-again c =
     let a = b .args in
     let n = l .loop in (
       omega arith,
-      to-more (a .l) (a .flat .now) (a .gs .now) (a .ge .now) (a .gn .now) (a .s .now) (n .s) (w .show-copy .last .1 .1 .1 .1 .1 .0) 0 0 0 (n .c) (n .counts .copies) (n .counts .edges)
+      to-more (a .l) (a .listed .now) (a .from .now) (a .to .now) (a .via .now) (a .scratch .now) (n .scratch) (w .show-copy .last .1 .1 .1 .1 .1 .0) 0 0 0 (n .c) (n .counts .copies) (n .counts .edges)
           (n .c + 1) (w .show-copy .result .copies) (w .show-copy .result .edges) (n .inv .1) (w .show-copy .ensures),
     )
 
@@ -56,7 +56,7 @@ returns c =
     let l = c .before .before in
     let a = l .before .before .before .before .before .before .args in
     let n = l .loop in
-    to-all (a .l) (a .flat .now) (a .gs .now) (a .ge .now) (a .gn .now) (a .s .now) (n .s) (n .c) (n .counts .copies) (n .counts .edges) (omega (arith, n .inv .0, c .if1 .left)) (n .inv .1)
+    to-all (a .l) (a .listed .now) (a .from .now) (a .to .now) (a .via .now) (a .scratch .now) (n .scratch) (n .c) (n .counts .copies) (n .counts .edges) (omega (arith, n .inv .0, c .if1 .left)) (n .inv .1)
 
 pub show-all-spec : {M : Type 1} → statement M
 show-all-spec =

@@ -8,23 +8,23 @@ use Rattle.removal.proofs.show.show_copy.Statement.{statement}
 use Rattle.removal.proofs.show.show_copy.Tie as tie
 
 abbrev Inv-loop : tie.InvT-loop
-Inv-loop l flat gs ge gn s₀ c count so-far₀ j₀ s so-far j =
-    (j ≤ count) × PassedTo l flat gs ge gn s₀ s c (so-far₀ .copies) (so-far₀ .edges) c j (so-far .copies) (so-far .edges)
+Inv-loop l listed from to via s₀ c count so-far₀ j₀ s so-far j =
+    (j ≤ count) × PassedTo l listed from to via s₀ s c (so-far₀ .copies) (so-far₀ .edges) c j (so-far .copies) (so-far .edges)
 
 abbrev μ-loop : tie.MeasureT-loop
-μ-loop l flat gs ge gn s₀ c count so-far₀ j₀ s so-far j = count - j
+μ-loop l listed from to via s₀ c count so-far₀ j₀ s so-far j = count - j
 
 slot-count-requires : tie.Need-slot-count-requires Inv-loop μ-loop
 slot-count-requires c κs =
     let b = c .before .before .before .before .before .before in
     let a = b .args in
-    (ready-held (a .l) (a .flat .now) (a .gs .now) (a .ge .now) (a .gn .now) (a .s .now) (b .pre .0), b .pre .1 .0)
+    (ready-held (a .l) (a .listed .now) (a .from .now) (a .to .now) (a .via .now) (a .scratch .now) (b .pre .0), b .pre .1 .0)
 
 loop-holds : tie.Need-loop-holds Inv-loop μ-loop
 loop-holds c =
     let b = c .before .before .before .before .before .before .before in
     let a = b .args in
-    (omega arith, to-start (a .l) (a .flat .now) (a .gs .now) (a .ge .now) (a .gn .now) (a .s .now) (a .c) (a .counts .copies) (a .counts .edges) (b .pre .1 .1) (b .pre .1 .2))
+    (omega arith, to-start (a .l) (a .listed .now) (a .from .now) (a .to .now) (a .via .now) (a .scratch .now) (a .c) (a .counts .copies) (a .counts .edges) (b .pre .1 .1) (b .pre .1 .2))
 
 show-slot-requires : tie.Need-show-slot-requires Inv-loop μ-loop
 show-slot-requires c κs =
@@ -32,8 +32,8 @@ show-slot-requires c κs =
     let b = l .before .before .before .before .before .before .before .before in
     let a = b .args in
     let n = l .loop in (
-      to-ready (a .l) (a .flat .now) (a .gs .now) (a .ge .now) (a .gn .now) (a .s .now) (n .s) (a .c) (a .counts .copies) (a .counts .edges) (a .c) (n .j) (n .so-far .copies) (n .so-far .edges) (n .inv .1) (b .pre .0),
-      to-room (a .l) (a .flat .now) (a .gs .now) (a .ge .now) (a .gn .now) (a .s .now) (n .s) (a .c) (a .counts .copies) (a .counts .edges) (a .c) (n .j) (n .so-far .copies) (n .so-far .edges) (n .inv .1) (b .pre .1 .0)
+      to-ready (a .l) (a .listed .now) (a .from .now) (a .to .now) (a .via .now) (a .scratch .now) (n .scratch) (a .c) (a .counts .copies) (a .counts .edges) (a .c) (n .j) (n .so-far .copies) (n .so-far .edges) (n .inv .1) (b .pre .0),
+      to-room (a .l) (a .listed .now) (a .from .now) (a .to .now) (a .via .now) (a .scratch .now) (n .scratch) (a .c) (a .counts .copies) (a .counts .edges) (a .c) (n .j) (n .so-far .copies) (n .so-far .edges) (n .inv .1) (b .pre .1 .0)
           (omega (arith, l .before .slot-count .ensures, c .before .loop-test .taken)),
     )
 
@@ -51,7 +51,7 @@ loop-again c =
     let a = b .args in
     let n = l .loop in (
       omega arith,
-      to-slot (a .l) (a .flat .now) (a .gs .now) (a .ge .now) (a .gn .now) (a .s .now) (n .s) (w .show-slot .last .1 .1 .1 .1 .1 .0) (a .c) (a .counts .copies) (a .counts .edges) (n .j)
+      to-slot (a .l) (a .listed .now) (a .from .now) (a .to .now) (a .via .now) (a .scratch .now) (n .scratch) (w .show-slot .last .1 .1 .1 .1 .1 .0) (a .c) (a .counts .copies) (a .counts .edges) (n .j)
           (n .so-far .copies) (n .so-far .edges) (w .show-slot .result .copies) (w .show-slot .result .edges) (b .pre .1 .0)
           (omega (arith, l .before .slot-count .ensures, w .before .before .loop-test .taken)) (n .inv .1) (w .show-slot .ensures),
     )
@@ -65,7 +65,7 @@ returns c =
     let b = l .before .before .before .before .before .before .before .before in
     let a = b .args in
     let n = l .loop in
-    to-copy (a .l) (a .flat .now) (a .gs .now) (a .ge .now) (a .gn .now) (a .s .now) (n .s) (n .s) (a .c) (a .counts .copies) (a .counts .edges) (n .j) (n .so-far .copies) (n .so-far .edges)
+    to-copy (a .l) (a .listed .now) (a .from .now) (a .to .now) (a .via .now) (a .scratch .now) (n .scratch) (n .scratch) (a .c) (a .counts .copies) (a .counts .edges) (n .j) (n .so-far .copies) (n .so-far .edges)
     (omega (arith, l .before .slot-count .ensures, n .inv .0, c .loop-test .left)) (n .inv .1)
 
 pub show-copy-spec : {M : Type 1} → statement M

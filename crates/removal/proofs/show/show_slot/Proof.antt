@@ -17,20 +17,20 @@ slot-place-requires : tie.Need-slot-place-requires
 slot-place-requires c κs =
     let b = c .before .before .before .before .before .before in
     let a = b .args in
-    (ready-held (a .l) (a .flat .now) (a .gs .now) (a .ge .now) (a .gn .now) (a .s .now) (b .pre .0), b .pre .1 .copy, b .pre .1 .slot)
+    (ready-held (a .l) (a .listed .now) (a .from .now) (a .to .now) (a .via .now) (a .scratch .now) (b .pre .0), b .pre .1 .copy, b .pre .1 .slot)
 
 -- the slot's word, and the words of the chains, lie inside
-wide : (c : tie.After-slice-known) → 4 * length (c .before .before .before .before .before .args .s .now) < 18446744073709551616
+wide : (c : tie.After-slice-known) → 4 * length (c .before .before .before .before .before .args .scratch .now) < 18446744073709551616
 wide c = omega arith
 
-inside : (c : tie.After-slot-place) → c .slot-place .result < length (c .before .before .before .before .before .before .before .args .s .now)
+inside : (c : tie.After-slot-place) → c .slot-place .result < length (c .before .before .before .before .before .before .before .args .scratch .now)
 inside c =
     let b = c .before .before .before .before .before .before .before in
     let a = b .args in
     omega (
       arith,
       c .slot-place .ensures,
-      place-inside (a .l) (a .s .now) (ready-held (a .l) (a .flat .now) (a .gs .now) (a .ge .now) (a .gn .now) (a .s .now) (b .pre .0)) (a .c) (a .j) (b .pre .1 .copy) (b .pre .1 .slot),
+      place-inside (a .l) (a .scratch .now) (ready-held (a .l) (a .listed .now) (a .from .now) (a .to .now) (a .via .now) (a .scratch .now) (b .pre .0)) (a .c) (a .j) (b .pre .1 .copy) (b .pre .1 .slot),
     )
 
 -- so many copies have numbers of 32 bits
@@ -38,7 +38,7 @@ few : (c : tie.After-slot-place) → c .before .before .before .before .before .
 few c =
     let b = c .before .before .before .before .before .before .before in
     let a = b .args in
-    omega (arith, b .pre .1 .few-copies, b .pre .1 .slot, b .pre .0 .few, base-up (boundsIn (a .l) (take (a .l .slots) (a .s .now))) (a .c) (a .l .copies) (b .pre .1 .copy))
+    omega (arith, b .pre .1 .few-copies, b .pre .1 .slot, b .pre .0 .few, base-up (boundsIn (a .l) (take (a .l .slots) (a .scratch .now))) (a .c) (a .l .copies) (b .pre .1 .copy))
 
 mul-if1 : tie.Need-mul-if1
 mul-if1 c = omega (arith, inside c, wide (c .before .before))
@@ -54,8 +54,8 @@ returns c =
     let d = c .before .before in
     let b = d .before .before .before .before .before .before .before in
     let a = b .args in
-    not-reached (a .l) (a .flat .now) (a .gs .now) (a .ge .now) (a .gn .now) (a .s .now) (b .pre .0) (a .c) (a .j) (a .counts .copies) (a .counts .edges) (b .pre .1)
-    (subst (λ (i : ℕ). getD (a .s .now) i 0 ≡ 0) (d .slot-place .ensures) (c .if1 .taken))
+    not-reached (a .l) (a .listed .now) (a .from .now) (a .to .now) (a .via .now) (a .scratch .now) (b .pre .0) (a .c) (a .j) (a .counts .copies) (a .counts .edges) (b .pre .1)
+    (subst (λ (i : ℕ). getD (a .scratch .now) i 0 ≡ 0) (d .slot-place .ensures) (c .if1 .taken))
 
 shown-edges-requires : tie.Need-shown-edges-requires
 shown-edges-requires c κs = search needs
@@ -68,7 +68,7 @@ mul-if3 c =
     let d = c .before .before .before .before .before .before in
     let b = d .before .before .before .before .before .before .before in
     let a = b .args in
-    omega (arith, wide (d .before .before), b .pre .1 .copy, chain-room (a .l) (a .flat .now) (a .gs .now) (a .ge .now) (a .gn .now) (a .s .now) (b .pre .0))
+    omega (arith, wide (d .before .before), b .pre .1 .copy, chain-room (a .l) (a .listed .now) (a .from .now) (a .to .now) (a .via .now) (a .scratch .now) (b .pre .0))
 
 slice-read-if3 : tie.Need-slice-read-if3
 slice-read-if3 c = search needs
@@ -81,22 +81,22 @@ returns-2 c =
     let e = c .before .before .before .before in
     let b = e .before .before .before .before .before .before .before .before .before .before .before in
     let a = b .args in
-    not-shown (a .l) (a .flat .now) (a .gs .now) (a .ge .now) (a .gn .now) (a .s .now) (b .pre .0) (a .c) (a .j) (a .counts .copies) (a .counts .edges) (b .pre .1)
+    not-shown (a .l) (a .listed .now) (a .from .now) (a .to .now) (a .via .now) (a .scratch .now) (b .pre .0) (a .c) (a .j) (a .counts .copies) (a .counts .edges) (b .pre .1)
     (e .shown-edges .result) (e .shown-edges .ensures) (c .before .before .if2 .taken) (c .if3 .taken)
 
-add-s : tie.Need-add-s
-add-s c = search needs
+add-scratch : tie.Need-add-scratch
+add-scratch c = search needs
 
-cast-s : tie.Need-cast-s
-cast-s c = omega (arith, few (c .before .before .before .before .before .before .before))
+cast-scratch : tie.Need-cast-scratch
+cast-scratch c = omega (arith, few (c .before .before .before .before .before .before .before))
 
-mul-s : tie.Need-mul-s
-mul-s c =
+mul-scratch : tie.Need-mul-scratch
+mul-scratch c =
     let d = c .before .before .before .before .before .before .before in
     omega (arith, inside d, wide (d .before .before))
 
-slice-write-s : tie.Need-slice-write-s
-slice-write-s c = inside (c .before .before .before .before .before .before .before)
+slice-write-scratch : tie.Need-slice-write-scratch
+slice-write-scratch c = inside (c .before .before .before .before .before .before .before)
 
 add-t15 : tie.Need-add-t15
 add-t15 c = omega (arith, few (c .before .before .before .before .before .before .before .before))
@@ -120,12 +120,12 @@ returns-3 c =
     let a = b .args in
     subst
     (λ (i : ℕ).
-    SlotShown (a .l) (a .flat .now) (a .gs .now) (a .ge .now) (a .gn .now) (a .s .now) (set (a .s .now) i (a .counts .copies + 2)) (a .c) (a .j) (a .counts .copies) (a .counts .edges)
+    SlotShown (a .l) (a .listed .now) (a .from .now) (a .to .now) (a .via .now) (a .scratch .now) (set (a .scratch .now) i (a .counts .copies + 2)) (a .c) (a .j) (a .counts .copies) (a .counts .edges)
     (a .counts .copies + 1) (a .counts .edges + e .shown-edges .result))
     (sym (d .slot-place .ensures))
-    (is-shown (a .l) (a .flat .now) (a .gs .now) (a .ge .now) (a .gn .now) (a .s .now) (b .pre .0) (a .c) (a .j) (a .counts .copies) (a .counts .edges) (b .pre .1)
+    (is-shown (a .l) (a .listed .now) (a .from .now) (a .to .now) (a .via .now) (a .scratch .now) (b .pre .0) (a .c) (a .j) (a .counts .copies) (a .counts .edges) (b .pre .1)
     (e .shown-edges .result) (e .shown-edges .ensures)
-    (λ z. e .before .before .if1 .left (subst (λ (i : ℕ). getD (a .s .now) i 0 ≡ 0) (sym (d .slot-place .ensures)) z))
+    (λ z. e .before .before .if1 .left (subst (λ (i : ℕ). getD (a .scratch .now) i 0 ≡ 0) (sym (d .slot-place .ensures)) z))
     (⊎-elim (λ w. inr (w .2 .left)) (λ w. inl (w .left)) (n .if2 .came)))
 
 pub show-slot-spec : {M : Type 1} → statement M
@@ -143,10 +143,10 @@ show-slot-spec =
     slice-read-if3
     same-length-2
     returns-2
-    add-s
-    cast-s
-    mul-s
-    slice-write-s
+    add-scratch
+    cast-scratch
+    mul-scratch
+    slice-write-scratch
     add-t15
     add-t25
     same-length-3

@@ -13,19 +13,19 @@ use Rattle.removal.proofs.show.shown_edges.Statement.{statement}
 use Rattle.removal.proofs.show.shown_edges.Tie as tie
 
 abbrev Inv-loop : tie.InvT-loop
-Inv-loop l flat gs ge gn s c j first next count₀ h₀ count h = Counting l flat gs ge gn s c j count h
+Inv-loop l listed from to via s c j first next count₀ h₀ count h = Counting l listed from to via s c j count h
 
 abbrev μ-loop : tie.MeasureT-loop
-μ-loop l flat gs ge gn s c j first next count₀ h₀ count h = chainLeft (l .edges) h
+μ-loop l listed from to via s c j first next count₀ h₀ count h = chainLeft (l .edges) h
 
 -- the chains lie inside
 room : (c : tie.After-struct-known Inv-loop μ-loop) →
     let a = c .before .before .before .before .before .before .args in
-    a .l .into + (a .l .copies + a .l .edges) ≤ length (a .s .now)
+    a .l .into + (a .l .copies + a .l .edges) ≤ length (a .scratch .now)
 room c =
     let b = c .before .before .before .before .before .before in
     let a = b .args in
-    chain-room (a .l) (a .flat .now) (a .gs .now) (a .ge .now) (a .gn .now) (a .s .now) (b .pre .0)
+    chain-room (a .l) (a .listed .now) (a .from .now) (a .to .now) (a .via .now) (a .scratch .now) (b .pre .0)
 
 wide : (c : tie.After-struct-known Inv-loop μ-loop) →
     let a = c .before .before .before .before .before .before .args in
@@ -53,7 +53,7 @@ loop-holds : tie.Need-loop-holds Inv-loop μ-loop
 loop-holds c =
     let b = c .before .before .before .before .before .before .before .before in
     let a = b .args in
-    counting-start (a .l) (a .flat .now) (a .gs .now) (a .ge .now) (a .gn .now) (a .s .now) (b .pre .0) (a .c) (a .j) (b .pre .1 .0)
+    counting-start (a .l) (a .listed .now) (a .from .now) (a .to .now) (a .via .now) (a .scratch .now) (b .pre .0) (a .c) (a .j) (b .pre .1 .0)
 
 sub-e : tie.Need-sub-e Inv-loop μ-loop
 sub-e c = omega arith
@@ -61,11 +61,11 @@ sub-e c = omega arith
 -- the edge of a turn
 edge : (c : tie.In-loop Inv-loop μ-loop) →
     let a = c .before .before .before .before .before .before .before .before .before .before .args in
-    (c .before .loop .h - 1 < a .l .edges) × (getD (a .ge .now) (c .before .loop .h - 1) 0 ≡ a .c) × (c .before .loop .count ≤ c .before .loop .h - 1)
+    (c .before .loop .h - 1 < a .l .edges) × (getD (a .to .now) (c .before .loop .h - 1) 0 ≡ a .c) × (c .before .loop .count ≤ c .before .loop .h - 1)
 edge c =
     let b = c .before .before .before .before .before .before .before .before .before .before in
     let a = b .args in
-    counting-edge (a .l) (a .flat .now) (a .gs .now) (a .ge .now) (a .gn .now) (a .s .now) (b .pre .0) (a .c) (a .j) (b .pre .1 .0)
+    counting-edge (a .l) (a .listed .now) (a .from .now) (a .to .now) (a .via .now) (a .scratch .now) (b .pre .0) (a .c) (a .j) (b .pre .1 .0)
     (c .before .loop .count) (c .before .loop .h) (c .before .loop .inv) (c .loop-test .taken)
 
 shown-start-requires : tie.Need-shown-start-requires Inv-loop μ-loop
@@ -73,7 +73,7 @@ shown-start-requires c κs =
     let b = c .before .before .before .before .before .before .before .before .before .before in
     let a = b .args in (
       b .pre .0,
-      (edge c .0, subst (λ (d : ℕ). a .j < slots (boundsIn (a .l) (take (a .l .slots) (a .s .now))) d) (sym (edge c .1)) (b .pre .1 .1)),
+      (edge c .0, subst (λ (d : ℕ). a .j < slots (boundsIn (a .l) (take (a .l .slots) (a .scratch .now))) d) (sym (edge c .1)) (b .pre .1 .1)),
     )
 
 add-count : tie.Need-add-count Inv-loop μ-loop
@@ -101,7 +101,7 @@ loop-less c =
     let i = c .before .before .before in
     let b = i .before .before .before .before .before .before .before .before .before .before in
     let a = b .args in
-    counting-falls (a .l) (a .flat .now) (a .gs .now) (a .ge .now) (a .gn .now) (a .s .now) (b .pre .0) (a .c) (a .j) (b .pre .1 .0)
+    counting-falls (a .l) (a .listed .now) (a .from .now) (a .to .now) (a .via .now) (a .scratch .now) (b .pre .0) (a .c) (a .j) (b .pre .1 .0)
     (i .before .loop .count) (i .before .loop .h) (i .before .loop .inv) (i .loop-test .taken)
 
 loop-again : tie.Need-loop-again Inv-loop μ-loop
@@ -112,10 +112,10 @@ loop-again c =
     let v = c .before .before .shown-start in
     ⊎-elim
     (λ w.
-    counting-take (a .l) (a .flat .now) (a .gs .now) (a .ge .now) (a .gn .now) (a .s .now) (b .pre .0) (a .c) (a .j) (b .pre .1 .0)
+    counting-take (a .l) (a .listed .now) (a .from .now) (a .to .now) (a .via .now) (a .scratch .now) (b .pre .0) (a .c) (a .j) (b .pre .1 .0)
     (i .before .loop .count) (i .before .loop .h) (i .before .loop .inv) (i .loop-test .taken) (v .result) (c .before .if1 .count) (v .ensures) (w .0 .taken) (w .1))
     (λ w.
-    counting-skip (a .l) (a .flat .now) (a .gs .now) (a .ge .now) (a .gn .now) (a .s .now) (b .pre .0) (a .c) (a .j) (b .pre .1 .0)
+    counting-skip (a .l) (a .listed .now) (a .from .now) (a .to .now) (a .via .now) (a .scratch .now) (b .pre .0) (a .c) (a .j) (b .pre .1 .0)
     (i .before .loop .count) (i .before .loop .h) (i .before .loop .inv) (i .loop-test .taken) (v .result) (c .before .if1 .count) (v .ensures) (w .0 .left) (w .1))
     (c .before .if1 .came)
 
@@ -123,7 +123,7 @@ returns : tie.Need-returns Inv-loop μ-loop
 returns c =
     let b = c .before .before .before .before .before .before .before .before .before .before in
     let a = b .args in
-    counting-done (a .l) (a .flat .now) (a .gs .now) (a .ge .now) (a .gn .now) (a .s .now) (b .pre .0) (a .c) (a .j) (b .pre .1 .0)
+    counting-done (a .l) (a .listed .now) (a .from .now) (a .to .now) (a .via .now) (a .scratch .now) (b .pre .0) (a .c) (a .j) (b .pre .1 .0)
     (c .before .loop .count) (c .before .loop .h) (c .before .loop .inv) (c .loop-test .left)
 
 pub shown-edges-spec : {M : Type 1} → statement M

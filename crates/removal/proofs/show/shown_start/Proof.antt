@@ -32,10 +32,10 @@ cast-slot-place c = omega (arith, c .shared-slice-known6 .given (c .before .befo
 -- the step is live at this slot, which is one of the edge's start
 along : (c : tie.After-step) →
     let a = c .before .before .before .before .before .before .before .before .args in
-    StepAlong (a .l) (a .flat .now) (a .gs .now) (a .ge .now) (a .gn .now) (take (a .l .slots) (a .s .now)) (a .e) (a .j) (Live (c .step .given .0 .0))
+    StepAlong (a .l) (a .listed .now) (a .from .now) (a .to .now) (a .via .now) (take (a .l .slots) (a .scratch .now)) (a .e) (a .j) (Live (c .step .given .0 .0))
 along c =
     let a = c .before .before .before .before .before .before .before .before .args in
-    subst (λ (r : Step). StepAlong (a .l) (a .flat .now) (a .gs .now) (a .ge .now) (a .gn .now) (take (a .l .slots) (a .s .now)) (a .e) (a .j) r)
+    subst (λ (r : Step). StepAlong (a .l) (a .listed .now) (a .from .now) (a .to .now) (a .via .now) (take (a .l .slots) (a .scratch .now)) (a .e) (a .j) r)
     (c .step .given .1) (c .before .before .step-along .ensures)
 
 slot-place-requires : tie.Need-slot-place-requires
@@ -44,12 +44,12 @@ slot-place-requires c κs =
     let b = d .before .before .before .before .before .before .before .before in
     let a = b .args in
     let r = b .pre .0 in (
-      ready-held (a .l) (a .flat .now) (a .gs .now) (a .ge .now) (a .gn .now) (a .s .now) r,
-      start-inside (r .design) (r .list) (r .graph) (a .l) (a .flat .now) (a .gs .now) (a .ge .now) (a .gn .now) (take (a .l .slots) (a .s .now)) (r .tabled) (a .e) (b .pre .1 .0),
-      live-inside (a .l) (a .flat .now) (a .gs .now) (a .ge .now) (a .gn .now) (a .s .now) (a .e) (a .j) (d .step .given .0 .0) (along d) r,
+      ready-held (a .l) (a .listed .now) (a .from .now) (a .to .now) (a .via .now) (a .scratch .now) r,
+      start-inside (r .design) (r .list) (r .graph) (a .l) (a .listed .now) (a .from .now) (a .to .now) (a .via .now) (take (a .l .slots) (a .scratch .now)) (r .tabled) (a .e) (b .pre .1 .0),
+      live-inside (a .l) (a .listed .now) (a .from .now) (a .to .now) (a .via .now) (a .scratch .now) (a .e) (a .j) (d .step .given .0 .0) (along d) r,
     )
 
-inside : (c : tie.After-slot-place) → c .slot-place .result < length (c .before .before .before .before .before .before .before .before .before .before .before .args .s .now)
+inside : (c : tie.After-slot-place) → c .slot-place .result < length (c .before .before .before .before .before .before .before .before .before .before .before .args .scratch .now)
 inside c =
     let d = c .before .before .before in
     let b = d .before .before .before .before .before .before .before .before in
@@ -58,9 +58,9 @@ inside c =
     omega (
       arith,
       c .slot-place .ensures,
-      place-inside (a .l) (a .s .now) (ready-held (a .l) (a .flat .now) (a .gs .now) (a .ge .now) (a .gn .now) (a .s .now) r) (getD (a .gs .now) (a .e) 0) (d .step .given .0 .0)
-          (start-inside (r .design) (r .list) (r .graph) (a .l) (a .flat .now) (a .gs .now) (a .ge .now) (a .gn .now) (take (a .l .slots) (a .s .now)) (r .tabled) (a .e) (b .pre .1 .0))
-          (live-inside (a .l) (a .flat .now) (a .gs .now) (a .ge .now) (a .gn .now) (a .s .now) (a .e) (a .j) (d .step .given .0 .0) (along d) r),
+      place-inside (a .l) (a .scratch .now) (ready-held (a .l) (a .listed .now) (a .from .now) (a .to .now) (a .via .now) (a .scratch .now) r) (getD (a .from .now) (a .e) 0) (d .step .given .0 .0)
+          (start-inside (r .design) (r .list) (r .graph) (a .l) (a .listed .now) (a .from .now) (a .to .now) (a .via .now) (take (a .l .slots) (a .scratch .now)) (r .tabled) (a .e) (b .pre .1 .0))
+          (live-inside (a .l) (a .listed .now) (a .from .now) (a .to .now) (a .via .now) (a .scratch .now) (a .e) (a .j) (d .step .given .0 .0) (along d) r),
     )
 
 mul-v : tie.Need-mul-v
@@ -77,23 +77,23 @@ returns c =
     let d = c .before .before .before .before .before in
     let a = d .before .before .before .before .before .before .before .before .args in
     let q = c .before .before .slot-place .ensures in
-    subst (λ (i : ℕ). StartMeets (a .l) (a .flat .now) (a .gs .now) (a .ge .now) (a .gn .now) (a .s .now) (a .e) (a .j) (getD (a .s .now) i 0)) (sym q)
-    (live-shown (a .l) (a .flat .now) (a .gs .now) (a .ge .now) (a .gn .now) (a .s .now) (a .e) (a .j) (d .step .given .0 .0) (along d)
-    (subst (λ (i : ℕ). 2 ≤ getD (a .s .now) i 0) q (c .if1 .taken)))
+    subst (λ (i : ℕ). StartMeets (a .l) (a .listed .now) (a .from .now) (a .to .now) (a .via .now) (a .scratch .now) (a .e) (a .j) (getD (a .scratch .now) i 0)) (sym q)
+    (live-shown (a .l) (a .listed .now) (a .from .now) (a .to .now) (a .via .now) (a .scratch .now) (a .e) (a .j) (d .step .given .0 .0) (along d)
+    (subst (λ (i : ℕ). 2 ≤ getD (a .scratch .now) i 0) q (c .if1 .taken)))
 
 returns-2 : tie.Need-returns-2
 returns-2 c =
     let d = c .before .before .before .before .before in
     let a = d .before .before .before .before .before .before .before .before .args in
     let q = c .before .before .slot-place .ensures in
-    live-hidden (a .l) (a .flat .now) (a .gs .now) (a .ge .now) (a .gn .now) (a .s .now) (a .e) (a .j) (d .step .given .0 .0) (along d)
-    (subst (λ (i : ℕ). getD (a .s .now) i 0 < 2) q (c .if1 .left))
+    live-hidden (a .l) (a .listed .now) (a .from .now) (a .to .now) (a .via .now) (a .scratch .now) (a .e) (a .j) (d .step .given .0 .0) (along d)
+    (subst (λ (i : ℕ). getD (a .scratch .now) i 0 < 2) q (c .if1 .left))
 
 returns-3 : tie.Need-returns-3
 returns-3 c =
     let a = c .before .before .before .before .before .before .before .before .args in
-    dead-start (a .l) (a .flat .now) (a .gs .now) (a .ge .now) (a .gn .now) (a .s .now) (a .e) (a .j)
-    (subst (λ (r : Step). StepAlong (a .l) (a .flat .now) (a .gs .now) (a .ge .now) (a .gn .now) (take (a .l .slots) (a .s .now)) (a .e) (a .j) r)
+    dead-start (a .l) (a .listed .now) (a .from .now) (a .to .now) (a .via .now) (a .scratch .now) (a .e) (a .j)
+    (subst (λ (r : Step). StepAlong (a .l) (a .listed .now) (a .from .now) (a .to .now) (a .via .now) (take (a .l .slots) (a .scratch .now)) (a .e) (a .j) r)
     (c .enum-told .given .1) (c .before .before .step-along .ensures))
 
 pub shown-start-spec : {M : Type 1} → statement M

@@ -16,23 +16,23 @@ use Rattle.removal.proofs.step.comes_before.Statement.{statement}
 use Rattle.removal.proofs.step.comes_before.Tie as tie
 
 abbrev rests : tie.Start → List ℕ
-rests b = table (b .args .s .now) (b .args .rest) (length (b .args .flat .now))
+rests b = table (b .args .scratch .now) (b .args .rest) (length (b .args .listed .now))
 
 abbrev ranks : tie.Start → List ℕ
-ranks b = table (b .args .s .now) (b .args .rank) (length (b .args .flat .now))
+ranks b = table (b .args .scratch .now) (b .args .rank) (length (b .args .listed .now))
 
-small : (b : tie.Start) → b .args .len ≤ length (b .args .flat .now)
-small b = mark-small (b .args .flat .now) (rests b) (b .args .at) (b .args .len) (b .pre .1 .falls) (b .pre .2)
+small : (b : tie.Start) → b .args .len ≤ length (b .args .listed .now)
+small b = mark-small (b .args .listed .now) (rests b) (b .args .at) (b .args .len) (b .pre .1 .falls) (b .pre .2)
 
 -- the position, and how many edges it has
-module _ (b : tie.Start) (i n : ℕ) (p : i ≡ getD (b .args .s .now) (b .args .order + b .args .t) 0) (q : n ≡ getD (b .args .s .now) (b .args .rest + i) 0) where
-  inside : i < length (b .args .flat .now)
+module _ (b : tie.Start) (i n : ℕ) (p : i ≡ getD (b .args .scratch .now) (b .args .order + b .args .t) 0) (q : n ≡ getD (b .args .scratch .now) (b .args .rest + i) 0) where
+  inside : i < length (b .args .listed .now)
   inside = omega (arith, b .pre .0 .inside)
 
   size : getD (rests b) i 0 ≡ n
-  size = table-at (b .args .s .now) (b .args .rest) (length (b .args .flat .now)) i inside ∙ sym q
+  size = table-at (b .args .scratch .now) (b .args .rest) (length (b .args .listed .now)) i inside ∙ sym q
 
-  whole : i + n ≤ length (b .args .flat .now)
+  whole : i + n ≤ length (b .args .listed .now)
   whole = omega (arith, b .pre .1 .falls .inside i inside, size)
 
 add-number-at : tie.Need-add-number-at
@@ -65,8 +65,8 @@ returns c =
     let a = b .args in
     let i = c .before .before .number-at in
     let n = c .before .number-at2 in
-    key-size (a .flat .now) (i .result) (n .result) (a .name) (a .at) (a .len) (a .len + 1) (c .if1 .taken)
-    ∙ key-is (a .flat .now) (a .s .now) (a .rest) (a .order) (a .t) (a .name) (a .at) (a .len) (a .len + 1) (i .result) (n .result) (i .ensures) (n .ensures)
+    key-size (a .listed .now) (i .result) (n .result) (a .name) (a .at) (a .len) (a .len + 1) (c .if1 .taken)
+    ∙ key-is (a .listed .now) (a .scratch .now) (a .rest) (a .order) (a .t) (a .name) (a .at) (a .len) (a .len + 1) (i .result) (n .result) (i .ensures) (n .ensures)
 
 number-at-requires-3 : tie.Need-number-at-requires-3
 number-at-requires-3 c κs = search needs
@@ -79,10 +79,10 @@ returns-2 c =
     let n = c .before .before .before .number-at2 in
     let first = c .before .number-at3 in
     ap (λ (x : ℕ). ltb x (a .name)) (first .ensures)
-    ∙ key-other (a .flat .now) (i .result) (n .result) (a .name) (a .at) (a .len) (a .len + 1) (omega arith) (omega arith) (c .before .before .if1 .left)
+    ∙ key-other (a .listed .now) (i .result) (n .result) (a .name) (a .at) (a .len) (a .len + 1) (omega arith) (omega arith) (c .before .before .if1 .left)
     (whole b (i .result) (n .result) (i .ensures) (n .ensures))
     (λ q. c .if2 .taken (first .ensures ∙ q))
-    ∙ key-is (a .flat .now) (a .s .now) (a .rest) (a .order) (a .t) (a .name) (a .at) (a .len) (a .len + 1) (i .result) (n .result) (i .ensures) (n .ensures)
+    ∙ key-is (a .listed .now) (a .scratch .now) (a .rest) (a .order) (a .t) (a .name) (a .at) (a .len) (a .len + 1) (i .result) (n .result) (i .ensures) (n .ensures)
 
 returns-3 : tie.Need-returns-3
 returns-3 c =
@@ -91,11 +91,11 @@ returns-3 c =
     let i = c .before .before .before .before .before .number-at in
     let n = c .before .before .before .before .number-at2 in
     let same = c .before .before .before .if1 .left in
-    sym (edges-none (a .flat .now) (i .result + 1) (a .at) (n .result - 1) (omega (arith, same, c .if3 .taken)))
-    ∙ key-same (a .flat .now) (i .result) (n .result) (a .name) (a .at) (a .len) (a .len + 1) (omega arith) (omega arith) same
+    sym (edges-none (a .listed .now) (i .result + 1) (a .at) (n .result - 1) (omega (arith, same, c .if3 .taken)))
+    ∙ key-same (a .listed .now) (i .result) (n .result) (a .name) (a .at) (a .len) (a .len + 1) (omega arith) (omega arith) same
     (whole b (i .result) (n .result) (i .ensures) (n .ensures))
     (sym (c .before .before .number-at3 .ensures) ∙ c .before .if2 .left)
-    ∙ key-is (a .flat .now) (a .s .now) (a .rest) (a .order) (a .t) (a .name) (a .at) (a .len) (a .len + 1) (i .result) (n .result) (i .ensures) (n .ensures)
+    ∙ key-is (a .listed .now) (a .scratch .now) (a .rest) (a .order) (a .t) (a .name) (a .at) (a .len) (a .len + 1) (i .result) (n .result) (i .ensures) (n .ensures)
 
 add-number-at-3 : tie.Need-add-number-at-3
 add-number-at-3 c = search needs
@@ -127,15 +127,15 @@ returns-4 c =
     let e : a .rank + i .result + 1 ≡ a .rank + (i .result + 1) = omega arith in
     let d : n .result - 1 ≡ a .len = omega arith in
     let first : c .before .number-at4 .result ≡ getD (ranks b) (i .result + 1) 0 =
-    c .before .number-at4 .ensures ∙ ap (λ (x : ℕ). getD (a .s .now) x 0) e ∙ sym (table-at (a .s .now) (a .rank) (length (a .flat .now)) (i .result + 1) (omega arith)) in
+    c .before .number-at4 .ensures ∙ ap (λ (x : ℕ). getD (a .scratch .now) x 0) e ∙ sym (table-at (a .scratch .now) (a .rank) (length (a .listed .now)) (i .result + 1) (omega arith)) in
     let second : c .number-at5 .result ≡ getD (ranks b) (a .at) 0 =
-    c .number-at5 .ensures ∙ sym (table-at (a .s .now) (a .rank) (length (a .flat .now)) (a .at) (b .pre .2 .position some)) in
+    c .number-at5 .ensures ∙ sym (table-at (a .scratch .now) (a .rank) (length (a .listed .now)) (a .at) (b .pre .2 .position some)) in
     ap₂ ltb first second
-    ∙ rank-decides (a .flat .now) (rests b) (ranks b) (b .pre .1 .falls) (b .pre .1 .ranked) (i .result) (a .at) (a .len) lies (size b (i .result) (n .result) (i .ensures) (n .ensures) ∙ same) some (b .pre .2)
-    ∙ ap (λ (x : ℕ). before (take x (drop (i .result + 1) (a .flat .now))) (take x (drop (a .at) (a .flat .now)))) (sym d)
-    ∙ key-same (a .flat .now) (i .result) (n .result) (a .name) (a .at) (a .len) (a .len + 1) (omega arith) (omega arith) same whole-in
+    ∙ rank-decides (a .listed .now) (rests b) (ranks b) (b .pre .1 .falls) (b .pre .1 .ranked) (i .result) (a .at) (a .len) lies (size b (i .result) (n .result) (i .ensures) (n .ensures) ∙ same) some (b .pre .2)
+    ∙ ap (λ (x : ℕ). before (take x (drop (i .result + 1) (a .listed .now))) (take x (drop (a .at) (a .listed .now)))) (sym d)
+    ∙ key-same (a .listed .now) (i .result) (n .result) (a .name) (a .at) (a .len) (a .len + 1) (omega arith) (omega arith) same whole-in
     (sym (c .before .before .before .before .number-at3 .ensures) ∙ c .before .before .before .if2 .left)
-    ∙ key-is (a .flat .now) (a .s .now) (a .rest) (a .order) (a .t) (a .name) (a .at) (a .len) (a .len + 1) (i .result) (n .result) (i .ensures) (n .ensures)
+    ∙ key-is (a .listed .now) (a .scratch .now) (a .rest) (a .order) (a .t) (a .name) (a .at) (a .len) (a .len + 1) (i .result) (n .result) (i .ensures) (n .ensures)
 
 pub comes-before-spec : {M : Type 1} → statement M
 comes-before-spec =

@@ -18,67 +18,67 @@ use Rattle.removal.proofs.step.place_fits.Statement.{statement}
 use Rattle.removal.proofs.step.place_fits.Tie as tie
 
 abbrev rests : tie.Start → List ℕ
-rests b = table (b .args .s .now) (b .args .rest) (length (b .args .flat .now))
+rests b = table (b .args .scratch .now) (b .args .rest) (length (b .args .listed .now))
 
 abbrev ranks : tie.Start → List ℕ
-ranks b = table (b .args .s .now) (b .args .rank) (length (b .args .flat .now))
+ranks b = table (b .args .scratch .now) (b .args .rank) (length (b .args .listed .now))
 
 abbrev fit : tie.Start → Bool
-fit b = fitting (b .args .flat .now) (b .args .s .now) (b .args .rest) (b .args .order) (following (b .args .flat .now) (b .args .name) (b .args .at) (b .args .len)) (b .args .t)
+fit b = fitting (b .args .listed .now) (b .args .scratch .now) (b .args .rest) (b .args .order) (following (b .args .listed .now) (b .args .name) (b .args .at) (b .args .len)) (b .args .t)
 
-small : (b : tie.Start) → b .args .len ≤ length (b .args .flat .now)
-small b = mark-small (b .args .flat .now) (rests b) (b .args .at) (b .args .len) (b .pre .1 .falls) (b .pre .2)
+small : (b : tie.Start) → b .args .len ≤ length (b .args .listed .now)
+small b = mark-small (b .args .listed .now) (rests b) (b .args .at) (b .args .len) (b .pre .1 .falls) (b .pre .2)
 
--- the position at a place before `to`, and how many edges it has
-module _ (b : tie.Start) (other : b .args .t ≡ b .args .to → ⊥) (i n : ℕ) (p : i ≡ getD (b .args .s .now) (b .args .order + b .args .t) 0) (q : n ≡ getD (b .args .s .now) (b .args .rest + i) 0) where
-  early : b .args .t < b .args .to
+-- the position at a place before `end`, and how many edges it has
+module _ (b : tie.Start) (other : b .args .t ≡ b .args .end → ⊥) (i n : ℕ) (p : i ≡ getD (b .args .scratch .now) (b .args .order + b .args .t) 0) (q : n ≡ getD (b .args .scratch .now) (b .args .rest + i) 0) where
+  early : b .args .t < b .args .end
   early = omega (arith, b .pre .0 .up)
 
-  inside : i < length (b .args .flat .now)
+  inside : i < length (b .args .listed .now)
   inside = omega (arith, b .pre .0 .places (b .args .t) early .inside)
 
   size : getD (rests b) i 0 ≡ n
-  size = table-at (b .args .s .now) (b .args .rest) (length (b .args .flat .now)) i inside ∙ sym q
+  size = table-at (b .args .scratch .now) (b .args .rest) (length (b .args .listed .now)) i inside ∙ sym q
 
-  rest-is : restFor (b .args .s .now) (b .args .rest) (b .args .order) (b .args .t) ≡ n
-  rest-is = sym (q ∙ ap (λ (j : ℕ). getD (b .args .s .now) (b .args .rest + j) 0) p)
+  rest-is : restFor (b .args .scratch .now) (b .args .rest) (b .args .order) (b .args .t) ≡ n
+  rest-is = sym (q ∙ ap (λ (j : ℕ). getD (b .args .scratch .now) (b .args .rest + j) 0) p)
 
   module _ (e : n ≡ b .args .len + 1) where
-    whole : i + (b .args .len + 1) ≤ length (b .args .flat .now)
+    whole : i + (b .args .len + 1) ≤ length (b .args .listed .now)
     whole = omega (arith, b .pre .1 .falls .inside i inside, size)
 
-    fit-other : (getD (b .args .flat .now) i 0 ≡ b .args .name → ⊥) → fit b ≡ false
+    fit-other : (getD (b .args .listed .now) i 0 ≡ b .args .name → ⊥) → fit b ≡ false
     fit-other f =
-        fitting-at (b .args .flat .now) (b .args .s .now) (b .args .rest) (b .args .order) (b .args .t) i (b .args .len + 1) (following (b .args .flat .now) (b .args .name) (b .args .at) (b .args .len)) p (sym e ∙ q)
-        ∙ exact-other (b .args .flat .now) i (b .args .name) (b .args .at) (b .args .len) whole f
+        fitting-at (b .args .listed .now) (b .args .scratch .now) (b .args .rest) (b .args .order) (b .args .t) i (b .args .len + 1) (following (b .args .listed .now) (b .args .name) (b .args .at) (b .args .len)) p (sym e ∙ q)
+        ∙ exact-other (b .args .listed .now) i (b .args .name) (b .args .at) (b .args .len) whole f
 
-    fit-alone : getD (b .args .flat .now) i 0 ≡ b .args .name → b .args .len ≡ 0 → fit b ≡ true
+    fit-alone : getD (b .args .listed .now) i 0 ≡ b .args .name → b .args .len ≡ 0 → fit b ≡ true
     fit-alone f z =
-        fitting-at (b .args .flat .now) (b .args .s .now) (b .args .rest) (b .args .order) (b .args .t) i (b .args .len + 1) (following (b .args .flat .now) (b .args .name) (b .args .at) (b .args .len)) p (sym e ∙ q)
-        ∙ exact-alone (b .args .flat .now) i (b .args .name) (b .args .at) (b .args .len) whole f z
+        fitting-at (b .args .listed .now) (b .args .scratch .now) (b .args .rest) (b .args .order) (b .args .t) i (b .args .len + 1) (following (b .args .listed .now) (b .args .name) (b .args .at) (b .args .len)) p (sym e ∙ q)
+        ∙ exact-alone (b .args .listed .now) i (b .args .name) (b .args .at) (b .args .len) whole f z
 
-    fit-ranks : getD (b .args .flat .now) i 0 ≡ b .args .name → 0 < b .args .len → (x y : ℕ) → x ≡ getD (b .args .s .now) (b .args .rank + i + 1) 0 → y ≡ getD (b .args .s .now) (b .args .rank + b .args .at) 0
+    fit-ranks : getD (b .args .listed .now) i 0 ≡ b .args .name → 0 < b .args .len → (x y : ℕ) → x ≡ getD (b .args .scratch .now) (b .args .rank + i + 1) 0 → y ≡ getD (b .args .scratch .now) (b .args .rank + b .args .at) 0
         → fit b ≡ eqb x y
     fit-ranks f some x y u v =
-        fitting-at (b .args .flat .now) (b .args .s .now) (b .args .rest) (b .args .order) (b .args .t) i (b .args .len + 1) (following (b .args .flat .now) (b .args .name) (b .args .at) (b .args .len)) p (sym e ∙ q)
-        ∙ exact-named (b .args .flat .now) i (b .args .name) (b .args .at) (b .args .len) whole f
+        fitting-at (b .args .listed .now) (b .args .scratch .now) (b .args .rest) (b .args .order) (b .args .t) i (b .args .len + 1) (following (b .args .listed .now) (b .args .name) (b .args .at) (b .args .len)) p (sym e ∙ q)
+        ∙ exact-named (b .args .listed .now) i (b .args .name) (b .args .at) (b .args .len) whole f
         ∙ decide (eqb x y) refl
       where
         move : b .args .rank + i + 1 ≡ b .args .rank + (i + 1)
         move = omega arith
 
         first : x ≡ getD (ranks b) (i + 1) 0
-        first = u ∙ ap (λ (k : ℕ). getD (b .args .s .now) k 0) move ∙ sym (table-at (b .args .s .now) (b .args .rank) (length (b .args .flat .now)) (i + 1) (omega (arith, whole)))
+        first = u ∙ ap (λ (k : ℕ). getD (b .args .scratch .now) k 0) move ∙ sym (table-at (b .args .scratch .now) (b .args .rank) (length (b .args .listed .now)) (i + 1) (omega (arith, whole)))
 
         second : y ≡ getD (ranks b) (b .args .at) 0
-        second = v ∙ sym (table-at (b .args .s .now) (b .args .rank) (length (b .args .flat .now)) (b .args .at) (b .pre .2 .position some))
+        second = v ∙ sym (table-at (b .args .scratch .now) (b .args .rank) (length (b .args .listed .now)) (b .args .at) (b .pre .2 .position some))
 
-        decide : (r : Bool) → eqb x y ≡ r → isPrefix (take (b .args .len) (drop (i + 1) (b .args .flat .now))) (take (b .args .len) (drop (b .args .at) (b .args .flat .now))) ≡ r
+        decide : (r : Bool) → eqb x y ≡ r → isPrefix (take (b .args .len) (drop (i + 1) (b .args .listed .now))) (take (b .args .len) (drop (b .args .at) (b .args .listed .now))) ≡ r
         decide true h =
-            rank-fits (b .args .flat .now) (rests b) (ranks b) (b .pre .1 .falls) (b .pre .1 .ranked) i (b .args .at) (b .args .len) inside (size ∙ e) some (b .pre .2)
+            rank-fits (b .args .listed .now) (rests b) (ranks b) (b .pre .1 .falls) (b .pre .1 .ranked) i (b .args .at) (b .args .len) inside (size ∙ e) some (b .pre .2)
             (sym first ∙ eqb-true x y h ∙ second)
         decide false h =
-            rank-misses (b .args .flat .now) (rests b) (ranks b) (b .pre .1 .falls) (b .pre .1 .ranked) i (b .args .at) (b .args .len) inside (size ∙ e) some (b .pre .2)
+            rank-misses (b .args .listed .now) (rests b) (ranks b) (b .pre .1 .falls) (b .pre .1 .ranked) i (b .args .at) (b .args .len) inside (size ∙ e) some (b .pre .2)
             (λ g. eqb-false x y h (first ∙ g ∙ sym second))
 
 returns : tie.Need-returns

@@ -41,7 +41,7 @@ returns-2 c =
       first = λ e. absurd (omega (arith, v .ensures, c .before .if1 .left));
       none = λ e. absurd (omega (arith, v .ensures, c .before .if1 .left));
       position = λ h. ap (λ (x : ℕ). x - 1) (v .ensures);
-      size = λ h. c .number-at2 .ensures ∙ ap (λ (x : ℕ). getD (b .args .s .now) (b .args .rest + (x - 1)) 0) (v .ensures);
+      size = λ h. c .number-at2 .ensures ∙ ap (λ (x : ℕ). getD (b .args .scratch .now) (b .args .rest + (x - 1)) 0) (v .ensures);
     }
 
 pub shorter-mark-spec : {M : Type 1} → statement M

@@ -42,7 +42,7 @@ shared-slice-read-len c = omega (arith, c .before .before .before .pre .position
 cast-len : tie.Need-cast-len
 cast-len c =
     let a = c .before .before .before .args in
-    omega (arith, c .shared-slice-known2 .given (a .rest + getD (a .s .now) (a .order + (a .low + (a .slot - 1))) 0))
+    omega (arith, c .shared-slice-known2 .given (a .rest + getD (a .scratch .now) (a .order + (a .low + (a .slot - 1))) 0))
 
 returns-2 : tie.Need-returns-2
 returns-2 c = record { first = λ h. absurd (c .before .before .if1 .left h); none = λ h. absurd (c .before .before .if1 .left h); position = λ h. refl; size = λ h. refl }

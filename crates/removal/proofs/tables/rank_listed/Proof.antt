@@ -28,8 +28,8 @@ rank-tails-requires : tie.Need-rank-tails-requires
 unfolding table
 rank-tails-requires c κs =
     let p = c .before .before .before .before .before .before .before in
-    let d : p .args .rest + length (p .args .flat .now) - p .args .rest ≡ length (p .args .flat .now) = omega arith in
-    subst (λ (n : ℕ). Rankable (p .args .flat .now) (take n (drop (p .args .rest) (p .args .s .now))) (length (p .args .places .now)) (length (p .args .ranks .now))) (sym d) (p .pre .1)
+    let d : p .args .rest + length (p .args .listed .now) - p .args .rest ≡ length (p .args .listed .now) = omega arith in
+    subst (λ (n : ℕ). Rankable (p .args .listed .now) (take n (drop (p .args .rest) (p .args .scratch .now))) (length (p .args .places .now)) (length (p .args .ranks .now))) (sym d) (p .pre .1)
 
 same-length : tie.Need-same-length
 same-length c = search needs
@@ -42,8 +42,8 @@ unfolding table
 returns c =
     let z = c .before .before .before .before in
     let p = c .before .before .before .before .before .before .before .before .before .before .before .before in
-    let d : p .args .rest + length (p .args .flat .now) - p .args .rest ≡ length (p .args .flat .now) = omega arith in
-    subst (λ (n : ℕ). Ranked (p .args .flat .now) (take n (drop (p .args .rest) (p .args .s .now))) (z .rank-tails .last .1 .1 .1 .0) × Levels (take n (drop (p .args .rest) (p .args .s .now))) (z .rank-tails .last .1 .1 .0) (length (p .args .flat .now)) (length (p .args .flat .now))) d (z .rank-tails .ensures)
+    let d : p .args .rest + length (p .args .listed .now) - p .args .rest ≡ length (p .args .listed .now) = omega arith in
+    subst (λ (n : ℕ). Ranked (p .args .listed .now) (take n (drop (p .args .rest) (p .args .scratch .now))) (z .rank-tails .last .1 .1 .1 .0) × Levels (take n (drop (p .args .rest) (p .args .scratch .now))) (z .rank-tails .last .1 .1 .0) (length (p .args .listed .now)) (length (p .args .listed .now))) d (z .rank-tails .ensures)
 
 pub rank-listed-spec : {M : Type 1} → statement M
 rank-listed-spec =
