@@ -178,17 +178,14 @@ module _ (nodes : List ℕ) (ats rts sts : List ℤ) where
 
     pub gathered-all : c ≡ length nodes
         → (known ≡ map (λ v. hasTimes (soFar (length nodes) v)) (upto m 0))
-        × ((na ≡ map (λ v. arrivalOf (soFar (length nodes) v)) (upto m 0))
-        × ((nr ≡ map (λ v. requiredOf (soFar (length nodes) v)) (upto m 0)) × (ns ≡ map (λ v. slackOf (soFar (length nodes) v)) (upto m 0))))
+        × (na ≡ map (λ v. arrivalOf (soFar (length nodes) v)) (upto m 0))
+        × (nr ≡ map (λ v. requiredOf (soFar (length nodes) v)) (upto m 0))
+        × (ns ≡ map (λ v. slackOf (soFar (length nodes) v)) (upto m 0))
     gathered-all f = (
       g .flags ∙ ap₂ (λ (i k : ℕ). map (λ v. hasTimes (soFar i v)) (upto k 0)) f e,
-      (
-        g .arrivals ∙ ap₂ (λ (i k : ℕ). map (λ v. arrivalOf (soFar i v)) (upto k 0)) f e,
-        (
-          g .requireds ∙ ap₂ (λ (i k : ℕ). map (λ v. requiredOf (soFar i v)) (upto k 0)) f e,
-          g .slacks ∙ ap₂ (λ (i k : ℕ). map (λ v. slackOf (soFar i v)) (upto k 0)) f e,
-        ),
-      ),
+      g .arrivals ∙ ap₂ (λ (i k : ℕ). map (λ v. arrivalOf (soFar i v)) (upto k 0)) f e,
+      g .requireds ∙ ap₂ (λ (i k : ℕ). map (λ v. requiredOf (soFar i v)) (upto k 0)) f e,
+      g .slacks ∙ ap₂ (λ (i k : ℕ). map (λ v. slackOf (soFar i v)) (upto k 0)) f e,
     )
 
   -- after the last copy, and after a refusal

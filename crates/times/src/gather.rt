@@ -3,18 +3,18 @@
 ghost use mathlib.Core.Path.{_≡_};
 ghost use Prim.Native.Nat.{ℕ};
 ghost use mathlib.Core.List.{map};
-ghost use lib.Dec.{eqb};
 ghost use lib.IntN.{pos};
 ghost use lib.ListN.{length, getD, set};
-ghost use Rattle.timing.specs.Lists.{keep, upto};
+ghost use Rattle.timing.specs.Lists.{upto};
 ghost use Rattle.timing.specs.Times.{larger as largerTime, smaller as smallerTime};
-ghost use Rattle.timing.specs.Calls.{hasTimes, arrivalOf, requiredOf, slackOf};
+ghost use Rattle.timing.specs.Calls.{testRecords, hasTimes, arrivalOf, requiredOf, slackOf, recordsAfter};
 ghost use Rattle.times.specs.Records.{firstOr, bettered, nodeSoFar};
-use super::fill;
+use crate::places::fill;
 use entries::number_at;
 use entries::time_at;
 use extremes::larger;
 use extremes::smaller;
+use timing::Verdict;
 
 fn no_copy_met(known: &mut [u32])
     ensures { λ r. ⌜ now (known .exit) ≡ map (λ (v : ℕ). 0) (upto (length (now (known .entry))) 0) ⌝ }
@@ -78,10 +78,13 @@ fn count_copy(
     ns: &mut [i64],
     c: usize,
 )
-    ensures { λ r. ⌜ now (known .exit) ≡ set (now (known .entry)) (getD (now (nodes .entry)) c 0) 1 ⌝ }
-    ensures { λ r. ⌜ now (na .exit) ≡ bettered largerTime (now (known .entry)) (now (na .entry)) (getD (now (nodes .entry)) c 0) (getD (now (arrivals .entry)) c (pos 0)) ⌝ }
-    ensures { λ r. ⌜ now (nr .exit) ≡ bettered smallerTime (now (known .entry)) (now (nr .entry)) (getD (now (nodes .entry)) c 0) (getD (now (requireds .entry)) c (pos 0)) ⌝ }
-    ensures { λ r. ⌜ now (ns .exit) ≡ bettered smallerTime (now (known .entry)) (now (ns .entry)) (getD (now (nodes .entry)) c 0) (getD (now (slacks .entry)) c (pos 0)) ⌝ }
+    ensures { λ r.
+        let met = now (known .entry) in
+        let v = getD (now (nodes .entry)) c 0 in
+        ⌜ (now (known .exit) ≡ set met v 1)
+        × (now (na .exit) ≡ bettered largerTime met (now (na .entry)) v (getD (now (arrivals .entry)) c (pos 0)))
+        × (now (nr .exit) ≡ bettered smallerTime met (now (nr .entry)) v (getD (now (requireds .entry)) c (pos 0)))
+        × (now (ns .exit) ≡ bettered smallerTime met (now (ns .entry)) v (getD (now (slacks .entry)) c (pos 0))) ⌝ }
 {
     let v = number_at(nodes, c) as usize;
     raise_node(known, na, v, time_at(arrivals, c));
@@ -90,7 +93,7 @@ fn count_copy(
     copy_met(known, v);
 }
 
-pub(crate) fn fill_records(
+fn fill_records(
     nodes: &[u32],
     arrivals: &[i64],
     requireds: &[i64],
@@ -100,11 +103,20 @@ pub(crate) fn fill_records(
     nr: &mut [i64],
     ns: &mut [i64],
 )
-    requires { ⌜ (length (now na) ≡ length (now known)) × (length (now nr) ≡ length (now known)) × (length (now ns) ≡ length (now known)) ⌝ }
-    ensures { λ r. ⌜ now (known .exit) ≡ map (λ (v : ℕ). hasTimes (nodeSoFar (now (nodes .entry)) (now (arrivals .entry)) (now (requireds .entry)) (now (slacks .entry)) (length (now (nodes .entry))) v)) (upto (length (now (known .entry))) 0) ⌝ }
-    ensures { λ r. ⌜ now (na .exit) ≡ map (λ (v : ℕ). arrivalOf (nodeSoFar (now (nodes .entry)) (now (arrivals .entry)) (now (requireds .entry)) (now (slacks .entry)) (length (now (nodes .entry))) v)) (upto (length (now (known .entry))) 0) ⌝ }
-    ensures { λ r. ⌜ now (nr .exit) ≡ map (λ (v : ℕ). requiredOf (nodeSoFar (now (nodes .entry)) (now (arrivals .entry)) (now (requireds .entry)) (now (slacks .entry)) (length (now (nodes .entry))) v)) (upto (length (now (known .entry))) 0) ⌝ }
-    ensures { λ r. ⌜ now (ns .exit) ≡ map (λ (v : ℕ). slackOf (nodeSoFar (now (nodes .entry)) (now (arrivals .entry)) (now (requireds .entry)) (now (slacks .entry)) (length (now (nodes .entry))) v)) (upto (length (now (known .entry))) 0) ⌝ }
+    requires { let places = length (now known) in
+        ⌜ (length (now na) ≡ places)
+        × (length (now nr) ≡ places)
+        × (length (now ns) ≡ places) ⌝ }
+    ensures { λ r.
+        let ats = now (arrivals .entry) in
+        let rts = now (requireds .entry) in
+        let sts = now (slacks .entry) in
+        let times = nodeSoFar (now (nodes .entry)) ats rts sts (length (now (nodes .entry))) in
+        let all = upto (length (now (known .entry))) 0 in
+        ⌜ (now (known .exit) ≡ map (λ (v : ℕ). hasTimes (times v)) all)
+        × (now (na .exit) ≡ map (λ (v : ℕ). arrivalOf (times v)) all)
+        × (now (nr .exit) ≡ map (λ (v : ℕ). requiredOf (times v)) all)
+        × (now (ns .exit) ≡ map (λ (v : ℕ). slackOf (times v)) all) ⌝ }
 {
     no_copy_met(known);
     fill(na, 0);
@@ -114,5 +126,40 @@ pub(crate) fn fill_records(
     while c < nodes.len() {
         count_copy(nodes, arrivals, requireds, slacks, known, na, nr, ns, c);
         c += 1;
+    }
+}
+
+// The answer of `node_records`, and the slices afterwards, from what its tests answered.
+pub(crate) fn records_where(
+    tested: Verdict,
+    n: u32,
+    nodes: &[u32],
+    arrivals: &[i64],
+    requireds: &[i64],
+    slacks: &[i64],
+    known: &mut [u32],
+    na: &mut [i64],
+    nr: &mut [i64],
+    ns: &mut [i64],
+) -> Verdict
+    requires { ⌜ tested
+        ≡ testRecords n (now nodes) (now arrivals) (now requireds) (now slacks)
+        (length (now known)) (length (now na)) (length (now nr)) (length (now ns)) ⌝ }
+    ensures { λ r.
+        let ats = now (arrivals .entry) in
+        let rts = now (requireds .entry) in
+        let sts = now (slacks .entry) in
+        ⌜ (r ≡ tested)
+        × (now (known .exit) ≡ recordsAfter hasTimes n (now (nodes .entry)) ats rts sts tested (now (known .entry)))
+        × (now (na .exit) ≡ recordsAfter arrivalOf n (now (nodes .entry)) ats rts sts tested (now (na .entry)))
+        × (now (nr .exit) ≡ recordsAfter requiredOf n (now (nodes .entry)) ats rts sts tested (now (nr .entry)))
+        × (now (ns .exit) ≡ recordsAfter slackOf n (now (nodes .entry)) ats rts sts tested (now (ns .entry))) ⌝ }
+{
+    match tested {
+        Verdict::Passed => {
+            fill_records(nodes, arrivals, requireds, slacks, known, na, nr, ns);
+            Verdict::Passed
+        }
+        Verdict::Refused(r) => Verdict::Refused(r),
     }
 }

@@ -42,16 +42,10 @@ returns c =
     let e = w .records-where .ensures in
     let m = w .records-where .last .1 .1 .1 .1 .1 .1 in (
       after-told Verdict (w .records-where .result) (λ (x : Verdict). x) u v t (e .0),
-      (
-        after-told (List ℕ) (m .0) (λ (x : Verdict). recordsAfter hasTimes (a .n) (a .nodes .now) (a .arrivals .now) (a .requireds .now) (a .slacks .now) x (a .known .now)) u v t (e .1 .0),
-        (
-          after-told (List ℤ) (m .1 .0) (λ (x : Verdict). recordsAfter arrivalOf (a .n) (a .nodes .now) (a .arrivals .now) (a .requireds .now) (a .slacks .now) x (a .na .now)) u v t (e .1 .1 .0),
-          (
-            after-told (List ℤ) (m .1 .1 .0) (λ (x : Verdict). recordsAfter requiredOf (a .n) (a .nodes .now) (a .arrivals .now) (a .requireds .now) (a .slacks .now) x (a .nr .now)) u v t (e .1 .1 .1 .0),
-            after-told (List ℤ) (m .1 .1 .1 .0) (λ (x : Verdict). recordsAfter slackOf (a .n) (a .nodes .now) (a .arrivals .now) (a .requireds .now) (a .slacks .now) x (a .ns .now)) u v t (e .1 .1 .1 .1),
-          ),
-        ),
-      ),
+      after-told (List ℕ) (m .0) (λ (x : Verdict). recordsAfter hasTimes (a .n) (a .nodes .now) (a .arrivals .now) (a .requireds .now) (a .slacks .now) x (a .known .now)) u v t (e .1),
+      after-told (List ℤ) (m .1 .0) (λ (x : Verdict). recordsAfter arrivalOf (a .n) (a .nodes .now) (a .arrivals .now) (a .requireds .now) (a .slacks .now) x (a .na .now)) u v t (e .2),
+      after-told (List ℤ) (m .1 .1 .0) (λ (x : Verdict). recordsAfter requiredOf (a .n) (a .nodes .now) (a .arrivals .now) (a .requireds .now) (a .slacks .now) x (a .nr .now)) u v t (e .3),
+      after-told (List ℤ) (m .1 .1 .1 .0) (λ (x : Verdict). recordsAfter slackOf (a .n) (a .nodes .now) (a .arrivals .now) (a .requireds .now) (a .slacks .now) x (a .ns .now)) u v t (e .4),
     )
 
 pub node-records-spec : {M : Type 1} → statement M

@@ -59,16 +59,12 @@ returns c =
     let v = getD (g .nodes .now) (g .c) 0 in
     let e = m .number-at .ensures in (
       c .before .before .copy-met .ensures ∙ ap (λ (x : ℕ). set (g .known .now) x 1) e,
-      (
-        better-read larger (g .known .now) (g .na .now) (a .raise-node .last .1 .0) i v (a .before .time-at .result) (getD (g .arrivals .now) (g .c) (pos 0))
-            (a .before .time-at .ok) (a .raise-node .ensures) e (a .before .time-at .ensures),
-        (
-          better-read smaller (g .known .now) (g .nr .now) (r .lower-node .last .1 .0) i v (r .before .time-at2 .result) (getD (g .requireds .now) (g .c) (pos 0))
-              (r .before .time-at2 .ok) (r .lower-node .ensures) e (r .before .time-at2 .ensures),
-          better-read smaller (g .known .now) (g .ns .now) (s .lower-node2 .last .1 .0) i v (s .before .time-at3 .result) (getD (g .slacks .now) (g .c) (pos 0))
-              (s .before .time-at3 .ok) (s .lower-node2 .ensures) e (s .before .time-at3 .ensures),
-        ),
-      ),
+      better-read larger (g .known .now) (g .na .now) (a .raise-node .last .1 .0) i v (a .before .time-at .result) (getD (g .arrivals .now) (g .c) (pos 0))
+          (a .before .time-at .ok) (a .raise-node .ensures) e (a .before .time-at .ensures),
+      better-read smaller (g .known .now) (g .nr .now) (r .lower-node .last .1 .0) i v (r .before .time-at2 .result) (getD (g .requireds .now) (g .c) (pos 0))
+          (r .before .time-at2 .ok) (r .lower-node .ensures) e (r .before .time-at2 .ensures),
+      better-read smaller (g .known .now) (g .ns .now) (s .lower-node2 .last .1 .0) i v (s .before .time-at3 .result) (getD (g .slacks .now) (g .c) (pos 0))
+          (s .before .time-at3 .ok) (s .lower-node2 .ensures) e (s .before .time-at3 .ensures),
     )
 
 pub count-copy-spec : {M : Type 1} → statement M

@@ -68,7 +68,7 @@ loop-again c =
     let a = k .before .before .before .before .args in (
       omega (arith, c .before .before .before .before .before .before .before .before .before .before .loop-test .taken),
       gathered-next (a .nodes .now) (a .arrivals .now) (a .requireds .now) (a .slacks .now) (length (k .no-copy-met .last .0)) (l .c) (l .known) (m .0) (l .na) (l .nr) (l .ns) (m .1 .0) (m .1 .1 .0) (m .1 .1 .1 .0)
-          (l .inv .1) (e .0) (e .1 .0) (e .1 .1 .0) (e .1 .1 .1),
+          (l .inv .1) (e .0) (e .1) (e .2) (e .3),
     )
 
 -- the flags keep their places

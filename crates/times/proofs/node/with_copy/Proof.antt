@@ -1,0 +1,51 @@
+-- Case by case; a variant's numbers fit.
+use mathlib.Core.Path.{sym, ap, ap₂, _∙_}
+use Rattle.timing.specs.Times.{larger, smaller}
+use Rattle.times.proofs.Elements.{read-back}
+use Rattle.times.proofs.Records.{three}
+use mir.Facts.{toZ-ofZ}
+use Rattle.timing.specs.declared.NodeTimes.{NodeTimes}
+use Rattle.times.specs.Records.{withCopy}
+use borrow.Author.Needs.{needs}
+use Rattle.times.proofs.node.with_copy.Statement.{statement}
+use Rattle.times.proofs.node.with_copy.Tie as tie
+
+enum-told : tie.Need-enum-told
+enum-told c = search needs
+
+enum-known-t : tie.Need-enum-known-t
+enum-known-t c = search needs
+
+larger-requires : tie.Need-larger-requires
+larger-requires c κs = search needs
+
+smaller-requires : tie.Need-smaller-requires
+smaller-requires c κs = search needs
+
+smaller-requires-2 : tie.Need-smaller-requires-2
+smaller-requires-2 c κs = search needs
+
+returns : tie.Need-returns
+returns c = let p = c .before .before in rw (toZ-ofZ (p .fits .arrival), toZ-ofZ (p .fits .required), toZ-ofZ (p .fits .slack)) (ap (λ (t : NodeTimes). withCopy t (p .args .arrival) (p .args .required) (p .args .slack)) (sym (c .enum-told .given .1)))
+
+returns-2 : tie.Need-returns-2
+returns-2 c =
+    let l = c .before .before in
+    let p = l .before .before .before .before in
+    let h = l .before .known-told .given in
+    three (read-back (l .larger .result) (l .larger .ok) ∙ l .larger .ensures ∙ ap₂ larger (read-back (l .before .before .t .given .0 .0) (h .0 .1)) (toZ-ofZ (p .fits .arrival)))
+    (read-back (c .before .smaller .result) (c .before .smaller .ok) ∙ c .before .smaller .ensures ∙ ap₂ smaller (read-back (l .before .before .t .given .0 .1 .0) (h .1 .0 .1)) (toZ-ofZ (p .fits .required)))
+    (read-back (c .smaller2 .result) (c .smaller2 .ok) ∙ c .smaller2 .ensures ∙ ap₂ smaller (read-back (l .before .before .t .given .0 .1 .1 .0) (h .1 .1 .0 .1)) (toZ-ofZ (p .fits .slack)))
+    ∙ ap (λ (t : NodeTimes). withCopy t (p .args .arrival) (p .args .required) (p .args .slack)) (sym (l .before .before .t .given .1))
+
+pub with-copy-spec : {M : Type 1} → statement M
+with-copy-spec =
+    tie.close
+    (tie.spec
+    enum-told
+    enum-known-t
+    larger-requires
+    smaller-requires
+    smaller-requires-2
+    returns
+    returns-2)

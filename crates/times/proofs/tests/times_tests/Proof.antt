@@ -1,0 +1,35 @@
+-- The tests are called from the left, and 32 comes with 10 (`called-tests`).
+use Rattle.timing.specs.Calls.{graphSlices}
+use Rattle.times.proofs.Passed.{called-tests}
+use borrow.Author.Needs.{needs}
+use Rattle.times.proofs.tests.times_tests.Statement.{statement}
+use Rattle.times.proofs.tests.times_tests.Tie as tie
+
+times-sizes-requires : tie.Need-times-sizes-requires
+times-sizes-requires c κs = search needs
+
+and-design-tests-requires : tie.Need-and-design-tests-requires
+and-design-tests-requires c κs = search needs
+
+and-unless-requires : tie.Need-and-unless-requires
+and-unless-requires c κs = search needs
+
+and-graph-test-requires : tie.Need-and-graph-test-requires
+and-graph-test-requires c κs = search needs
+
+returns : tie.Need-returns
+returns c =
+    let s = c .before .before .before in
+    let a = c .before .before .before .before .before .before .before .before .before .before .args in
+    rw (c .and-graph-test .ensures, c .before .and-unless .ensures, c .before .before .and-design-tests .ensures, s .times-sizes .ensures (a .n))
+    (called-tests (a .n) (a .starts .now) (a .ends .now) (a .delays .now) (graphSlices (a .nodes .now) (a .from .now) (a .to .now) (a .via .now)) (a .allowed) (a .arrivals) (a .requireds) (a .slacks))
+
+pub times-tests-spec : {M : Type 1} → statement M
+times-tests-spec =
+    tie.close
+    (tie.spec
+    times-sizes-requires
+    and-design-tests-requires
+    and-unless-requires
+    and-graph-test-requires
+    returns)

@@ -1,0 +1,123 @@
+// What the three calls test, in document 01's order.
+ghost use mathlib.Core.Path.{_≡_};
+ghost use Prim.Native.Nat.{ℕ};
+ghost use lib.ListN.{length};
+ghost use Rattle.timing.specs.Refusals.{_then_};
+ghost use Rattle.timing.specs.Tests.{sameSizes, designSizes, nodeCount};
+ghost use Rattle.timing.specs.Graphs.{design};
+ghost use Rattle.timing.specs.Calls.{graphSlices, testTimes};
+use design::and_design_tests;
+use graph::and_graph_test;
+use sizes::copy_sizes;
+use sizes::design_sizes;
+use timing::Verdict;
+use verdicts::and_unless;
+use verdicts::same_sizes;
+use verdicts::then;
+use verdicts::unless;
+
+// 30 for the design, for the graph and for the three slices of times, which have one place for
+// each copy.
+fn times_sizes(
+    starts: &[u32],
+    ends: &[u32],
+    delays: &[i32],
+    copies: usize,
+    from: &[u32],
+    to: &[u32],
+    via: &[u32],
+    arrivals: usize,
+    requireds: usize,
+    slacks: usize,
+) -> Verdict
+    ensures { λ r.
+        let edges = sameSizes (length (now (from .entry))) (length (now (to .entry))) (length (now (via .entry))) in
+        ⌜ ((n : ℕ) → r
+        ≡ (designSizes (design n (now (starts .entry)) (now (ends .entry)) (now (delays .entry)))
+        then edges
+        then sameSizes copies arrivals requireds
+        then sameSizes copies copies slacks)) ⌝ }
+{
+    let first = design_sizes(starts, ends, delays);
+    let joined = same_sizes(from.len(), to.len(), via.len());
+    let lent = copy_sizes(copies, arrivals, requireds, slacks);
+    then(first, then(joined, lent))
+}
+
+pub(crate) fn times_tests(
+    n: u32,
+    starts: &[u32],
+    ends: &[u32],
+    delays: &[i32],
+    allowed: u32,
+    nodes: &[u32],
+    from: &[u32],
+    to: &[u32],
+    via: &[u32],
+    arrivals: usize,
+    requireds: usize,
+    slacks: usize,
+) -> Verdict
+    ensures { λ r.
+        let D = design n (now (starts .entry)) (now (ends .entry)) (now (delays .entry)) in
+        let S = graphSlices (now (nodes .entry)) (now (from .entry)) (now (to .entry)) (now (via .entry)) in
+        ⌜ r ≡ testTimes D S allowed arrivals requireds slacks ⌝ }
+{
+    let sizes = times_sizes(
+        starts,
+        ends,
+        delays,
+        nodes.len(),
+        from,
+        to,
+        via,
+        arrivals,
+        requireds,
+        slacks,
+    );
+    let fit = and_design_tests(sizes, n, starts, ends, delays);
+    let within = and_unless(fit, 25, allowed <= timing::MAX_ALLOWED_TIME);
+    and_graph_test(within, n, starts, ends, nodes, from, to, via)
+}
+
+pub(crate) fn record_tests(
+    n: u32,
+    copies: usize,
+    arrivals: usize,
+    requireds: usize,
+    slacks: usize,
+) -> Verdict
+    ensures { λ r.
+        ⌜ r ≡ (sameSizes copies arrivals requireds then sameSizes copies copies slacks then nodeCount n) ⌝ }
+{
+    let sizes = copy_sizes(copies, arrivals, requireds, slacks);
+    let count = unless(10, n <= timing::MAX_NODES);
+    then(sizes, count)
+}
+
+// The four lent slices have one place for each node.
+pub(crate) fn records_tests(
+    n: u32,
+    copies: usize,
+    arrivals: usize,
+    requireds: usize,
+    slacks: usize,
+    known: usize,
+    na: usize,
+    nr: usize,
+    ns: usize,
+) -> Verdict
+    ensures { λ r.
+        ⌜ r ≡ (sameSizes copies arrivals requireds
+        then sameSizes copies copies slacks
+        then sameSizes n known na
+        then sameSizes n nr ns
+        then nodeCount n) ⌝ }
+{
+    let places = n as usize;
+    let sizes = copy_sizes(copies, arrivals, requireds, slacks);
+    let lent = same_sizes(places, known, na);
+    let others = same_sizes(places, nr, ns);
+    let count = unless(10, n <= timing::MAX_NODES);
+    then(sizes, then(lent, then(others, count)))
+}
