@@ -374,13 +374,13 @@ module _ (s : List ℕ) (starts ends delays listed lengths : ℕ) where
 -- the answer and the tables
 module _ (starts ends : List ℕ) (delays : List ℤ) (listed lengths : List ℕ) (o : Outcome Deck) where
   pub tables-kept : (r : Refusal) → o ≡ refused r
-      → (NoDeck r ≡ deckAnswer o) × ((starts ≡ filled (λ d. d .design .starts) o starts) × ((ends ≡ filled (λ d. d .design .ends) o ends) × ((delays ≡ filled (λ d. d .design .delays) o delays)
-      × ((listed ≡ filled (λ d. d .list .edges) o listed) × (lengths ≡ filled (λ d. d .list .lengths) o lengths)))))
-  tables-kept r e = rw e (refl, (refl, (refl, (refl, (refl, refl)))))
+      → (NoDeck r ≡ deckAnswer o) × (starts ≡ filled (λ d. d .design .starts) o starts) × (ends ≡ filled (λ d. d .design .ends) o ends) × (delays ≡ filled (λ d. d .design .delays) o delays)
+      × (listed ≡ filled (λ d. d .list .edges) o listed) × (lengths ≡ filled (λ d. d .list .lengths) o lengths)
+  tables-kept r e = rw e (refl, refl, refl, refl, refl, refl)
 
   pub tables-filled : (d : Deck) (answer : DeckRead) (starts' ends' : List ℕ) (delays' : List ℤ) (listed' lengths' : List ℕ) → o ≡ made d → answer ≡ deckAnswer (made d)
       → (starts' ≡ placed (d .design .starts) starts) × (ends' ≡ placed (d .design .ends) ends) × (delays' ≡ placed (d .design .delays) delays)
       → (listed' ≡ placed (d .list .edges) listed) × (lengths' ≡ placed (d .list .lengths) lengths)
-      → (answer ≡ deckAnswer o) × ((starts' ≡ filled (λ d. d .design .starts) o starts) × ((ends' ≡ filled (λ d. d .design .ends) o ends) × ((delays' ≡ filled (λ d. d .design .delays) o delays)
-      × ((listed' ≡ filled (λ d. d .list .edges) o listed) × (lengths' ≡ filled (λ d. d .list .lengths) o lengths)))))
-  tables-filled d answer starts' ends' delays' listed' lengths' e a f g = rw e (a, (f .0, (f .1, (f .2, (g .0, g .1)))))
+      → (answer ≡ deckAnswer o) × (starts' ≡ filled (λ d. d .design .starts) o starts) × (ends' ≡ filled (λ d. d .design .ends) o ends) × (delays' ≡ filled (λ d. d .design .delays) o delays)
+      × (listed' ≡ filled (λ d. d .list .edges) o listed) × (lengths' ≡ filled (λ d. d .list .lengths) o lengths)
+  tables-filled d answer starts' ends' delays' listed' lengths' e a f g = rw e (a, f .0, f .1, f .2, g .0, g .1)

@@ -9,7 +9,7 @@ ghost use Rattle.timing.specs.Looks.{valueAt, nextAt, rowAt, rowEnd};
 ghost use Rattle.deck_reader.specs.Reading.{numbersFrom, numbersEnd, startsFrom, endsFrom, delaysFrom, rowsEnd, pathEnd, edgesFrom, lengthsFrom, pathsEnd, edgeCount, countPlace, deckFrom, CanFill, HasFilled};
 use super::Edges;
 use super::Listed;
-use super::wide;
+use entries::wide;
 use packed_lists::take_number;
 use timing::DeckRead;
 use timing::Taken;

@@ -22,12 +22,6 @@ struct Edges {
     next: usize,
 }
 
-fn wide(x: u32) -> usize
-    ensures { λ r. ⌜ r ≡ x ⌝ }
-{
-    x as usize
-}
-
 // Reads a deck into the tables. Everything is looked at first, so that a refusal changes no table.
 pub fn read_deck(
     s: &[u8],
@@ -37,12 +31,16 @@ pub fn read_deck(
     listed: &mut [u32],
     lengths: &mut [u32],
 ) -> DeckRead
-    ensures { λ r. ⌜ r ≡ deckAnswer (deckRead (now (s .entry)) (length (now (starts .entry))) (length (now (ends .entry))) (length (now (delays .entry))) (length (now (listed .entry))) (length (now (lengths .entry)))) ⌝ }
-    ensures { λ r. ⌜ now (starts .exit) ≡ filled (λ d. d .design .starts) (deckRead (now (s .entry)) (length (now (starts .entry))) (length (now (ends .entry))) (length (now (delays .entry))) (length (now (listed .entry))) (length (now (lengths .entry)))) (now (starts .entry)) ⌝ }
-    ensures { λ r. ⌜ now (ends .exit) ≡ filled (λ d. d .design .ends) (deckRead (now (s .entry)) (length (now (starts .entry))) (length (now (ends .entry))) (length (now (delays .entry))) (length (now (listed .entry))) (length (now (lengths .entry)))) (now (ends .entry)) ⌝ }
-    ensures { λ r. ⌜ now (delays .exit) ≡ filled (λ d. d .design .delays) (deckRead (now (s .entry)) (length (now (starts .entry))) (length (now (ends .entry))) (length (now (delays .entry))) (length (now (listed .entry))) (length (now (lengths .entry)))) (now (delays .entry)) ⌝ }
-    ensures { λ r. ⌜ now (listed .exit) ≡ filled (λ d. d .list .edges) (deckRead (now (s .entry)) (length (now (starts .entry))) (length (now (ends .entry))) (length (now (delays .entry))) (length (now (listed .entry))) (length (now (lengths .entry)))) (now (listed .entry)) ⌝ }
-    ensures { λ r. ⌜ now (lengths .exit) ≡ filled (λ d. d .list .lengths) (deckRead (now (s .entry)) (length (now (starts .entry))) (length (now (ends .entry))) (length (now (delays .entry))) (length (now (listed .entry))) (length (now (lengths .entry)))) (now (lengths .entry)) ⌝ }
+    ensures { λ r.
+        let o = deckRead (now (s .entry))
+        (length (now (starts .entry))) (length (now (ends .entry))) (length (now (delays .entry)))
+        (length (now (listed .entry))) (length (now (lengths .entry))) in
+        ⌜ (r ≡ deckAnswer o)
+        × (now (starts .exit) ≡ filled (λ d. d .design .starts) o (now (starts .entry)))
+        × (now (ends .exit) ≡ filled (λ d. d .design .ends) o (now (ends .entry)))
+        × (now (delays .exit) ≡ filled (λ d. d .design .delays) o (now (delays .entry)))
+        × (now (listed .exit) ≡ filled (λ d. d .list .edges) o (now (listed .entry)))
+        × (now (lengths .exit) ≡ filled (λ d. d .list .lengths) o (now (lengths .entry))) ⌝ }
 {
     let sizes = verdicts::same_sizes(starts.len(), ends.len(), delays.len());
     match sizes {

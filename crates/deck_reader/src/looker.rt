@@ -4,7 +4,7 @@ ghost use Prim.Native.Nat.{_+_, _≤_};
 ghost use Rattle.timing.specs.Decks.{paths as pathsOf};
 ghost use Rattle.timing.specs.Looks.{looked, numberOf};
 ghost use Rattle.deck_reader.specs.Reading.{verdictOf, countIn, pathIn, tailIn, listIn, edgesIn, deckIn};
-use super::wide;
+use entries::wide;
 use packed_lists::look_numbers;
 use packed_lists::look_rows;
 use timing::Looked;
