@@ -18,7 +18,7 @@ use Rattle.timing.specs.GraphBytes.{packedGraph}
 use Rattle.timing.specs.Calls.{GraphSlices, graphSlices, graphOf, Outcome, refused, writing, roomAfterWriting, graphWriteTests, programRemoval}
 
 abbrev pub deckOf : Design → PathList → ℕ → Deck
-deckOf D L T = record { design = D; list = L; allowed = T }
+deckOf D L allowed = record { design = D; list = L; allowed = allowed }
 
 -- the graph in front of a room
 abbrev pub frontSlices : ℕ → ℕ → GraphSlices → GraphSlices
@@ -39,12 +39,12 @@ madeRoom (NoGraph r) S room = room
 
 -- the deck in front of tables
 abbrev pub ReadFits : DeckRead → List ℕ → List ℕ → List ℤ → List ℕ → List ℕ → Type 0
-ReadFits (DeckFound n edges count paths t) starts ends delays listed lengths =
+ReadFits (DeckFound n edges count paths allowed) starts ends delays listed lengths =
     (edges ≤ length starts) × (edges ≤ length ends) × (edges ≤ length delays) × (count ≤ length listed) × (paths ≤ length lengths)
 ReadFits (NoDeck r) starts ends delays listed lengths = Unit {0}
 
 -- and its true graph
 abbrev pub readRemoval : DeckRead → List ℕ → List ℕ → List ℤ → List ℕ → List ℕ → Outcome Graph
-readRemoval (DeckFound n edges count paths t) starts ends delays listed lengths =
-    programRemoval (deckOf (design n (take edges starts) (take edges ends) (take edges delays)) (pathList (take count listed) (take paths lengths)) t)
+readRemoval (DeckFound n edges count paths allowed) starts ends delays listed lengths =
+    programRemoval (deckOf (design n (take edges starts) (take edges ends) (take edges delays)) (pathList (take count listed) (take paths lengths)) allowed)
 readRemoval (NoDeck r) starts ends delays listed lengths = refused r

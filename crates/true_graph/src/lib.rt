@@ -2,7 +2,8 @@
 ghost use mathlib.Core.Path.{_≡_};
 ghost use Rattle.timing.specs.Graphs.{design};
 ghost use Rattle.timing.specs.Marks.{pathList};
-ghost use Rattle.timing.specs.Calls.{graphSlices, removal, removeFromDesign, programRoom, programRemoval, program, cWritten, roomAfterC};
+ghost use Rattle.timing.specs.Calls.{graphSlices, removal, removeFromDesign};
+ghost use Rattle.timing.specs.Calls.{programRoom, programRemoval, program, cWritten, roomAfterC};
 ghost use Rattle.true_graph.specs.Deck.{deckOf, MadeFits, madeWritten, madeRoom, ReadFits, readRemoval};
 use deck_reader::read_deck;
 use graph_writer::write_graph;
@@ -25,8 +26,10 @@ fn write_made(
     room: &mut [u8],
 ) -> Written
     requires { ⌜ MadeFits made (graphSlices (now nodes) (now from) (now to) (now via)) ⌝ }
-    ensures { λ r. ⌜ r ≡ madeWritten made (graphSlices (now (nodes .entry)) (now (from .entry)) (now (to .entry)) (now (via .entry))) (now (room .entry)) ⌝ }
-    ensures { λ r. ⌜ now (room .exit) ≡ madeRoom made (graphSlices (now (nodes .entry)) (now (from .entry)) (now (to .entry)) (now (via .entry))) (now (room .entry)) ⌝ }
+    ensures { λ r.
+        let S = graphSlices (now (nodes .entry)) (now (from .entry)) (now (to .entry)) (now (via .entry)) in
+        ⌜ (r ≡ madeWritten made S (now (room .entry)))
+        × (now (room .exit) ≡ madeRoom made S (now (room .entry))) ⌝ }
 {
     match made {
         GraphMade::Refused(r) => Written::Refused(r),
@@ -50,13 +53,17 @@ fn pack_graph(
     lengths: &[u32],
     room: &mut [u8],
 ) -> Written
-    ensures { λ r. ⌜ r ≡ cWritten (removeFromDesign (design n (now (starts .entry)) (now (ends .entry)) (now (delays .entry))) (removal (pathList (now (listed .entry)) (now (lengths .entry))) programRoom 16384)) (now (room .entry)) ⌝ }
-    ensures { λ r. ⌜ now (room .exit) ≡ roomAfterC (removeFromDesign (design n (now (starts .entry)) (now (ends .entry)) (now (delays .entry))) (removal (pathList (now (listed .entry)) (now (lengths .entry))) programRoom 16384)) (now (room .entry)) ⌝ }
+    ensures { λ r.
+        let D = design n (now (starts .entry)) (now (ends .entry)) (now (delays .entry)) in
+        let L = pathList (now (listed .entry)) (now (lengths .entry)) in
+        let o = removeFromDesign D (removal L programRoom 16384) in
+        ⌜ (r ≡ cWritten o (now (room .entry)))
+        × (now (room .exit) ≡ roomAfterC o (now (room .entry))) ⌝ }
 {
-    let mut nodes = [0; 512];
-    let mut from = [0; 2048];
-    let mut to = [0; 2048];
-    let mut via = [0; 2048];
+    let mut room_nodes = [0; 512];
+    let mut room_from = [0; 2048];
+    let mut room_to = [0; 2048];
+    let mut room_via = [0; 2048];
     let mut scratch = [0; 16384];
     let made = remove_from_design(
         n,
@@ -65,13 +72,13 @@ fn pack_graph(
         delays,
         listed,
         lengths,
-        &mut nodes,
-        &mut from,
-        &mut to,
-        &mut via,
+        &mut room_nodes,
+        &mut room_from,
+        &mut room_to,
+        &mut room_via,
         &mut scratch,
     );
-    write_made(made, &nodes, &from, &to, &via, room)
+    write_made(made, &room_nodes, &room_from, &room_to, &room_via, room)
 }
 
 // The same for a deck: 25 is tested before 31.
@@ -82,13 +89,17 @@ fn pack_tested(
     delays: &[i32],
     listed: &[u32],
     lengths: &[u32],
-    t: u32,
+    allowed: u32,
     room: &mut [u8],
 ) -> Written
-    ensures { λ r. ⌜ r ≡ cWritten (programRemoval (deckOf (design n (now (starts .entry)) (now (ends .entry)) (now (delays .entry))) (pathList (now (listed .entry)) (now (lengths .entry))) t)) (now (room .entry)) ⌝ }
-    ensures { λ r. ⌜ now (room .exit) ≡ roomAfterC (programRemoval (deckOf (design n (now (starts .entry)) (now (ends .entry)) (now (delays .entry))) (pathList (now (listed .entry)) (now (lengths .entry))) t)) (now (room .entry)) ⌝ }
+    ensures { λ r.
+        let D = design n (now (starts .entry)) (now (ends .entry)) (now (delays .entry)) in
+        let L = pathList (now (listed .entry)) (now (lengths .entry)) in
+        let o = programRemoval (deckOf D L allowed) in
+        ⌜ (r ≡ cWritten o (now (room .entry)))
+        × (now (room .exit) ≡ roomAfterC o (now (room .entry))) ⌝ }
 {
-    let verdict = test_deck(n, starts, ends, delays, listed, lengths, t);
+    let verdict = test_deck(n, starts, ends, delays, listed, lengths, allowed);
     if let Verdict::Refused(r) = verdict {
         return Written::Refused(r);
     }
@@ -106,8 +117,11 @@ fn pack_read(
     room: &mut [u8],
 ) -> Written
     requires { ⌜ ReadFits read (now starts) (now ends) (now delays) (now listed) (now lengths) ⌝ }
-    ensures { λ r. ⌜ r ≡ cWritten (readRemoval read (now (starts .entry)) (now (ends .entry)) (now (delays .entry)) (now (listed .entry)) (now (lengths .entry))) (now (room .entry)) ⌝ }
-    ensures { λ r. ⌜ now (room .exit) ≡ roomAfterC (readRemoval read (now (starts .entry)) (now (ends .entry)) (now (delays .entry)) (now (listed .entry)) (now (lengths .entry))) (now (room .entry)) ⌝ }
+    ensures { λ r.
+        let o = readRemoval read (now (starts .entry)) (now (ends .entry)) (now (delays .entry))
+        (now (listed .entry)) (now (lengths .entry)) in
+        ⌜ (r ≡ cWritten o (now (room .entry)))
+        × (now (room .exit) ≡ roomAfterC o (now (room .entry))) ⌝ }
 {
     match read {
         DeckRead::Refused(r) => Written::Refused(r),
@@ -132,8 +146,10 @@ fn pack_read(
 
 // Packs the true graph of a packed deck into the room, in the program's tables. 4 is tested before all.
 pub fn pack(deck: &[u8], room: &mut [u8]) -> Written
-    ensures { λ r. ⌜ r ≡ cWritten (program (now (deck .entry))) (now (room .entry)) ⌝ }
-    ensures { λ r. ⌜ now (room .exit) ≡ roomAfterC (program (now (deck .entry))) (now (room .entry)) ⌝ }
+    ensures { λ r.
+        let o = program (now (deck .entry)) in
+        ⌜ (r ≡ cWritten o (now (room .entry)))
+        × (now (room .exit) ≡ roomAfterC o (now (room .entry))) ⌝ }
 {
     if MAX_DECK_BYTES < deck.len() {
         return Written::Refused(refuse(4, MAX_DECK_BYTES));

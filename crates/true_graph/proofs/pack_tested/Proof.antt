@@ -27,7 +27,7 @@ returns : tie.Need-returns
 returns c =
     let w = c .before .before .before in
     let s = start w in
-    let e = deck-refused (designAt s) (listAt s) (s .args .t) (c .before .verdict .given .0 .0) (sym (w .test-deck .ensures) ∙ c .before .verdict .given .1) in
+    let e = deck-refused (designAt s) (listAt s) (s .args .allowed) (c .before .verdict .given .0 .0) (sym (w .test-deck .ensures) ∙ c .before .verdict .given .1) in
     (ap (λ (o : Outcome Graph). cWritten o (s .args .room .now)) (sym e), ap (λ (o : Outcome Graph). roomAfterC o (s .args .room .now)) (sym e))
 
 enum-told : tie.Need-enum-told
@@ -45,7 +45,7 @@ returns-2 c =
     let k = g .before .before in
     let w = k .before .before in
     let s = start w in
-    let e = deck-passed (designAt s) (listAt s) (s .args .t) (sym (w .test-deck .ensures) ∙ k .enum-told .given .1) in
+    let e = deck-passed (designAt s) (listAt s) (s .args .allowed) (sym (w .test-deck .ensures) ∙ k .enum-told .given .1) in
     (g .pack-graph .ensures .0 ∙ ap (λ (o : Outcome Graph). cWritten o (s .args .room .now)) e, g .pack-graph .ensures .1 ∙ ap (λ (o : Outcome Graph). roomAfterC o (s .args .room .now)) e)
 
 pub pack-tested-spec : {M : Type 1} → statement M
