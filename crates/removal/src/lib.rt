@@ -2,8 +2,20 @@
 // the node of each copy, and the start copy, the end copy and the design edge of each edge. A
 // refusal changes nothing in it, and places past the result stay as they are.
 //
-// All tables of a removal stand in the lent scratch, each at an offset: `s[base + i]` is entry i of the
-// table at `base`. Nothing is written to the room before 33 and 34 are settled.
+// The tables that the passes go by stand in the lent scratch, each at an offset: `scratch[base + i]` is entry i
+// of the table at `base`. Nothing is written to the room before 33 and 34 are settled.
+//
+// What is read beside the scratch while these tables are made stands on the stack: a function is lent the
+// scratch as one slice, and cannot lend one part of it on to be read and another to be written. These are
+// local arrays, each as long as a design or a list can ask:
+// - `build::count_candidates`: a count for each node, 16,384 bytes. A scratch that is too short (31) stays as it
+//   was, so that the candidates are counted without it;
+// - `remove_tested`: the numbers of the nodes and of the edges, by which a design is lent as a graph, 16,384 and
+//   65,536 bytes;
+// - `build::build`: where the places of each node begin, 32,772 bytes;
+// - `tables::fill_tables`: the positions level by level, their ranks and their codes, 32,768 bytes each;
+// - `names::name_edges`: a flag for each edge of the design, 65,536 bytes.
+// The most at a time is 212,996 bytes: those of `remove_tested`, `build` and `fill_tables`.
 ghost use mathlib.Core.Path.{_≡_};
 ghost use Prim.Native.Nat.{ℕ, _≤_, _<_};
 ghost use lib.ListN.{length};

@@ -17,6 +17,7 @@ use crate::rows::Layout;
 use crate::rows::reach_all;
 use crate::show::Counts;
 use crate::show::show_all;
+use entries::least;
 use timing::GraphMade;
 use timing::MAX_COPIES;
 use timing::MAX_COPY_EDGES;
@@ -54,22 +55,16 @@ fn search(
     Finding { layout, counts }
 }
 
-fn smaller(a: usize, b: usize) -> usize
-    ensures { λ r. ⌜ r ≡ min a b ⌝ }
-{
-    if a <= b { a } else { b }
-}
-
 // 33 and 34, from the counts of the result and the lent lengths.
 fn room_tests(copies: usize, edges: usize, node_room: usize, edge_room: usize) -> Verdict
     ensures { λ r.
         ⌜ r ≡ (passedIf 33 (leb copies (min «node_room» 16384))
         then passedIf 34 (leb edges (min «edge_room» 65536))) ⌝ }
 {
-    if smaller(node_room, MAX_COPIES) < copies {
+    if least(node_room, MAX_COPIES) < copies {
         return unless(33, false);
     }
-    unless(34, edges <= smaller(edge_room, MAX_COPY_EDGES))
+    unless(34, edges <= least(edge_room, MAX_COPY_EDGES))
 }
 
 // 33 and 34, and then the result to the room. The scratch is only read.
