@@ -1,67 +1,33 @@
 -- Reading what was written gives the same deck, and writing what was read gives the same bytes.
-use Prim.Native.Nat.{ℕ, zero, suc, _+_, _-_, _≤_, _<_}
+use Prim.Native.Nat.{ℕ, zero, suc, _+_, _-_, _≤_}
 use native.Mathlib.Omega.{arith}
-use mathlib.Core.Path.{_≡_, refl, sym, _∙_, ap}
-use mathlib.Core.Bool.{Bool, true, false, cond}
-use mathlib.Core.List.{List, [], _∷_, _++_, map, flatMap, append-assoc, append-nil}
+use mathlib.Core.Path.{_≡_, refl, _∙_, ap}
+use mathlib.Core.List.{List, [], _∷_, _++_, map, flatMap, append-assoc}
 use lib.Dec.{leb}
 use lib.IntN.{ℤ}
-use lib.ListN.{length, take, drop, length-drop, length-map, take-append-drop, drop-of-length-le}
-use lib.Seq.{drop-drop, drop-append-seam, take-at, drop-at, length-take-le}
-use borrow.Author.Tests.{le-leb, leb-true, eq-eqb}
-use Rattle.timing.specs.declared.Groups.{Groups}
-use Rattle.timing.specs.declared.Groups.the-variants.{Number, Ended, Unfit}
+use lib.ListN.{length, take, drop, length-drop, length-map, take-append-drop}
+use lib.Seq.{take-at, drop-at, length-take-le}
+use borrow.Author.Tests.{le-leb, eq-eqb}
 use Rattle.timing.specs.declared.Verdict.{Verdict}
 use Rattle.timing.specs.declared.Verdict.the-variants.{Passed}
 use Rattle.timing.specs.Lists.{sum}
 use Rattle.timing.specs.Graphs.{design}
 use Rattle.timing.specs.Marks.{PathList, pathList, cut}
-use Rattle.timing.specs.Numbers.{packed, groupsIn, numberAnswer, readNumber}
 use Rattle.timing.specs.Delays.{packedDelay, delayOf}
-use Rattle.timing.specs.Refusals.{refusal, unless, _then_}
-use Rattle.timing.specs.Parsing.{Parsed, found, stopped, Reader, _>>=_, _>>_, return, tested, parsedNumber, number, repeated, Row, row, ended}
+use Rattle.timing.specs.Refusals.{unless, _then_}
+use Rattle.timing.specs.Parsing.{Parsed, found, stopped, _>>=_, _>>_, return, tested, number, repeated, Row, row, ended}
 use Rattle.timing.specs.Decks.{Deck, Tables, edgeNumbers, pathNumbers, deckNumbers, packedDeck, paths, readDeck}
 use Rattle.timing.specs.declared.Verdict.the-variants.{Refused as NotPassed}
 use Rattle.timing.specs.Tests.{sameSizes}
 use Rattle.timing.specs.Calls.{made, parsed, guarded, deckRead}
-use Rattle.packed.proofs.Numbers.{cap-32, Bytes, bytes-drop, read-packed, Back, packed-read}
+use Rattle.packed.proofs.Numbers.{Bytes}
 use Rattle.packed_delays.proofs.Delays.{delay-packed, packed-delay}
 use Rattle.deck_writer.specs.Writing.{Fit, bytesOf}
-use Rattle.deck_writer.proofs.Writing.{bytes-append, bytes-one, deck-parts, packed-deck}
+use Rattle.deck_writer.proofs.Writing.{deck-parts, packed-deck}
 use Rattle.deck_reader.proofs.Reading.{Is, is-onward, TestIs, is-tested}
+use Rattle.round_trip.proofs.Numbers.{Small, small-append, There, number-there, numbers-there, Took, took-both, took-none, took-number, TookNumbers, took-numbers, TookRow, took-row, is-ended, whole}
 
--- numbers that fit 32 bits
-abbrev pub Small : List ℕ → Type 0
-Small [] = Unit {0}
-Small (x ∷ xs) = (x < 4294967296) × Small xs
-
-small-append : (xs ys : List ℕ) → Small (xs ++ ys) → Small xs × Small ys
-small-append [] ys h = (tt, h)
-small-append (x ∷ xs) ys h = let g = small-append xs ys (h .1) in ((h .0, g .0), g .1)
-
--- 1. Reading what was written. A reader at a place finds x, and behind it the bytes are those of the numbers ys.
-record There {A : Type 0} (s : List ℕ) (p : Reader A) (at : ℕ) (x : A) (ys : List ℕ) : Type 0 where
-  next : ℕ
-  reads : p at ≡ found x next
-  left : drop next s ≡ bytesOf ys
-
-number-there : (s : List ℕ) (at x : ℕ) (ys : List ℕ) → x < 4294967296 → drop at s ≡ bytesOf (x ∷ ys) → There s (number s) at x ys
-unfolding readNumber bytesOf flatMap
-number-there s at x ys h e =
-    let g : groupsIn 15 4 (drop at s) ≡ Number x (length (packed x)) = rw e (read-packed 15 4 x (bytesOf ys) (rw cap-32 h)) in
-    record {
-      next = at + length (packed x);
-      reads = rw g;
-      left = sym (drop-drop (length (packed x)) at s) ∙ ap (λ (l : List ℕ). drop (length (packed x)) l) e ∙ drop-append-seam (packed x) (bytesOf ys);
-    }
-
-numbers-there : (s : List ℕ) (at : ℕ) (xs ys : List ℕ) → Small xs → drop at s ≡ bytesOf (xs ++ ys) → There s (repeated (length xs) (number s)) at xs ys
-numbers-there s at [] ys h e = record { next = at; reads = refl; left = e }
-numbers-there s at (x ∷ xs) ys h e =
-    let t = number-there s at x (xs ++ ys) (h .0) e in
-    let u = numbers-there s (t .next) xs ys (h .1) (t .left) in
-    record { next = u .next; reads = rw (t .reads, u .reads); left = u .left }
-
+-- 1. Reading what was written.
 abbrev rowsOf : List ℕ → List ℕ → List ℤ → List Row
 rowsOf [] t d = []
 rowsOf (x ∷ s) [] d = []
@@ -157,48 +123,8 @@ unfolding deckRead
 read-written d edges listed paths f h te tl tp =
     rw (eq-eqb edges edges refl) (deck-there d (record { edges = edges; listed = listed; paths = paths }) (packedDeck d) (packed-deck d) f h te tp tl)
 
--- 2. Writing what was read. The bytes from a place up to the next are those of the numbers xs.
-abbrev Took : List ℕ → ℕ → List ℕ → ℕ → Type 0
-Took s at xs next = drop at s ≡ bytesOf xs ++ drop next s
-
-took-both : (s : List ℕ) (at mid next : ℕ) (xs ys : List ℕ) → Took s at xs mid → Took s mid ys next → Took s at (xs ++ ys) next
-took-both s at mid next xs ys f g =
-    f ∙ ap (λ (l : List ℕ). bytesOf xs ++ l) g ∙ sym (append-assoc (bytesOf xs) (bytesOf ys) (drop next s)) ∙ ap (λ (l : List ℕ). l ++ drop next s) (sym (bytes-append xs ys))
-
-took-none : (s : List ℕ) (at : ℕ) → Took s at [] at
-unfolding bytesOf flatMap
-took-none s at = refl
-
+-- 2. Writing what was read.
 module _ (s : List ℕ) (bytes : Bytes s) where
-  took-number : (at : ℕ) → Is (λ x next. Took s at (x ∷ []) next) (number s at)
-  unfolding readNumber
-  took-number at = by (groupsIn 15 4 (drop at s)) (packed-read 15 4 (drop at s) (bytes-drop s at bytes))
-    where
-      by : (g : Groups) → Back 4 (drop at s) g → Is (λ x next. Took s at (x ∷ []) next) (parsedNumber (numberAnswer (length s) at g))
-      by (Number v n) k = sym (take-append-drop n (drop at s)) ∙ rw (k, bytes-one v, drop-drop n at s)
-      by Ended k = tt
-      by Unfit k = tt
-
-  abbrev TookNumbers : ℕ → ℕ → List ℕ → ℕ → Type 0
-  TookNumbers k at xs next = Took s at xs next × (length xs ≡ k)
-
-  took-numbers : (k at : ℕ) → Is (TookNumbers k at) (repeated k (number s) at)
-  took-numbers zero at = (took-none s at, refl)
-  took-numbers (suc k) at =
-      is-onward (λ x next. Took s at (x ∷ []) next) (TookNumbers (suc k) at) (number s at) (λ x. repeated k (number s) >>= (λ xs. return (x ∷ xs))) (took-number at)
-      (λ x a f. is-onward (TookNumbers k a) (TookNumbers (suc k) at) (repeated k (number s) a) (λ xs. return (x ∷ xs)) (took-numbers k a)
-      (λ xs b g. (took-both s at a b (x ∷ []) xs f (g .0), ap suc (g .1))))
-
-  abbrev TookRow : ℕ → Row → ℕ → Type 0
-  TookRow at r next = Took s at (r .first ∷ r .second ∷ r .third ∷ []) next
-
-  took-row : (at : ℕ) → Is (TookRow at) (row s at)
-  took-row at =
-      is-onward (λ x next. Took s at (x ∷ []) next) (TookRow at) (number s at) (λ a. number s >>= (λ b. number s >>= (λ c. return (record { first = a; second = b; third = c })))) (took-number at)
-      (λ a p f. is-onward (λ x next. Took s p (x ∷ []) next) (TookRow at) (number s p) (λ b. number s >>= (λ c. return (record { first = a; second = b; third = c }))) (took-number p)
-      (λ b q g. is-onward (λ x next. Took s q (x ∷ []) next) (TookRow at) (number s q) (λ c. return (record { first = a; second = b; third = c })) (took-number q)
-      (λ c n h. took-both s at p n (a ∷ []) (b ∷ c ∷ []) f (took-both s p q n (b ∷ []) (c ∷ []) g h))))
-
   abbrev rowNumbers : List Row → List ℕ
   rowNumbers rs = edgeNumbers (map (λ r. r .first) rs) (map (λ r. r .second) rs) (map (λ r. delayOf (r .third)) rs)
 
@@ -208,7 +134,7 @@ module _ (s : List ℕ) (bytes : Bytes s) where
   took-rows : (k at : ℕ) → Is (TookRows k at) (repeated k (row s) at)
   took-rows zero at = (took-none s at, refl)
   took-rows (suc k) at =
-      is-onward (TookRow at) (TookRows (suc k) at) (row s at) (λ r. repeated k (row s) >>= (λ rs. return (r ∷ rs))) (took-row at)
+      is-onward (TookRow s bytes at) (TookRows (suc k) at) (row s at) (λ r. repeated k (row s) >>= (λ rs. return (r ∷ rs))) (took-row s bytes at)
       (λ r a f. is-onward (TookRows k a) (TookRows (suc k) at) (repeated k (row s) a) (λ rs. return (r ∷ rs)) (took-rows k a)
       (λ rs b g. (rw (packed-delay (r .third)) (took-both s at a b (r .first ∷ r .second ∷ r .third ∷ []) (rowNumbers rs) f (g .0)), ap suc (g .1))))
 
@@ -228,9 +154,9 @@ module _ (s : List ℕ) (bytes : Bytes s) where
   took-paths table zero sum at = (paths-none at, refl)
   took-paths table (suc k) sum at =
       let test : ℕ → Verdict = λ n. unless 21 (leb (sum + n) 8192) then unless 36 (leb (sum + n) table) in
-      is-onward (λ x next. Took s at (x ∷ []) next) (TookPaths (suc k) at) (number s at) _ (took-number at)
+      is-onward (λ x next. Took s at (x ∷ []) next) (TookPaths (suc k) at) (number s at) _ (took-number s bytes at)
       (λ n a f. is-onward (TestIs (test n) a) (TookPaths (suc k) at) (tested (test n) a) _ (is-tested (test n) a)
-      (λ u b t. is-onward (TookNumbers n b) (TookPaths (suc k) at) (repeated n (number s) b) _ (took-numbers n b)
+      (λ u b t. is-onward (TookNumbers s bytes n b) (TookPaths (suc k) at) (repeated n (number s) b) _ (took-numbers s bytes n b)
       (λ p d g. is-onward (TookPaths k d) (TookPaths (suc k) at) (paths s table k (sum + n) d) _ (took-paths table k (sum + n) d)
       (λ l e h. (
         rw (path-numbers n p (l .edges) (l .lengths) (g .1))
@@ -238,16 +164,6 @@ module _ (s : List ℕ) (bytes : Bytes s) where
             (rw (t .1) at (took-both s b d e p (flatMap pathNumbers (cut (l .edges) (l .lengths))) (g .0) (h .0)))),
         ap suc (h .1),
       )))))
-
-  is-ended : (at : ℕ) → Is (λ u next. length s ≤ at) (ended s at)
-  is-ended at = by (leb (length s) at) refl
-    where
-      by : (t : Bool) → leb (length s) at ≡ t → Is (λ u next. length s ≤ at) (cond t (found (tt {0}) at) (stopped (refusal 3 at)))
-      by true e = leb-true (length s) at e
-      by false e = tt
-
-  whole : (next : ℕ) (xs : List ℕ) → Took s 0 xs next → length s ≤ next → bytesOf xs ≡ s
-  whole next xs f h = sym (f ∙ ap (λ (l : List ℕ). bytesOf xs ++ l) (drop-of-length-le s h) ∙ append-nil (bytesOf xs))
 
   -- the parts of a deck, put together
   took-parts : (n m count e : ℕ) (rows : List Row) (list : PathList) (a b c p t f : ℕ) → Took s 0 (n ∷ []) a → Took s a (m ∷ []) b → TookRows m b rows c → Took s c (count ∷ []) p
@@ -263,7 +179,7 @@ module _ (s : List ℕ) (bytes : Bytes s) where
       let ps = flatMap pathNumbers (cut (list .edges) (list .lengths)) in
       packed-deck d ∙ ap bytesOf (deck-parts d)
       ∙ rw (k, hp .1)
-      (whole f ((n ∷ m ∷ rowNumbers rows) ++ (count ∷ ps) ++ (e ∷ []))
+      (whole s bytes f ((n ∷ m ∷ rowNumbers rows) ++ (count ∷ ps) ++ (e ∷ []))
       (took-both s 0 t f ((n ∷ m ∷ rowNumbers rows) ++ (count ∷ ps)) (e ∷ [])
       (took-both s 0 c t (n ∷ m ∷ rowNumbers rows) (count ∷ ps) (took-both s 0 a c (n ∷ []) (m ∷ rowNumbers rows) hn (took-both s a b c (m ∷ []) (rowNumbers rows) hm (hr .0)))
       (took-both s c p t (count ∷ []) ps hc (hp .0)))
@@ -274,18 +190,18 @@ module _ (s : List ℕ) (bytes : Bytes s) where
   unfolding readDeck
   took-deck tables =
       let Q : Deck → ℕ → Type 0 = λ d next. packedDeck d ≡ s in
-      is-onward (λ x next. Took s 0 (x ∷ []) next) Q (number s 0) _ (took-number 0)
+      is-onward (λ x next. Took s 0 (x ∷ []) next) Q (number s 0) _ (took-number s bytes 0)
       (λ n a hn. is-onward (TestIs (unless 10 (leb n 4096)) a) Q (tested (unless 10 (leb n 4096)) a) _ (is-tested (unless 10 (leb n 4096)) a)
-      (λ u a' ta. is-onward (λ x next. Took s a' (x ∷ []) next) Q (number s a') _ (took-number a')
+      (λ u a' ta. is-onward (λ x next. Took s a' (x ∷ []) next) Q (number s a') _ (took-number s bytes a')
       (λ m b hm. is-onward (TestIs (unless 11 (leb m 16384) then unless 36 (leb m (tables .edges))) b) Q (tested (unless 11 (leb m 16384) then unless 36 (leb m (tables .edges))) b) _
       (is-tested (unless 11 (leb m 16384) then unless 36 (leb m (tables .edges))) b)
       (λ u' b' tb. is-onward (TookRows m b') Q (repeated m (row s) b') _ (took-rows m b')
-      (λ rows c hr. is-onward (λ x next. Took s c (x ∷ []) next) Q (number s c) _ (took-number c)
+      (λ rows c hr. is-onward (λ x next. Took s c (x ∷ []) next) Q (number s c) _ (took-number s bytes c)
       (λ count p hc. is-onward (TestIs (unless 20 (leb count 1024) then unless 36 (leb count (tables .paths))) p) Q (tested (unless 20 (leb count 1024) then unless 36 (leb count (tables .paths))) p) _
       (is-tested (unless 20 (leb count 1024) then unless 36 (leb count (tables .paths))) p)
       (λ u″ p' tp. is-onward (TookPaths count p') Q (paths s (tables .listed) count 0 p') _ (took-paths (tables .listed) count 0 p')
-      (λ list t hp. is-onward (λ x next. Took s t (x ∷ []) next) Q (number s t) _ (took-number t)
-      (λ e f ht. is-onward (λ v z. length s ≤ f) Q (ended s f) _ (is-ended f)
+      (λ list t hp. is-onward (λ x next. Took s t (x ∷ []) next) Q (number s t) _ (took-number s bytes t)
+      (λ e f ht. is-onward (λ v z. length s ≤ f) Q (ended s f) _ (is-ended s bytes f)
       (λ v z he. took-parts n m count e rows list a' b' c p' t f (rw (ta .1) hn) (rw (tb .1) hm) hr (rw (tp .1) hc) hp ht he))))))))))
 
 -- Packing a deck that was read gives the bytes that were read, all of them.

@@ -1,97 +1,199 @@
--- Reading what was written gives the same graph.
-use Prim.Native.Nat.{ℕ, _+_, _-_, _≤_, _<_}
+-- Reading what was written gives the same graph, and writing what was read gives the same bytes, over what `read_graph` and
+-- `write_graph` answer and leave.
+use Prim.Native.Nat.{ℕ, zero, suc, _≤_}
 use native.Mathlib.Omega.{arith}
-use mathlib.Core.Path.{_≡_, refl, sym, _∙_, ap, subst}
-use mathlib.Core.List.{List, [], _∷_, _++_, map, flatMap, append-assoc, append-nil}
+use mathlib.Core.Path.{_≡_, refl, sym, _∙_, ap}
+use mathlib.Core.List.{List, [], _∷_, _++_, map, flatMap, append-nil}
 use lib.Dec.{leb}
-use lib.ListN.{length, drop, length-drop}
-use lib.Seq.{drop-drop, drop-append-seam}
-use borrow.Author.Tests.{le-leb}
-use Rattle.timing.specs.Graphs.{Edge, edge, Graph, graph}
-use Rattle.timing.specs.Numbers.{packed, readNumber}
+use lib.ListN.{length, take, drop, length-drop, length-map}
+use borrow.Author.Tests.{le-leb, leb-true}
+use Rattle.timing.specs.declared.Verdict.{Verdict}
+use Rattle.timing.specs.declared.Verdict.the-variants.{Passed}
+use Rattle.timing.specs.declared.Verdict.the-variants.{Refused as NotPassed}
+use Rattle.timing.specs.declared.Written.the-variants.{End}
+use Rattle.timing.specs.Graphs.{Edge, Graph, graph, edgesOf}
 use Rattle.timing.specs.GraphBytes.{graphNumbers, packedGraph, readGraph}
-use Rattle.timing.specs.Parsing.{found, number, repeated, Row, row, ended}
-use Rattle.timing.specs.Calls.{made, parsed}
-use Rattle.packed.proofs.Numbers.{cap-32, read-packed}
-use Rattle.packed_lists.proofs.Sizes.{bytes-append, size-cons}
+use Rattle.timing.specs.Refusals.{unless, _then_}
+use Rattle.timing.specs.Parsing.{Parsed, found, stopped, _>>=_, return, tested, number, repeated, Row, row, ended}
+use Rattle.timing.specs.Tests.{graphCounts, Room, roomSizes}
+use Rattle.timing.specs.Calls.{GraphSlices, graphSlices, graphOf, slicesOf, made, parsed, guarded, writing, roomAfterWriting, graphWriteTests, graphRead}
+use Rattle.timing.proofs.Verdicts.{then-passed, unless-passed}
+use Rattle.theorems.proofs.Series.{graph-slices, slices-sizes}
+use Rattle.packed.proofs.Numbers.{Bytes}
+use Rattle.deck_writer.specs.Writing.{bytesOf}
+use Rattle.deck_reader.proofs.Reading.{Is, is-onward, TestIs, is-tested}
 use Rattle.graph_reader.proofs.Looking.{edgeOfRow}
+use Rattle.graph_writer.proofs.Writing.{Fits, tests-are, tests-fit}
+use Rattle.round_trip.proofs.Numbers.{Small, small-append, There, number-there, numbers-there, Took, took-both, took-none, took-number, TookNumbers, took-numbers, TookRow, took-row, is-ended, whole, front-left, left-front}
 
--- numbers of document 01
-abbrev pub Small : List ℕ → Type 0
-Small [] = Unit {0}
-Small (x ∷ xs) = (x < 4294967296) × Small xs
+abbrev rowNumbers : List Edge → List ℕ
+rowNumbers es = flatMap (λ e. e .start ∷ e .end ∷ e .name ∷ []) es
 
-small-append : (xs ys : List ℕ) → Small (xs ++ ys) → Small xs × Small ys
-small-append [] ys s = (tt, s)
-small-append (x ∷ xs) ys s = let r = small-append xs ys (s .1) in ((s .0, r .0), r .1)
+packed-graph : (G : Graph) → packedGraph G ≡ bytesOf (graphNumbers G)
+unfolding packedGraph bytesOf
+packed-graph G = refl
 
--- a number, and numbers, read back where they stand
-number-back : (s : List ℕ) (at x : ℕ) (t : List ℕ) → x < 4294967296 → drop at s ≡ packed x ++ t
-    → (number s at ≡ found x (at + length (packed x))) × (drop (at + length (packed x)) s ≡ t)
-unfolding readNumber
-number-back s at x t h e = (
-  rw (e, read-packed 15 4 x t (rw cap-32 h)),
-  sym (drop-drop (length (packed x)) at s) ∙ ap (drop (length (packed x))) e ∙ drop-append-seam (packed x) t,
-)
-
-numbers-back : (s : List ℕ) (at : ℕ) (xs t : List ℕ) → Small xs → drop at s ≡ flatMap packed xs ++ t
-    → (repeated (length xs) (number s) at ≡ found xs (at + length (flatMap packed xs))) × (drop (at + length (flatMap packed xs)) s ≡ t)
-unfolding flatMap
-numbers-back s at [] t small e =
-    let d : at ≡ at + 0 = omega arith in
-    (ap (found []) d, ap (λ (k : ℕ). drop k s) (sym d) ∙ e)
-numbers-back s at (x ∷ xs) t small e =
-    let n = number-back s at x (flatMap packed xs ++ t) (small .0) (e ∙ append-assoc (packed x) (flatMap packed xs) t) in
-    let r = numbers-back s (at + length (packed x)) xs t (small .1) (n .1) in
-    let d : at + length (packed x) + length (flatMap packed xs) ≡ at + length (flatMap packed (x ∷ xs)) = omega (arith, size-cons x xs) in
-    (rw (n .0, r .0) (ap (found (x ∷ xs)) d), ap (λ (k : ℕ). drop k s) (sym d) ∙ r .1)
-
+-- 1. Reading what was written.
 abbrev rowOf : Edge → Row
 rowOf e = record { first = e .start; second = e .end; third = e .name }
 
-abbrev pub rowNumbers : List Edge → List ℕ
-rowNumbers es = flatMap (λ e. e .start ∷ e .end ∷ e .name ∷ []) es
-
--- and rows
-rows-back : (s : List ℕ) (at : ℕ) (es : List Edge) (t : List ℕ) → Small (rowNumbers es) → drop at s ≡ flatMap packed (rowNumbers es) ++ t
-    → (b : ℕ) × (repeated (length es) (row s) at ≡ found (map rowOf es) b) × (drop b s ≡ t)
+rows-there : (s : List ℕ) (at : ℕ) (es : List Edge) (ys : List ℕ) → Small (rowNumbers es) → drop at s ≡ bytesOf (rowNumbers es ++ ys)
+    → There s (repeated (length es) (row s)) at (map rowOf es) ys
 unfolding flatMap
-rows-back s at [] t small e = (at, refl, e)
-rows-back s at (f ∷ es) t small e =
-    let R = flatMap packed (rowNumbers es) in
-    let pa = packed (f .start) in
-    let pb = packed (f .end) in
-    let pc = packed (f .name) in
-    let e₁ = e ∙ append-assoc pa (pb ++ (pc ++ R)) t in
-    let n₁ = number-back s at (f .start) ((pb ++ (pc ++ R)) ++ t) (small .0) e₁ in
-    let n₂ = number-back s (at + length pa) (f .end) ((pc ++ R) ++ t) (small .1 .0) (n₁ .1 ∙ append-assoc pb (pc ++ R) t) in
-    let n₃ = number-back s (at + length pa + length pb) (f .name) (R ++ t) (small .1 .1 .0) (n₂ .1 ∙ append-assoc pc R t) in
-    let r = rows-back s (at + length pa + length pb + length pc) es t (small .1 .1 .1) (n₃ .1) in
-    (r .0, rw (n₁ .0, n₂ .0, n₃ .0, r .1), r .2)
+rows-there s at [] ys h e = record { next = at; reads = refl; left = e }
+rows-there s at (f ∷ es) ys h e =
+    let t = number-there s at (f .start) (f .end ∷ f .name ∷ (rowNumbers es ++ ys)) (h .0) e in
+    let u = number-there s (t .next) (f .end) (f .name ∷ (rowNumbers es ++ ys)) (h .1 .0) (t .left) in
+    let v = number-there s (u .next) (f .name) (rowNumbers es ++ ys) (h .1 .1 .0) (u .left) in
+    let w = rows-there s (v .next) es ys (h .1 .1 .1) (v .left) in
+    record { next = w .next; reads = rw (t .reads, u .reads, v .reads, w .reads); left = w .left }
 
 same-edges : (es : List Edge) → map edgeOfRow (map rowOf es) ≡ es
 same-edges [] = refl
 same-edges (e ∷ es) = ap (λ (l : List Edge). e ∷ l) (same-edges es)
 
 -- a packed graph, read into a room that is large enough, is the graph
-pub read-packed-graph : (G : Graph) (copies edges : ℕ) → Small (graphNumbers G)
-    → length (G .nodes) ≤ 16384 → length (G .nodes) ≤ copies → length (G .edges) ≤ 65536 → length (G .edges) ≤ edges
-    → parsed (readGraph (packedGraph G) copies edges) ≡ made G
-unfolding readGraph packedGraph graphNumbers flatMap
-read-packed-graph G copies edges small h₁ h₂ h₃ h₄ =
+graph-there : (G : Graph) (copies edges : ℕ) (s : List ℕ) → s ≡ bytesOf (graphNumbers G) → Small (graphNumbers G)
+    → length (G .nodes) ≤ 16384 → length (G .nodes) ≤ copies → length (G .edges) ≤ 65536 → length (G .edges) ≤ edges → parsed (readGraph s copies edges) ≡ made G
+unfolding readGraph graphNumbers bytesOf flatMap
+graph-there G copies edges s e h h₁ h₂ h₃ h₄ =
     let n = length (G .nodes) in
     let m = length (G .edges) in
-    let xs = G .nodes in
-    let ys = rowNumbers (G .edges) in
-    let s = flatMap packed ((n ∷ xs) ++ (m ∷ ys)) in
-    let S = small-append (n ∷ xs) (m ∷ ys) small in
-    let A = flatMap packed xs in
-    let C = packed m ++ flatMap packed ys in
-    let e₀ : s ≡ packed n ++ (A ++ C) = bytes-append (n ∷ xs) (m ∷ ys) ∙ append-assoc (packed n) A C in
-    let n₀ = number-back s 0 n (A ++ C) (S .0 .0) e₀ in
-    let r₀ = numbers-back s (0 + length (packed n)) xs C (S .0 .1) (n₀ .1) in
-    let a = 0 + length (packed n) + length A in
-    let n₁ = number-back s a m (flatMap packed ys) (S .1 .0) (r₀ .1) in
-    let r₁ = rows-back s (a + length (packed m)) (G .edges) [] (S .1 .1) (n₁ .1 ∙ sym (append-nil (flatMap packed ys))) in
-    let d : length s ≤ r₁ .0 = omega (arith, length-drop (r₁ .0) s, ap length (r₁ .2)) in
-    rw (n₀ .0, le-leb n 16384 h₁, le-leb n copies h₂, r₀ .0, n₁ .0, le-leb m 65536 h₃, le-leb m edges h₄, r₁ .1, le-leb (length s) (r₁ .0) d, same-edges (G .edges))
+    let rows = rowNumbers (G .edges) in
+    let g = small-append (G .nodes) (m ∷ rows) (h .1) in
+    let a = number-there s 0 n (G .nodes ++ (m ∷ rows)) (h .0) e in
+    let b = numbers-there s (a .next) (G .nodes) (m ∷ rows) (g .0) (a .left) in
+    let c = number-there s (b .next) m rows (g .1 .0) (b .left) in
+    let r = rows-there s (c .next) (G .edges) [] (g .1 .1) (c .left ∙ ap bytesOf (sym (append-nil rows))) in
+    let d : length s ≤ r .next = omega (arith, length-drop (r .next) s, ap length (r .left)) in
+    rw (
+      a .reads,
+      le-leb n 16384 h₁,
+      le-leb n copies h₂,
+      b .reads,
+      c .reads,
+      le-leb m 65536 h₃,
+      le-leb m edges h₄,
+      r .reads,
+      le-leb (length s) (r .next) d,
+      same-edges (G .edges),
+    )
+
+-- the numbers of a graph are those of its slices
+small-rows : (a b c : List ℕ) → Small a → Small b → Small c → Small (rowNumbers (edgesOf a b c))
+unfolding flatMap
+small-rows [] b c f g h = tt
+small-rows (x ∷ a) [] c f g h = tt
+small-rows (x ∷ a) (y ∷ b) [] f g h = tt
+small-rows (x ∷ a) (y ∷ b) (z ∷ c) f g h = (f .0, (g .0, (h .0, small-rows a b c (f .1) (g .1) (h .1))))
+
+small-both : (xs ys : List ℕ) → Small xs → Small ys → Small (xs ++ ys)
+small-both [] ys f g = g
+small-both (x ∷ xs) ys f g = (f .0, small-both xs ys (f .1) g)
+
+slices-same : (a b c : List ℕ) → length b ≡ length a → length c ≡ length a
+    → (map (λ e. e .start) (edgesOf a b c) ≡ a) × (map (λ e. e .end) (edgesOf a b c) ≡ b) × (map (λ e. e .name) (edgesOf a b c) ≡ c)
+slices-same [] [] [] f g = (refl, refl, refl)
+slices-same [] (y ∷ b) c f g = absurd (omega arith)
+slices-same [] [] (z ∷ c) f g = absurd (omega arith)
+slices-same (x ∷ a) [] c f g = absurd (omega arith)
+slices-same (x ∷ a) (y ∷ b) [] f g = absurd (omega arith)
+slices-same (x ∷ a) (y ∷ b) (z ∷ c) f g = let p = slices-same a b c (omega arith) (omega arith) in (rw (p .0), rw (p .1), rw (p .2))
+
+-- what the writer's tests say of a graph
+fits : (S : GraphSlices) → graphWriteTests S ≡ Passed → Fits (S .nodes) (S .starts) (S .ends) (S .names)
+fits S e = tests-fit (S .nodes) (S .starts) (S .ends) (S .names) (sym (tests-are (S .nodes) (S .starts) (S .ends) (S .names)) ∙ e)
+
+-- Where `write_graph` answers a length, reading so many bytes of its room gives the same graph, whose slices are those that were
+-- written: for numbers of 32 bits, and room for as many copies and edges.
+pub read-written : (S : GraphSlices) (room : List ℕ) (n : ℕ) (R : Room) → Small (S .nodes) → Small (S .starts) → Small (S .ends) → Small (S .names)
+    → roomSizes R ≡ Passed → length (S .nodes) ≤ R .nodes → length (S .starts) ≤ R .starts
+    → writing (graphWriteTests S) room (packedGraph (graphOf S)) ≡ End n
+    → (graphRead (take n (roomAfterWriting (graphWriteTests S) room (packedGraph (graphOf S)))) R ≡ made (graphOf S)) × (slicesOf (graphOf S) ≡ S)
+unfolding graphRead graphNumbers
+read-written S room n R sn ss se sm z hn he w =
+    let l = front-left (graphWriteTests S) room (packedGraph (graphOf S)) n w in
+    let k = fits S (l .0) in
+    let p = slices-same (S .starts) (S .ends) (S .names) (k .ends) (k .names) in
+    let m : length (edgesOf (S .starts) (S .ends) (S .names)) ≡ length (S .starts) = sym (length-map (edgesOf (S .starts) (S .ends) (S .names)) (λ (e : Edge). e .start)) ∙ ap length (p .0) in (
+      rw (l .1, z)
+          (graph-there (graphOf S) (R .nodes) (R .starts) (packedGraph (graphOf S)) (packed-graph (graphOf S))
+          (omega (arith, k .copies), small-both (S .nodes) _ sn (omega (arith, k .edges), small-rows (S .starts) (S .ends) (S .names) ss se sm))
+          (k .copies) hn (omega (arith, k .edges)) (omega arith)),
+      λ i. graphSlices (S .nodes) (p .0 i) (p .1 i) (p .2 i),
+    )
+
+-- 2. Writing what was read.
+module _ (s : List ℕ) (bytes : Bytes s) where
+  abbrev TookRows : ℕ → ℕ → List Row → ℕ → Type 0
+  TookRows k at rs next = Took s at (rowNumbers (map edgeOfRow rs)) next × (length rs ≡ k)
+
+  took-rows : (k at : ℕ) → Is (TookRows k at) (repeated k (row s) at)
+  unfolding flatMap
+  took-rows zero at = (took-none s at, refl)
+  took-rows (suc k) at =
+      is-onward (TookRow s bytes at) (TookRows (suc k) at) (row s at) (λ r. repeated k (row s) >>= (λ rs. return (r ∷ rs))) (took-row s bytes at)
+      (λ r a f. is-onward (TookRows k a) (TookRows (suc k) at) (repeated k (row s) a) (λ rs. return (r ∷ rs)) (took-rows k a)
+      (λ rs b g. (took-both s at a b (r .first ∷ r .second ∷ r .third ∷ []) (rowNumbers (map edgeOfRow rs)) f (g .0), ap suc (g .1))))
+
+  -- a graph that was read takes just the bytes that it was read from, and is within the limits
+  abbrev WasRead : Graph → Type 0
+  WasRead G = (packedGraph G ≡ s) × (length (G .nodes) ≤ 16384) × (length (G .edges) ≤ 65536)
+
+  limited : (limit full n room : ℕ) → (unless 32 (leb n limit) then unless full (leb n room)) ≡ Passed → n ≤ limit
+  limited limit full n room e = leb-true n limit (unless-passed 32 (leb n limit) (then-passed (unless 32 (leb n limit)) _ e .0))
+
+  took-parts : (n m copies edges : ℕ) (nodes : List ℕ) (rows : List Row) (a b c d : ℕ) → Took s 0 (n ∷ []) a → (unless 32 (leb n 16384) then unless 33 (leb n copies)) ≡ Passed
+      → TookNumbers s bytes n a nodes b → Took s b (m ∷ []) c → (unless 32 (leb m 65536) then unless 34 (leb m edges)) ≡ Passed → TookRows m c rows d → length s ≤ d
+      → WasRead (graph nodes (map edgeOfRow rows))
+  unfolding graphNumbers
+  took-parts n m copies edges nodes rows a b c d hn tn hs hm tm hr he =
+      let G = graph nodes (map edgeOfRow rows) in
+      let k : length (map edgeOfRow rows) ≡ m = length-map rows edgeOfRow ∙ hr .1 in (
+        packed-graph G
+            ∙ rw (hs .1, k)
+            (whole s bytes d ((n ∷ nodes) ++ (m ∷ rowNumbers (map edgeOfRow rows)))
+            (took-both s 0 b d (n ∷ nodes) (m ∷ rowNumbers (map edgeOfRow rows)) (took-both s 0 a b (n ∷ []) nodes hn (hs .0))
+            (took-both s b c d (m ∷ []) (rowNumbers (map edgeOfRow rows)) hm (hr .0)))
+            he),
+        omega (arith, limited 16384 33 n copies tn, hs .1),
+        omega (arith, limited 65536 34 m edges tm, k),
+      )
+
+  took-graph : (copies edges : ℕ) → Is (λ G next. WasRead G) (readGraph s copies edges)
+  unfolding readGraph
+  took-graph copies edges =
+      let Q : Graph → ℕ → Type 0 = λ G next. WasRead G in
+      let test : ℕ → ℕ → ℕ → ℕ → Verdict = λ limit full n room. unless 32 (leb n limit) then unless full (leb n room) in
+      is-onward (λ x next. Took s 0 (x ∷ []) next) Q (number s 0) _ (took-number s bytes 0)
+      (λ n a hn. is-onward (TestIs (test 16384 33 n copies) a) Q (tested (test 16384 33 n copies) a) _ (is-tested (test 16384 33 n copies) a)
+      (λ u a' ta. is-onward (TookNumbers s bytes n a') Q (repeated n (number s) a') _ (took-numbers s bytes n a')
+      (λ nodes b hs. is-onward (λ x next. Took s b (x ∷ []) next) Q (number s b) _ (took-number s bytes b)
+      (λ m c hm. is-onward (TestIs (test 65536 34 m edges) c) Q (tested (test 65536 34 m edges) c) _ (is-tested (test 65536 34 m edges) c)
+      (λ u' c' tc. is-onward (TookRows m c') Q (repeated m (row s) c') _ (took-rows m c')
+      (λ rows d hr. is-onward (λ v z. length s ≤ d) Q (ended s d) _ (is-ended s bytes d)
+      (λ v z he. took-parts n m copies edges nodes rows a' b c' d (rw (ta .1) hn) (ta .0) hs (rw (tc .1) hm) (tc .0) hr he)))))))
+
+-- a graph that was read passes the writer's tests
+tests-read : (G : Graph) → length (G .nodes) ≤ 16384 → length (G .edges) ≤ 65536 → graphWriteTests (slicesOf G) ≡ Passed
+unfolding graphWriteTests
+tests-read G h k = rw (slices-sizes G) (ap graphCounts (graph-slices G) ∙ rw (le-leb (length (G .nodes)) 16384 h, le-leb (length (G .edges)) 65536 k))
+
+-- Where `read_graph` makes a graph, `write_graph` of its slices, into a room that is long enough, answers the length of the bytes
+-- that were read and leaves these bytes.
+pub written-read : (s : List ℕ) (R : Room) (G : Graph) (room : List ℕ) → Bytes s → graphRead s R ≡ made G → length s ≤ length room
+    → (writing (graphWriteTests (slicesOf G)) room (packedGraph (graphOf (slicesOf G))) ≡ End (length s))
+    × (take (length s) (roomAfterWriting (graphWriteTests (slicesOf G)) room (packedGraph (graphOf (slicesOf G)))) ≡ s)
+unfolding graphRead
+written-read s R G room bytes e h =
+    let w = by (roomSizes R) e in
+    let b : packedGraph (graphOf (slicesOf G)) ≡ s = ap packedGraph (graph-slices G) ∙ w .0 in
+    rw b (left-front (graphWriteTests (slicesOf G)) room s (tests-read G (w .1) (w .2)) h)
+  where
+    two : (p : Parsed Graph) → Is (λ G next. WasRead s bytes G) p → parsed p ≡ made G → WasRead s bytes G
+    two (found x at) k q = let g : x ≡ G = cc in rw (← g) k
+    two (stopped r) k q = absurd (let z : _≡_ {A = ℕ} 0 1 = cc in omega arith)
+
+    by : (v : Verdict) → guarded v (parsed (readGraph s (R .nodes) (R .starts))) ≡ made G → WasRead s bytes G
+    by Passed q = two (readGraph s (R .nodes) (R .starts)) (took-graph s bytes (R .nodes) (R .starts)) q
+    by (NotPassed r) q = absurd (let z : _≡_ {A = ℕ} 0 1 = cc in omega arith)
