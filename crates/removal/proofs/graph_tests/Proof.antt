@@ -8,7 +8,7 @@ use Rattle.timing.specs.Marks.{pathList}
 use Rattle.timing.specs.Refusals.{_then_}
 use Rattle.timing.specs.Tests.{sameSizes, designSizes, listSizes, nodeCount, designTests, listTests, graphTest}
 use Rattle.timing.specs.Calls.{graphSlices, graphOf}
-use Rattle.removal.proofs.Laws.{graph-called}
+use Rattle.removal.proofs.Whole.TestLaws.{graph-called}
 use borrow.Author.Needs.{needs}
 use Rattle.removal.proofs.graph_tests.Statement.{statement}
 use Rattle.removal.proofs.graph_tests.Tie as tie

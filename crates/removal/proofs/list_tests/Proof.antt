@@ -5,7 +5,7 @@ use Rattle.timing.specs.Graphs.{design}
 use Rattle.timing.specs.Marks.{pathList}
 use Rattle.timing.specs.Refusals.{_then_}
 use Rattle.timing.specs.Tests.{designSizes, listSizes, designTests, listTests}
-use Rattle.removal.proofs.Laws.{list-chain}
+use Rattle.removal.proofs.Whole.TestLaws.{list-chain}
 use borrow.Author.Needs.{needs}
 use Rattle.removal.proofs.list_tests.Statement.{statement}
 use Rattle.removal.proofs.list_tests.Tie as tie

@@ -1,7 +1,7 @@
 -- The tests refuse, and nothing has changed; or they pass, and the passes are asked about the design as a graph.
 use mathlib.Core.Path.{_≡_, refl, _∙_}
 use lib.ListN.{length}
-use Rattle.removal.proofs.Laws.{designBefore, design-tested, design-refused, design-numberable, design-removed}
+use Rattle.removal.proofs.Whole.TestLaws.{designBefore, design-tested, design-refused, design-numberable, design-removed}
 use borrow.Author.Needs.{needs}
 use Rattle.removal.proofs.remove_from_design.Statement.{statement}
 use Rattle.removal.proofs.remove_from_design.Tie as tie

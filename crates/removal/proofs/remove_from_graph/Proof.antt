@@ -1,6 +1,6 @@
 -- The tests refuse, and nothing has changed; or they pass, and the passes are asked.
 use mathlib.Core.Path.{_≡_, _∙_}
-use Rattle.removal.proofs.Laws.{graphBefore, graph-tested, graph-refused, graph-workable, graph-rooms, graph-removed}
+use Rattle.removal.proofs.Whole.TestLaws.{graphBefore, graph-tested, graph-refused, graph-workable, graph-rooms, graph-removed}
 use borrow.Author.Needs.{needs}
 use Rattle.removal.proofs.remove_from_graph.Statement.{statement}
 use Rattle.removal.proofs.remove_from_graph.Tie as tie

@@ -5,7 +5,7 @@ use mathlib.Core.List.{List}
 use lib.ListN.{length}
 use Rattle.theorems.proofs.Lists.{length-upto}
 use Rattle.removal.specs.Remove.{Workable, AllRemoved}
-use Rattle.removal.proofs.Laws.{numbered-workable, numbered-removed}
+use Rattle.removal.proofs.Whole.TestLaws.{numbered-workable, numbered-removed}
 use borrow.Author.Needs.{needs}
 use Rattle.removal.proofs.remove_tested.Statement.{statement}
 use Rattle.removal.proofs.remove_tested.Tie as tie

@@ -9,8 +9,8 @@ use lib.ListN.{length, getD}
 use Rattle.timing.specs.Marks.{pathList}
 use Rattle.removal.specs.Table.{table}
 use Rattle.removal.specs.Search.{Around, Firsts}
-use Rattle.removal.proofs.FillLaws.{Filling, filling-start, filling-turn, filling-done, middle-small}
-use Rattle.removal.proofs.SearchLaws.{lower-le, around-read}
+use Rattle.removal.proofs.Building.FillLaws.{Filling, filling-start, filling-turn, filling-done, middle-small}
+use Rattle.removal.proofs.Building.SearchLaws.{lower-le, around-read}
 use borrow.Author.Needs.{needs}
 use Rattle.removal.proofs.bounds.fill_bounds.Statement.{statement}
 use Rattle.removal.proofs.bounds.fill_bounds.Tie as tie

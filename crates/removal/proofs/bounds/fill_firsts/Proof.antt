@@ -6,8 +6,8 @@ use mathlib.Core.Path.{_≡_, sym, _∙_, ap}
 use lib.ListN.{length, getD}
 use Rattle.removal.specs.Table.{table}
 use Rattle.removal.specs.Search.{codeIn}
-use Rattle.removal.proofs.Region.{table-at}
-use Rattle.removal.proofs.SearchLaws.{FirstsTo, firsts-start, firsts-next, firsts-done}
+use Rattle.removal.proofs.Building.Region.{table-at}
+use Rattle.removal.proofs.Building.SearchLaws.{FirstsTo, firsts-start, firsts-next, firsts-done}
 use borrow.Author.Needs.{needs}
 use Rattle.removal.proofs.bounds.fill_firsts.Statement.{statement}
 use Rattle.removal.proofs.bounds.fill_firsts.Tie as tie

@@ -3,7 +3,7 @@ use Prim.Native.Nat.{ℕ, _+_, _-_, _≤_, _<_}
 use native.Mathlib.Omega.{arith}
 use lib.ListN.{length}
 use Rattle.removal.specs.Search.{FilledTo}
-use Rattle.removal.proofs.SearchLaws.{filled-start, filled-more, filled-end}
+use Rattle.removal.proofs.Building.SearchLaws.{filled-start, filled-more, filled-end}
 use Rattle.removal.proofs.bounds.fill_to.Statement.{statement}
 use Rattle.removal.proofs.bounds.fill_to.Tie as tie
 

@@ -1,6 +1,6 @@
 -- Each table meets what the next call asks, and all of them together are what is built.
 use borrow.Author.Needs.{needs}
-use Rattle.removal.proofs.BuildLaws.{named-room, listed-few, rest-room, orderable, searchable, fillable, linkable-into, linkable-out, clear-room, built}
+use Rattle.removal.proofs.Building.BuildLaws.{named-room, listed-few, rest-room, orderable, searchable, fillable, linkable-into, linkable-out, clear-room, built}
 use Rattle.removal.proofs.build.build.Statement.{statement}
 use Rattle.removal.proofs.build.build.Tie as tie
 

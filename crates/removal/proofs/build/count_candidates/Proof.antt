@@ -3,7 +3,7 @@ use Prim.Native.Nat.{ℕ}
 use mathlib.Core.Path.{_∙_}
 use lib.ListN.{length-replicate}
 use borrow.Author.Needs.{needs}
-use Rattle.removal.proofs.CountLaws.{zeros, shares-candidates}
+use Rattle.removal.proofs.Building.CountLaws.{zeros, shares-candidates}
 use Rattle.removal.proofs.build.count_candidates.Statement.{statement}
 use Rattle.removal.proofs.build.count_candidates.Tie as tie
 

@@ -5,7 +5,7 @@ use native.Mathlib.Numerals.{add-one}
 use mathlib.Core.Path.{_≡_, _∙_, sym}
 use lib.ListN.{length, getD, drop}
 use Rattle.removal.specs.Counts.{shares}
-use Rattle.removal.proofs.CountLaws.{shares-start, shares-turn, shares-done}
+use Rattle.removal.proofs.Building.CountLaws.{shares-start, shares-turn, shares-done}
 use Rattle.removal.proofs.build.count_copies.Statement.{statement}
 use Rattle.removal.proofs.build.count_copies.Tie as tie
 

@@ -4,7 +4,7 @@ use native.Mathlib.Omega.{arith}
 use native.Mathlib.Numerals.{add-one}
 use mathlib.Core.Path.{_∙_, sym}
 use lib.ListN.{length, getD}
-use Rattle.removal.proofs.CountLaws.{TallyAt, tally-start, path-inside, path-counting, tally-turn, tally-done}
+use Rattle.removal.proofs.Building.CountLaws.{TallyAt, tally-start, path-inside, path-counting, tally-turn, tally-done}
 use Rattle.removal.proofs.build.count_inner.Statement.{statement}
 use Rattle.removal.proofs.build.count_inner.Tie as tie
 

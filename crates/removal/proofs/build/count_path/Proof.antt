@@ -5,7 +5,7 @@ use native.Mathlib.Numerals.{add-one}
 use mathlib.Core.Path.{_∙_}
 use borrow.Author.Needs.{needs}
 use lib.ListN.{getD}
-use Rattle.removal.proofs.CountLaws.{CountingAt, counting-start, counting-turn, counting-done, node-inside, node-few}
+use Rattle.removal.proofs.Building.CountLaws.{CountingAt, counting-start, counting-turn, counting-done, node-inside, node-few}
 use Rattle.removal.proofs.build.count_path.Statement.{statement}
 use Rattle.removal.proofs.build.count_path.Tie as tie
 

@@ -3,7 +3,7 @@ use Prim.Native.Nat.{ℕ, _+_, _-_}
 use native.Mathlib.Omega.{arith}
 use mathlib.Core.Path.{_≡_, _∙_, ap}
 use lib.ListN.{length, take, drop, replicate, length-replicate}
-use Rattle.removal.proofs.Region.{back-table, back-frame, table-length}
+use Rattle.removal.proofs.Building.Region.{back-table, back-frame, table-length}
 use Rattle.removal.specs.Table.{table}
 use borrow.Author.Needs.{needs}
 use Rattle.removal.proofs.chains.clear.Statement.{statement}

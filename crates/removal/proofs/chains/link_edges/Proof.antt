@@ -3,7 +3,7 @@ use Prim.Native.Nat.{ℕ, suc, _-_, _<_}
 use native.Mathlib.Omega.{arith}
 use mathlib.Core.Path.{_≡_, _∙_, subst}
 use lib.ListN.{getD}
-use Rattle.removal.proofs.LinkLaws.{Linking, linking-start, linking-turn, linking-done}
+use Rattle.removal.proofs.Building.LinkLaws.{Linking, linking-start, linking-turn, linking-done}
 use Rattle.removal.proofs.chains.link_edges.Statement.{statement}
 use Rattle.removal.proofs.chains.link_edges.Tie as tie
 

@@ -5,7 +5,7 @@ use native.Mathlib.Numerals.{add-one}
 use mathlib.Core.Path.{_≡_, subst}
 use Rattle.removal.specs.Result.{shownBelow}
 use Rattle.removal.specs.Fill.{boundsNow, shownNow}
-use Rattle.removal.proofs.WrittenLaws.{InAll, all-start, all-room, all-turn, room-size, edge-sizes, result-filled}
+use Rattle.removal.proofs.Filling.WrittenLaws.{InAll, all-start, all-room, all-turn, room-size, edge-sizes, result-filled}
 use Rattle.removal.proofs.fill.fill_all.Statement.{statement}
 use Rattle.removal.proofs.fill.fill_all.Tie as tie
 

@@ -6,8 +6,8 @@ use mathlib.Core.Path.{_≡_, subst}
 use Rattle.removal.specs.Slots.{slots}
 use Rattle.removal.specs.Result.{shownIn}
 use Rattle.removal.specs.Fill.{boundsNow, shownNow, numberNow}
-use Rattle.removal.proofs.RowLaws.{ready-held, count-inside}
-use Rattle.removal.proofs.WrittenLaws.{InCopy, copy-start, copy-room, copy-turn, room-size, edge-sizes}
+use Rattle.removal.proofs.Reaching.RowLaws.{ready-held, count-inside}
+use Rattle.removal.proofs.Filling.WrittenLaws.{InCopy, copy-start, copy-room, copy-turn, room-size, edge-sizes}
 use Rattle.removal.proofs.fill.fill_copy.Statement.{statement}
 use Rattle.removal.proofs.fill.fill_copy.Tie as tie
 

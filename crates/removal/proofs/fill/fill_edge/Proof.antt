@@ -3,7 +3,7 @@ use Prim.Native.Nat.{_<_}
 use native.Mathlib.Omega.{arith}
 use lib.ListN.{length}
 use borrow.Author.Needs.{needs}
-use Rattle.removal.proofs.FilledLaws.{edge-hidden, edge-fits, flag-two, edge-shown}
+use Rattle.removal.proofs.Filling.FilledLaws.{edge-hidden, edge-fits, flag-two, edge-shown}
 use Rattle.removal.proofs.fill.fill_edge.Statement.{statement}
 use Rattle.removal.proofs.fill.fill_edge.Tie as tie
 

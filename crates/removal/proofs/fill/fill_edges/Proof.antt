@@ -1,9 +1,9 @@
 -- `fill_edges` meets its contract. The invariant: the edges that the chain had up to now are written, and the chain from h on is the rest.
 use native.Mathlib.Omega.{arith}
 use borrow.Author.Needs.{needs}
-use Rattle.removal.proofs.ChainLaws.{chainLeft}
-use Rattle.removal.proofs.ShowTables.{chain-room}
-use Rattle.removal.proofs.FilledLaws.{Along, along-start, along-done, along-sizes, along-room, along-turn, along-falls, edge-inside}
+use Rattle.removal.proofs.Building.ChainLaws.{chainLeft}
+use Rattle.removal.proofs.Showing.ShowTables.{chain-room}
+use Rattle.removal.proofs.Filling.FilledLaws.{Along, along-start, along-done, along-sizes, along-room, along-turn, along-falls, edge-inside}
 use Rattle.removal.proofs.fill.fill_edges.Statement.{statement}
 use Rattle.removal.proofs.fill.fill_edges.Tie as tie
 

@@ -4,8 +4,8 @@ use mathlib.Core.Path.{_≡_, _∙_, ap}
 use lib.ListN.{getD}
 use borrow.Author.Needs.{needs}
 use Rattle.removal.specs.Rows.{flagIn}
-use Rattle.removal.proofs.RowLaws.{ready-held}
-use Rattle.removal.proofs.WrittenLaws.{slot-hidden, slot-number, slot-fits, slot-edges, slot-written}
+use Rattle.removal.proofs.Reaching.RowLaws.{ready-held}
+use Rattle.removal.proofs.Filling.WrittenLaws.{slot-hidden, slot-number, slot-fits, slot-edges, slot-written}
 use Rattle.removal.proofs.fill.fill_slot.Statement.{statement}
 use Rattle.removal.proofs.fill.fill_slot.Tie as tie
 

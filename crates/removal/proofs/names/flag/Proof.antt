@@ -1,5 +1,5 @@
 -- The word is set where there is one.
-use Rattle.removal.proofs.NameLaws.{flagged-set}
+use Rattle.removal.proofs.Building.NameLaws.{flagged-set}
 use borrow.Author.Needs.{needs}
 use Rattle.removal.proofs.names.flag.Statement.{statement}
 use Rattle.removal.proofs.names.flag.Tie as tie

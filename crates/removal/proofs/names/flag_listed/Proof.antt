@@ -5,7 +5,7 @@ use native.Mathlib.Omega.{arith}
 use native.Mathlib.Nat.{le-antisymm}
 use lib.ListN.{length}
 use Rattle.removal.specs.Names.{Noted}
-use Rattle.removal.proofs.NameLaws.{noted-none, noted-step}
+use Rattle.removal.proofs.Building.NameLaws.{noted-none, noted-step}
 use Rattle.removal.proofs.names.flag_listed.Statement.{statement}
 use Rattle.removal.proofs.names.flag_listed.Tie as tie
 

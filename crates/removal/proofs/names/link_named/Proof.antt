@@ -1,5 +1,5 @@
 -- The words of the names stand after the chains.
-use Rattle.removal.proofs.NameLaws.{linked-named}
+use Rattle.removal.proofs.Building.NameLaws.{linked-named}
 use borrow.Author.Needs.{needs}
 use Rattle.removal.proofs.names.link_named.Statement.{statement}
 use Rattle.removal.proofs.names.link_named.Tie as tie

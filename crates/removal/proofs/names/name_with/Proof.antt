@@ -5,7 +5,7 @@ use native.Mathlib.Nat.{le-antisymm}
 use lib.ListN.{length}
 use borrow.Author.Needs.{needs}
 use Rattle.removal.specs.Names.{Named}
-use Rattle.removal.proofs.NameLaws.{named-none, named-step}
+use Rattle.removal.proofs.Building.NameLaws.{named-none, named-step}
 use Rattle.removal.proofs.names.name_with.Statement.{statement}
 use Rattle.removal.proofs.names.name_with.Tie as tie
 

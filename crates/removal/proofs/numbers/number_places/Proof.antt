@@ -3,7 +3,7 @@ use Prim.Native.Nat.{ℕ, _-_, _≤_, _<_}
 use native.Mathlib.Omega.{arith}
 use mathlib.Core.Path.{_≡_, refl, _∙_}
 use lib.ListN.{length, getD, length-set}
-use Rattle.removal.proofs.Laws.{front-upto, numbered-next}
+use Rattle.removal.proofs.Whole.TestLaws.{front-upto, numbered-next}
 use Rattle.removal.proofs.numbers.number_places.Statement.{statement}
 use Rattle.removal.proofs.numbers.number_places.Tie as tie
 

@@ -8,7 +8,7 @@ use Rattle.timing.specs.declared.Refusal.{Refusal}
 use Rattle.timing.specs.declared.GraphMade.the-variants.{Refused as NoGraph}
 use Rattle.theorems.proofs.Lists.{holds}
 use Rattle.removal.specs.Remove.{AllRemoved}
-use Rattle.removal.proofs.AnswerLaws.{work-countable, work-in, search-removed, removed-refused, removed-made}
+use Rattle.removal.proofs.Whole.AnswerLaws.{work-countable, work-in, search-removed, removed-refused, removed-made}
 use borrow.Author.Needs.{needs}
 use Rattle.removal.proofs.remove.remove.Statement.{statement}
 use Rattle.removal.proofs.remove.remove.Tie as tie

@@ -1,5 +1,5 @@
 -- Each pass meets what the next one asks, and together they are what is found.
-use Rattle.removal.proofs.RemoveLaws.{buildable, built-ready, built-zero, reached-ready, found}
+use Rattle.removal.proofs.Whole.RemoveLaws.{buildable, built-ready, built-zero, reached-ready, found}
 use borrow.Author.Needs.{needs}
 use Rattle.removal.proofs.remove.search.Statement.{statement}
 use Rattle.removal.proofs.remove.search.Tie as tie

@@ -1,8 +1,8 @@
 -- A refusal changes nothing; or there is room, and the result is written.
 use mathlib.Core.Path.{sym, _∙_}
 use lib.ListN.{length}
-use Rattle.removal.proofs.RemoveLaws.{slots-room}
-use Rattle.removal.proofs.AnswerLaws.{counts-fit, room-refused, room-made}
+use Rattle.removal.proofs.Whole.RemoveLaws.{slots-room}
+use Rattle.removal.proofs.Whole.AnswerLaws.{counts-fit, room-refused, room-made}
 use borrow.Author.Needs.{needs}
 use Rattle.removal.proofs.remove.write_result.Statement.{statement}
 use Rattle.removal.proofs.remove.write_result.Tie as tie

@@ -1,6 +1,6 @@
 -- `high_at` meets its contract: it reads a table.
 use mathlib.Core.Path.{_∙_}
-use Rattle.removal.proofs.RowLaws.{high-read}
+use Rattle.removal.proofs.Reaching.RowLaws.{high-read}
 use borrow.Author.Needs.{needs}
 use Rattle.removal.proofs.rows.high_at.Statement.{statement}
 use Rattle.removal.proofs.rows.high_at.Tie as tie

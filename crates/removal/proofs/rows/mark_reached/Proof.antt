@@ -3,7 +3,7 @@ use Prim.Native.Nat.{ℕ, _<_}
 use native.Mathlib.Omega.{arith}
 use mathlib.Core.Path.{ap}
 use lib.ListN.{length, set}
-use Rattle.removal.proofs.RowLaws.{place-inside}
+use Rattle.removal.proofs.Reaching.RowLaws.{place-inside}
 use borrow.Author.Needs.{needs}
 use Rattle.removal.proofs.rows.mark_reached.Statement.{statement}
 use Rattle.removal.proofs.rows.mark_reached.Tie as tie

@@ -1,6 +1,6 @@
 -- `middle_at` meets its contract: it reads a table.
 use mathlib.Core.Path.{_∙_}
-use Rattle.removal.proofs.RowLaws.{middle-read}
+use Rattle.removal.proofs.Reaching.RowLaws.{middle-read}
 use borrow.Author.Needs.{needs}
 use Rattle.removal.proofs.rows.middle_at.Statement.{statement}
 use Rattle.removal.proofs.rows.middle_at.Tie as tie

@@ -8,8 +8,8 @@ use Rattle.removal.specs.Chains.{edgesAt}
 use Rattle.removal.specs.Slots.{slots}
 use Rattle.removal.specs.Rows.{boundsIn}
 use Rattle.removal.specs.Reach.{Marking, FromList, FromBelow}
-use Rattle.removal.proofs.RowLaws.{ready-held}
-use Rattle.removal.proofs.ReachLaws.{ready-still, below-none, below-next, below-all}
+use Rattle.removal.proofs.Reaching.RowLaws.{ready-held}
+use Rattle.removal.proofs.Reaching.ReachLaws.{ready-still, below-none, below-next, below-all}
 use Rattle.removal.proofs.rows.push_copy.Statement.{statement}
 use Rattle.removal.proofs.rows.push_copy.Tie as tie
 

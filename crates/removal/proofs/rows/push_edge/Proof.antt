@@ -10,9 +10,9 @@ use Rattle.removal.specs.Slots.{slots}
 use Rattle.removal.specs.Rows.{boundsIn, slotPlace}
 use Rattle.removal.specs.Along.{StepAlong}
 use Rattle.removal.specs.Reach.{Marking, FromSlot}
-use Rattle.removal.proofs.RowLaws.{ready-held}
-use Rattle.removal.proofs.AlongLaws.{edge-up, start-inside}
-use Rattle.removal.proofs.ReachLaws.{marking-dead, marking-live, live-inside}
+use Rattle.removal.proofs.Reaching.RowLaws.{ready-held}
+use Rattle.removal.proofs.Stepping.AlongLaws.{edge-up, start-inside}
+use Rattle.removal.proofs.Reaching.ReachLaws.{marking-dead, marking-live, live-inside}
 use Rattle.removal.proofs.rows.push_edge.Statement.{statement}
 use Rattle.removal.proofs.rows.push_edge.Tie as tie
 

@@ -7,9 +7,9 @@ use lib.ListN.{getD, take}
 use borrow.Author.Needs.{needs}
 use Rattle.removal.specs.Table.{table}
 use Rattle.removal.specs.Reach.{Marking, FromSlot}
-use Rattle.removal.proofs.ChainLaws.{chainLeft}
-use Rattle.removal.proofs.ReachLaws.{ready-still}
-use Rattle.removal.proofs.CopyLaws.{Chaining, read-table, chaining-start, chaining-edge, chaining-slot, chaining-less, chaining-turn, chaining-done}
+use Rattle.removal.proofs.Building.ChainLaws.{chainLeft}
+use Rattle.removal.proofs.Reaching.ReachLaws.{ready-still}
+use Rattle.removal.proofs.Reaching.CopyLaws.{Chaining, read-table, chaining-start, chaining-edge, chaining-slot, chaining-less, chaining-turn, chaining-done}
 use Rattle.removal.proofs.rows.push_edges.Statement.{statement}
 use Rattle.removal.proofs.rows.push_edges.Tie as tie
 

@@ -5,8 +5,8 @@ use mathlib.Core.Path.{_≡_, sym, _∙_, ap}
 use lib.ListN.{getD, take}
 use borrow.Author.Needs.{needs}
 use Rattle.removal.specs.Reach.{flagOf}
-use Rattle.removal.proofs.RowLaws.{ready-held}
-use Rattle.removal.proofs.ReachLaws.{marking-off}
+use Rattle.removal.proofs.Reaching.RowLaws.{ready-held}
+use Rattle.removal.proofs.Reaching.ReachLaws.{marking-off}
 use Rattle.removal.proofs.rows.push_slot.Statement.{statement}
 use Rattle.removal.proofs.rows.push_slot.Tie as tie
 

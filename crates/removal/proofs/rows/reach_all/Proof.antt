@@ -6,9 +6,9 @@ use mathlib.Core.List.{List}
 use lib.ListN.{take}
 use Rattle.removal.specs.Chains.{edgesAt}
 use Rattle.removal.specs.Reach.{SlotsOnly, Marking, FromAll, RowsReached}
-use Rattle.removal.proofs.RowLaws.{ready-held}
-use Rattle.removal.proofs.ReachLaws.{only-trans, ready-still}
-use Rattle.removal.proofs.CopyLaws.{EndMarked, end-marked, RowsPushed, rows-start, rows-next}
+use Rattle.removal.proofs.Reaching.RowLaws.{ready-held}
+use Rattle.removal.proofs.Reaching.ReachLaws.{only-trans, ready-still}
+use Rattle.removal.proofs.Reaching.CopyLaws.{EndMarked, end-marked, RowsPushed, rows-start, rows-next}
 use Rattle.removal.proofs.rows.reach_all.Statement.{statement}
 use Rattle.removal.proofs.rows.reach_all.Tie as tie
 

@@ -1,6 +1,6 @@
 -- `slot_count` meets its contract: the bounds of a copy do not fall.
 use native.Mathlib.Omega.{arith}
-use Rattle.removal.proofs.RowLaws.{count-inside}
+use Rattle.removal.proofs.Reaching.RowLaws.{count-inside}
 use borrow.Author.Needs.{needs}
 use Rattle.removal.proofs.rows.slot_count.Statement.{statement}
 use Rattle.removal.proofs.rows.slot_count.Tie as tie

@@ -5,7 +5,7 @@ use mathlib.Core.Path.{_≡_, _∙_}
 use lib.ListN.{length, take}
 use Rattle.removal.specs.Slots.{slotBase}
 use Rattle.removal.specs.Rows.{boundsIn, slotPlace}
-use Rattle.removal.proofs.RowLaws.{base-read, place-inside}
+use Rattle.removal.proofs.Reaching.RowLaws.{base-read, place-inside}
 use borrow.Author.Needs.{needs}
 use Rattle.removal.proofs.rows.slot_place.Statement.{statement}
 use Rattle.removal.proofs.rows.slot_place.Tie as tie

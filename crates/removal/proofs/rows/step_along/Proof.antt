@@ -2,7 +2,7 @@
 use native.Mathlib.Omega.{arith}
 use mathlib.Core.Path.{sym, _∙_}
 use Rattle.removal.specs.Along.{StepAlong}
-use Rattle.removal.proofs.AlongLaws.{along-unlisted}
+use Rattle.removal.proofs.Stepping.AlongLaws.{along-unlisted}
 use borrow.Author.Needs.{needs}
 use Rattle.removal.proofs.rows.step_along.Statement.{statement}
 use Rattle.removal.proofs.rows.step_along.Tie as tie

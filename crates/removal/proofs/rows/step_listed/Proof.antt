@@ -7,8 +7,8 @@ use Rattle.removal.specs.Slots.{slots}
 use Rattle.removal.specs.Step.{StepMeets}
 use Rattle.removal.specs.Rows.{boundsIn, Held}
 use Rattle.removal.specs.Along.{StepAlong}
-use Rattle.removal.proofs.RowLaws.{ready-held}
-use Rattle.removal.proofs.AlongLaws.{start-inside, end-inside, span-asked, span-within, find-asked, places-asked, along-is}
+use Rattle.removal.proofs.Reaching.RowLaws.{ready-held}
+use Rattle.removal.proofs.Stepping.AlongLaws.{start-inside, end-inside, span-asked, span-within, find-asked, places-asked, along-is}
 use borrow.Author.Needs.{needs}
 use Rattle.removal.proofs.rows.step_listed.Statement.{statement}
 use Rattle.removal.proofs.rows.step_listed.Tie as tie

@@ -2,7 +2,7 @@
 use Prim.Native.Nat.{_+_, _-_, _≤_}
 use native.Mathlib.Omega.{arith}
 use Rattle.removal.specs.Show.{PassedTo}
-use Rattle.removal.proofs.ShowSteps.{to-start, to-more, to-all, to-ready, to-next}
+use Rattle.removal.proofs.Showing.ShowSteps.{to-start, to-more, to-all, to-ready, to-next}
 use mathlib.Core.Path.{refl}
 use Rattle.removal.proofs.show.show_all.Statement.{statement}
 use Rattle.removal.proofs.show.show_all.Tie as tie

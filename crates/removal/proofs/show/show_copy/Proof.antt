@@ -2,8 +2,8 @@
 use Prim.Native.Nat.{_-_, _≤_}
 use native.Mathlib.Omega.{arith}
 use Rattle.removal.specs.Show.{PassedTo}
-use Rattle.removal.proofs.RowLaws.{ready-held}
-use Rattle.removal.proofs.ShowSteps.{to-start, to-slot, to-copy, to-ready, to-room}
+use Rattle.removal.proofs.Reaching.RowLaws.{ready-held}
+use Rattle.removal.proofs.Showing.ShowSteps.{to-start, to-slot, to-copy, to-ready, to-room}
 use Rattle.removal.proofs.show.show_copy.Statement.{statement}
 use Rattle.removal.proofs.show.show_copy.Tie as tie
 

@@ -7,9 +7,9 @@ use lib.ListN.{length, getD, take, set}
 use borrow.Author.Needs.{needs}
 use Rattle.removal.specs.Rows.{boundsIn}
 use Rattle.removal.specs.Show.{SlotShown}
-use Rattle.removal.proofs.RowLaws.{base-up, ready-held, place-inside}
-use Rattle.removal.proofs.ShowTables.{chain-room}
-use Rattle.removal.proofs.ShowSteps.{not-reached, not-shown, is-shown}
+use Rattle.removal.proofs.Reaching.RowLaws.{base-up, ready-held, place-inside}
+use Rattle.removal.proofs.Showing.ShowTables.{chain-room}
+use Rattle.removal.proofs.Showing.ShowSteps.{not-reached, not-shown, is-shown}
 use Rattle.removal.proofs.show.show_slot.Statement.{statement}
 use Rattle.removal.proofs.show.show_slot.Tie as tie
 

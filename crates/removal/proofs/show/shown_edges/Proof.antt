@@ -7,8 +7,8 @@ use mathlib.Core.Logic.{⊎-elim}
 use lib.ListN.{length, getD, take}
 use Rattle.removal.specs.Slots.{slots}
 use Rattle.removal.specs.Rows.{boundsIn}
-use Rattle.removal.proofs.ChainLaws.{chainLeft}
-use Rattle.removal.proofs.ShowTables.{Counting, chain-room, counting-start, counting-done, counting-edge, counting-falls, counting-take, counting-skip}
+use Rattle.removal.proofs.Building.ChainLaws.{chainLeft}
+use Rattle.removal.proofs.Showing.ShowTables.{Counting, chain-room, counting-start, counting-done, counting-edge, counting-falls, counting-take, counting-skip}
 use Rattle.removal.proofs.show.shown_edges.Statement.{statement}
 use Rattle.removal.proofs.show.shown_edges.Tie as tie
 

@@ -8,9 +8,9 @@ use Rattle.removal.specs.declared.step.Step.{Step}
 use Rattle.removal.specs.declared.step.Step.the-variants.{Live}
 use Rattle.removal.specs.Along.{StepAlong}
 use Rattle.removal.specs.Show.{StartMeets}
-use Rattle.removal.proofs.RowLaws.{ready-held, place-inside}
-use Rattle.removal.proofs.AlongLaws.{start-inside}
-use Rattle.removal.proofs.ShowTables.{dead-start, live-shown, live-hidden, live-inside}
+use Rattle.removal.proofs.Reaching.RowLaws.{ready-held, place-inside}
+use Rattle.removal.proofs.Stepping.AlongLaws.{start-inside}
+use Rattle.removal.proofs.Showing.ShowTables.{dead-start, live-shown, live-hidden, live-inside}
 use Rattle.removal.proofs.show.shown_start.Statement.{statement}
 use Rattle.removal.proofs.show.shown_start.Tie as tie
 

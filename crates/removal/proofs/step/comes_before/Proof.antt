@@ -7,10 +7,10 @@ use lib.Dec.{ltb}
 use lib.ListN.{length, getD, take, drop}
 use Rattle.timing.specs.Sorting.{before}
 use Rattle.removal.specs.Table.{table}
-use Rattle.removal.proofs.Region.{table-at}
-use Rattle.removal.proofs.StepSearch.{key-size, key-other, key-same, key-is}
-use Rattle.removal.proofs.TailLaws.{mark-small, rank-decides}
-use Rattle.removal.proofs.KeyLaws.{edges-none}
+use Rattle.removal.proofs.Building.Region.{table-at}
+use Rattle.removal.proofs.Stepping.StepSearch.{key-size, key-other, key-same, key-is}
+use Rattle.removal.proofs.Stepping.TailLaws.{mark-small, rank-decides}
+use Rattle.removal.proofs.Listing.KeyLaws.{edges-none}
 use borrow.Author.Needs.{needs}
 use Rattle.removal.proofs.step.comes_before.Statement.{statement}
 use Rattle.removal.proofs.step.comes_before.Tie as tie

@@ -3,7 +3,7 @@ use Prim.Native.Nat.{_+_, _-_, _/_, _≤_}
 use native.Mathlib.Omega.{arith}
 use mathlib.Core.Path.{sym, _∙_}
 use Rattle.removal.specs.Step.{following, Rising, comesBefore}
-use Rattle.removal.proofs.StepSearch.{Narrowed, narrowed-start, narrowed-up, narrowed-down, narrowed-end}
+use Rattle.removal.proofs.Stepping.StepSearch.{Narrowed, narrowed-start, narrowed-up, narrowed-down, narrowed-end}
 use Rattle.removal.proofs.step.first_from.Statement.{statement}
 use Rattle.removal.proofs.step.first_from.Tie as tie
 

@@ -7,8 +7,8 @@ use lib.ListN.{length, getD}
 use Rattle.removal.specs.Table.{table}
 use Rattle.removal.specs.Step.{PlacesIn, PlacesRoom}
 use Rattle.removal.specs.Tails.{Shorter, LinkRoom}
-use Rattle.removal.proofs.Region.{table-at}
-use Rattle.removal.proofs.ShorterLaws.{Trying, trying-start, trying-hit, trying-none, trying-next, trying-end, next-less}
+use Rattle.removal.proofs.Building.Region.{table-at}
+use Rattle.removal.proofs.Stepping.ShorterLaws.{Trying, trying-start, trying-hit, trying-none, trying-next, trying-end, next-less}
 use Rattle.removal.proofs.step.longest_fit.Statement.{statement}
 use Rattle.removal.proofs.step.longest_fit.Tie as tie
 

@@ -10,9 +10,9 @@ use borrow.Author.Tests.{eqb-true, eqb-false}
 use lib.Dec.{eqb}
 use Rattle.removal.specs.Table.{table}
 use Rattle.removal.specs.Step.{following, fitting, restFor}
-use Rattle.removal.proofs.Region.{table-at}
-use Rattle.removal.proofs.StepLaws.{true-false}
-use Rattle.removal.proofs.TailLaws.{mark-small, rank-fits, rank-misses, fitting-at, exact-other, exact-named, exact-alone}
+use Rattle.removal.proofs.Building.Region.{table-at}
+use Rattle.removal.proofs.Stepping.StepLaws.{true-false}
+use Rattle.removal.proofs.Stepping.TailLaws.{mark-small, rank-fits, rank-misses, fitting-at, exact-other, exact-named, exact-alone}
 use borrow.Author.Needs.{needs}
 use Rattle.removal.proofs.step.place_fits.Statement.{statement}
 use Rattle.removal.proofs.step.place_fits.Tie as tie

@@ -1,7 +1,7 @@
 -- A whole listed path that fits is dead; else the longest tail that fits is the mark.
 use borrow.Author.Needs.{needs}
-use Rattle.removal.proofs.StepLaws.{room-part}
-use Rattle.removal.proofs.StepMarks.{dead-meets, live-meets}
+use Rattle.removal.proofs.Stepping.StepLaws.{room-part}
+use Rattle.removal.proofs.Stepping.StepMarks.{dead-meets, live-meets}
 use Rattle.removal.proofs.step.step_back.Statement.{statement}
 use Rattle.removal.proofs.step.step_back.Tie as tie
 

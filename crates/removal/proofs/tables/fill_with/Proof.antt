@@ -9,7 +9,7 @@ use Rattle.removal.specs.Table.{table}
 use Rattle.removal.specs.Ranks.{Levels}
 use Rattle.removal.specs.Search.{codeIn, Rising, FirstsBy, Firsts}
 use Rattle.removal.specs.Tails.{Tailed, TailsLinked, Tabulated}
-use Rattle.removal.proofs.TableLaws.{falls, sortable, tailed, levels₃, rising₃, firsts₃, tabulated}
+use Rattle.removal.proofs.Building.TableLaws.{falls, sortable, tailed, levels₃, rising₃, firsts₃, tabulated}
 use borrow.Author.Needs.{needs}
 use Rattle.removal.proofs.tables.fill_with.Statement.{statement}
 use Rattle.removal.proofs.tables.fill_with.Tie as tie

@@ -1,0 +1,122 @@
+-- The passes one after the other: what the tables are of stays so, since only slots change, and so what each pass leaves is
+-- what the next one asks.
+use Prim.Native.Nat.{ℕ, zero, _+_, _*_, _≤_, _<_}
+use native.Mathlib.Omega.{arith}
+use mathlib.Core.Path.{_≡_, refl, sym, ap, _∙_, subst}
+use mathlib.Core.List.{List, map, flatMap}
+use lib.ListN.{length, take, length-map}
+use Rattle.timing.specs.Graphs.{Design, Graph, nodeOf, edgesIn}
+use Rattle.timing.specs.Marks.{PathList, pathsOf}
+use Rattle.timing.specs.TrueGraphs.{trueGraph}
+use Rattle.theorems.proofs.Tested.{ListFits}
+use Rattle.removal.specs.declared.rows.Layout.{Layout}
+use Rattle.removal.specs.Slots.{slots}
+use Rattle.removal.specs.Rows.{boundsIn, orderIn, Tabled, Ready, flagIn}
+use Rattle.removal.specs.Flags.{ReachedRow}
+use Rattle.removal.specs.Reach.{SlotsOnly, RowsReached, AllZero, flagOf}
+use Rattle.removal.specs.Result.{Slot, shownBelow, shownSlots}
+use Rattle.removal.specs.Show.{AllShown, ShowsAll, reachedBy}
+use Rattle.removal.specs.Fill.{SameRooms, SlotsRoom, boundsNow, shownNow, edgesNow, comesNow, fromNow}
+use Rattle.removal.specs.Build.{Given, Buildable, Built}
+use Rattle.removal.specs.Remove.{Worked, Workable, WorkableIn, AllFound, Found}
+use Rattle.removal.proofs.Reaching.ReachLaws.{ready-still}
+use Rattle.removal.proofs.Building.CountLaws.{list-countable, copies-countable}
+use Rattle.removal.proofs.Showing.ShowTables.{setting-of}
+use Rattle.removal.proofs.Showing.ShownReadyLaws.{shown-ready}
+use Rattle.removal.proofs.Showing.ResultLaws.{shown-nodes, shown-edges}
+
+pub buildable : (starts listed lengths nodes from to via s : List ℕ) → WorkableIn starts listed lengths nodes from to via s → Buildable starts listed lengths nodes from to via s
+buildable starts listed lengths nodes from to via s x =
+    let w = x .work .worked in
+    record {
+      design = x .work .design;
+      list = x .work .list;
+      graph = x .work .graph;
+      given = w .given;
+      starts-below = list-countable (x .work .design) starts listed lengths (w .fits) (subst (λ (K : PathList). ListFits (x .work .design) K) (w .given .list) (w .given .fits)) (w .given .design) .starts-below;
+      nodes-below = copies-countable (x .work .design) (x .work .graph) nodes (w .fits) (w .given .legal) (w .given .copies) (w .given .few-copies) .below;
+      room = x .room;
+    }
+
+module _ (starts listed lengths nodes from to via s a : List ℕ) (l : Layout) (x : WorkableIn starts listed lengths nodes from to via s)
+    (built : Built starts listed lengths nodes from to via s a l) where
+  pub built-ready : Ready l listed from to via a
+  built-ready = built .ready (x .work .design) (x .work .list) (x .work .graph) (x .work .worked .given)
+
+  pub built-zero : AllZero l (take (l .slots) a) a
+  built-zero d i h k = built .clear d i (omega (arith, built .laid .copies)) k
+
+  module _ (b : List ℕ) (reached : RowsReached l listed from to via (take (l .slots) a) a b 0) where
+    pub reached-ready : Ready l listed from to via b
+    reached-ready = ready-still l listed from to via a b (reached .only) built-ready
+
+    -- the flags after pass 1, with the tables as they stand then
+    low-flags : (c j : ℕ) → c < l .copies → j < slots (boundsIn l (take (l .slots) b)) c → flagIn l b c j ≤ 1
+    low-flags =
+        subst (λ (p : List ℕ). (c j : ℕ) → c < l .copies → j < slots (boundsIn l p) c → flagOf l p b c j ≤ 1) (sym (reached .only .tables)) (reached .small)
+
+    reached-rows : (D : Design) (L : PathList) (G : Graph) → Tabled D L G l listed from to via (take (l .slots) b)
+        → (c : ℕ) → c < l .copies → ReachedRow G L (orderIn l listed (take (l .slots) b)) (boundsIn l (take (l .slots) b)) (reachedBy (flagIn l b)) c
+    reached-rows D L G =
+        subst
+        (λ (p : List ℕ). Tabled D L G l listed from to via p → (c : ℕ) → c < l .copies → ReachedRow G L (orderIn l listed p) (boundsIn l p) (reachedBy (flagOf l p b)) c)
+        (sym (reached .only .tables))
+        (λ t c h. reached .rows D L G t c (omega arith) h)
+
+    module _ (t : List ℕ) (copies edges : ℕ) (shown : AllShown l listed from to via b t copies edges) where
+      only : SlotsOnly l (take (l .slots) b) b t
+      only = record { size = shown .size; tables = shown .tables; past = shown .past }
+
+      shows : (D : Design) (L : PathList) (G : Graph) → Tabled D L G l listed from to via (take (l .slots) t)
+          → ShowsAll G L (orderIn l listed (take (l .slots) t)) (boundsIn l (take (l .slots) t)) (flagIn l t) copies edges
+      shows D L G =
+          subst
+          (λ (p : List ℕ). Tabled D L G l listed from to via p → ShowsAll G L (orderIn l listed p) (boundsIn l p) (flagIn l t) copies edges)
+          (sym (shown .tables))
+          (λ y. shown .meets D L G y low-flags (reached-rows D L G y))
+
+      ready : Ready l listed from to via t
+      ready = ready-still l listed from to via b t only reached-ready
+
+      tables : (D : Design) (L : PathList) (G : Graph) → Given D L G starts listed lengths nodes from to via → Tabled D L G l listed from to via (take (l .slots) t)
+      tables D L G g =
+          subst (λ (p : List ℕ). Tabled D L G l listed from to via p) (sym (shown .tables ∙ reached .only .tables)) (built .tabled D L G g)
+
+      pub found : Found starts listed lengths nodes from to via s t l copies edges
+      found =
+          let B = boundsNow l t in
+          let sh = shownNow l t in
+          let g = x .work .worked .given in
+          let own = tables (x .work .design) (x .work .list) (x .work .graph) g in
+          record {
+            size = shown .size ∙ reached .only .size ∙ built .size;
+            tabled = tables;
+            all =
+                record {
+                  shown = shown-ready l listed from to via t copies edges ready shows;
+                  copies-of = built .laid .copies;
+                  slots-counted = shows (x .work .design) (x .work .list) (x .work .graph) own .copies-are ∙ ap (λ (n : ℕ). length (shownBelow B sh n)) (own .copies);
+                  edges-counted = λ D L G y. shows D L G y .edges-are ∙ ap (λ (n : ℕ). length (flatMap (edgesNow l listed t L G) (shownBelow B sh n))) (y .copies);
+                  copies-are = λ D L G y.
+                      shows D L G y .copies-are
+                      ∙ sym (length-map (shownSlots G B sh) (λ (k : Slot). nodeOf G (k .copy)))
+                      ∙ ap length (shown-nodes D G L (orderIn l listed (take (l .slots) t)) B (setting-of D L G l listed from to via (take (l .slots) t) y) sh (shows D L G y .rows));
+                  edges-are = λ D L G y into.
+                      shows D L G y .edges-are
+                      ∙ ap length
+                      (shown-edges D G L (orderIn l listed (take (l .slots) t)) B (setting-of D L G l listed from to via (take (l .slots) t) y) sh (shows D L G y .rows) (edgesIn G) into (comesNow l listed t L) (fromNow l listed t L) (shows D L G y .linking));
+                };
+          }
+
+-- there is room where 33 and 34 pass
+module _ (l : Layout) (listed nodes from to via s room-nodes room-from room-to room-via : List ℕ) (copies edges : ℕ) (x : AllFound l listed nodes from to via s copies edges) (same : SameRooms room-from room-to room-via) where
+  pub slots-room : copies ≤ length room-nodes → edges ≤ length room-from
+      → SlotsRoom l listed nodes from to via s (shownBelow (boundsNow l s) (shownNow l s) (l .copies)) 0 room-nodes room-from room-to room-via 0
+  slots-room h k =
+      record {
+        shown = x .shown;
+        nodes-size = sym (x .copies-of);
+        nodes-fit = omega (arith, x .slots-counted);
+        same = same;
+        fit = λ D L G y. omega (arith, x .edges-counted D L G y);
+      }
