@@ -2,12 +2,19 @@
 // operation of ℤ: its callers never see what a sum of 64 bits may do.
 ghost use mathlib.Core.Path.{_≡_};
 ghost use Prim.Native.Nat.{_≤_};
-ghost use lib.IntN.{pos, natAbs, _+ℤ_, _-ℤ_};
+ghost use lib.IntN.{pos, negℤ, natAbs, _+ℤ_, _-ℤ_};
 
 pub(crate) fn wide(d: i32) -> i64
     ensures { λ r. ⌜ r ≡ d ⌝ }
 {
     d as i64
+}
+
+// A delay negated: what a required time changes by from the end of an edge to its start.
+pub(crate) fn negated(d: i32) -> i64
+    ensures { λ r. ⌜ r ≡ negℤ d ⌝ }
+{
+    -wide(d)
 }
 
 pub(crate) fn signed(t: u32) -> i64

@@ -8,9 +8,9 @@ ghost use Rattle.timing.specs.Lists.{upto};
 ghost use Rattle.timing.specs.Times.{requiredAt};
 ghost use Rattle.timing.specs.Calls.{graphSlices, graphOf};
 ghost use Rattle.times.specs.Passes.{noRequired, timeOr, Step, lowered, delayOf, Fit};
-use crate::numbers::less;
+use crate::numbers::negated;
 use crate::numbers::signed;
-use crate::numbers::wide;
+use crate::numbers::sum;
 use crate::places::fill;
 use crate::places::settle;
 use crate::places::time_or;
@@ -26,7 +26,7 @@ fn lower(requireds: &mut [i64], allowed: i64, a: usize, b: usize, d: i32)
     ensures { λ r. ⌜ now (requireds .exit) ≡ lowered allowed (now (requireds .entry)) a b d ⌝ }
 {
     let s = time_or(requireds[b], NO_REQUIRED, allowed);
-    let t = less(s, wide(d));
+    let t = sum(s, negated(d));
     let u = smaller(t, requireds[a]);
     requireds[a] = u;
 }

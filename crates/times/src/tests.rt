@@ -32,11 +32,9 @@ fn times_sizes(
 ) -> Verdict
     ensures { λ r.
         let edges = sameSizes (length (now (from .entry))) (length (now (to .entry))) (length (now (via .entry))) in
-        ⌜ ((n : ℕ) → r
-        ≡ (designSizes (design n (now (starts .entry)) (now (ends .entry)) (now (delays .entry)))
-        then edges
-        then sameSizes copies arrivals requireds
-        then sameSizes copies copies slacks)) ⌝ }
+        let lent = sameSizes copies arrivals requireds then sameSizes copies copies slacks in
+        ⌜ ((n : ℕ) → let D = design n (now (starts .entry)) (now (ends .entry)) (now (delays .entry)) in
+        r ≡ (designSizes D then edges then lent)) ⌝ }
 {
     let first = design_sizes(starts, ends, delays);
     let joined = same_sizes(from.len(), to.len(), via.len());

@@ -1,6 +1,7 @@
--- What the machine reads back is each number itself; the difference is small by `Step`.
+-- What the machine reads back is each number itself; the sum with the negated delay, which is their difference, is small by `Step`.
 use lib.IntN.{pos}
 use lib.ListN.{getD}
+use Rattle.timing.proofs.Ints.{abs-neg}
 use Rattle.times.proofs.Elements.{read-back}
 use mir.Facts.{toZ-ofZ}
 use native.Mathlib.Omega.{arith}
@@ -18,15 +19,15 @@ slice-copy-out-time-or c = search needs
 time-or-requires : tie.Need-time-or-requires
 time-or-requires c κs = search needs
 
-wide-requires : tie.Need-wide-requires
-wide-requires c κs = search needs
+negated-requires : tie.Need-negated-requires
+negated-requires c κs = search needs
 
-less-requires : tie.Need-less-requires
-less-requires c κs =
+sum-requires : tie.Need-sum-requires
+sum-requires c κs =
     let q = c .before in
     let p = q .before .before in
-    rw (read-back (q .time-or .result) (q .time-or .ok), q .time-or .ensures, read-back (getD (p .args .requireds .now) (p .args .b) (pos 0)) (q .before .time-or-arg .given), toZ-ofZ (p .fits .allowed), read-back (c .wide .result) (c .wide .ok), c .wide .ensures, toZ-ofZ (p .fits .d))
-    (p .pre .time, omega (arith, p .pre .delay))
+    rw (read-back (q .time-or .result) (q .time-or .ok), q .time-or .ensures, read-back (getD (p .args .requireds .now) (p .args .b) (pos 0)) (q .before .time-or-arg .given), toZ-ofZ (p .fits .allowed), read-back (c .negated .result) (c .negated .ok), c .negated .ensures, toZ-ofZ (p .fits .d))
+    (p .pre .time, omega (arith, p .pre .delay, abs-neg (p .args .d)))
 
 mul-smaller : tie.Need-mul-smaller
 mul-smaller c = search needs
@@ -53,7 +54,7 @@ returns c =
     let w = s .before in
     let q = w .before in
     let p = q .before .before in
-    rw (read-back (c .smaller .result) (c .smaller .ok), c .smaller .ensures, read-back (getD (p .args .requireds .now) (p .args .a) (pos 0)) (c .before .smaller-arg .given), read-back (s .less .result) (s .less .ok), s .less .ensures, read-back (w .wide .result) (w .wide .ok), w .wide .ensures, toZ-ofZ (p .fits .d), read-back (q .time-or .result) (q .time-or .ok), q .time-or .ensures, read-back (getD (p .args .requireds .now) (p .args .b) (pos 0)) (q .before .time-or-arg .given), toZ-ofZ (p .fits .allowed))
+    rw (read-back (c .smaller .result) (c .smaller .ok), c .smaller .ensures, read-back (getD (p .args .requireds .now) (p .args .a) (pos 0)) (c .before .smaller-arg .given), read-back (s .sum .result) (s .sum .ok), s .sum .ensures, read-back (w .negated .result) (w .negated .ok), w .negated .ensures, toZ-ofZ (p .fits .d), read-back (q .time-or .result) (q .time-or .ok), q .time-or .ensures, read-back (getD (p .args .requireds .now) (p .args .b) (pos 0)) (q .before .time-or-arg .given), toZ-ofZ (p .fits .allowed))
 
 pub lower-spec : {M : Type 1} → statement M
 lower-spec =
@@ -62,8 +63,8 @@ lower-spec =
     mul-time-or
     slice-copy-out-time-or
     time-or-requires
-    wide-requires
-    less-requires
+    negated-requires
+    sum-requires
     mul-smaller
     slice-copy-out-smaller
     smaller-requires
