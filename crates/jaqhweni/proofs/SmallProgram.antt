@@ -1,4 +1,4 @@
--- What the C call answers fits 64 bits, whatever the deck and the room are.
+-- What the calls that write bytes answer fits 64 bits, whatever the deck or the graph and the room are.
 use Prim.Native.Nat.{ℕ, _+_, _≤_, _<_, min}
 use native.Mathlib.Omega.{arith}
 use mathlib.Core.Path.{_≡_, refl, sym, subst}
@@ -16,10 +16,12 @@ use Rattle.timing.specs.Marks.{PathList, pathsOf}
 use Rattle.timing.specs.TrueGraphs.{trueGraph}
 use Rattle.timing.specs.Numbers.{writeAnswer}
 use Rattle.timing.specs.Refusals.{refusal, unless, _then_}
-use Rattle.timing.specs.Tests.{designSizes, listSizes, designTests, listTests, scratchTest, Room, roomTests}
+use Rattle.timing.specs.Tests.{designSizes, listSizes, designTests, listTests, scratchTest, Room, graphCounts, roomTests}
+use Rattle.timing.specs.WellFormed.{fewEnough}
 use Rattle.timing.specs.Parsing.{Parsed, found, stopped}
 use Rattle.timing.specs.Decks.{Deck, readDeck}
 use Rattle.timing.specs.GraphBytes.{packedGraph}
+use Rattle.timing.specs.Calls.{GraphSlices, graphOf, graphSizes, writing, graphWriteTests}
 use Rattle.timing.specs.Calls.{Outcome, outcome, removal, removalTests, testDeck, parsed, programTables, programRoom, programRemoval, programFrom, program, cWritten, cNumber, cCall, roomAfterC, cRoom}
 use Rattle.true_graph.specs.Small.{SmallWritten, Small}
 use Rattle.true_graph.proofs.Small.{small-then, small-unless, small-sizes, small-list-sizes, small-design, small-list, small-scratch}
@@ -41,14 +43,28 @@ small-deck D L T =
     (λ e. small-then (listTests D L) _ (small-list D L) (λ e. small-unless 25 (omega arith) (leb T 1000000000)))))
 
 module _ (room : List ℕ) (h : length room < 9223372036854775808) where
-  small-outcome : (v : Verdict) (H : Graph) → Small v → SmallWritten (cWritten (outcome v H) room)
+  small-answer : (bs : List ℕ) → SmallWritten (writeAnswer room 0 bs)
   unfolding writeAnswer
-  small-outcome Passed H s = go (leb (0 + length (packedGraph H)) (length room)) refl
+  small-answer bs = go (leb (0 + length bs) (length room)) refl
     where
-      go : (b : Bool) → leb (0 + length (packedGraph H)) (length room) ≡ b → SmallWritten (cond b (End (0 + length (packedGraph H))) (NotWritten (refusal 35 0)))
-      go true e = omega (arith, leb-true (0 + length (packedGraph H)) (length room) e)
+      go : (b : Bool) → leb (0 + length bs) (length room) ≡ b → SmallWritten (cond b (End (0 + length bs)) (NotWritten (refusal 35 0)))
+      go true e = omega (arith, leb-true (0 + length bs) (length room) e)
       go false e = (omega arith, omega arith)
+
+  small-outcome : (v : Verdict) (H : Graph) → Small v → SmallWritten (cWritten (outcome v H) room)
+  small-outcome Passed H s = small-answer (packedGraph H)
   small-outcome (Refused x) H s = s
+
+  small-writing : (v : Verdict) (bs : List ℕ) → Small v → SmallWritten (writing v room bs)
+  small-writing Passed bs s = small-answer bs
+  small-writing (Refused x) bs s = s
+
+  pub small-graph : (S : GraphSlices) → SmallWritten (writing (graphWriteTests S) room (packedGraph (graphOf S)))
+  unfolding graphWriteTests
+  small-graph S =
+      small-writing (graphSizes S then graphCounts (graphOf S)) (packedGraph (graphOf S))
+      (small-then (graphSizes S) (graphCounts (graphOf S)) (small-sizes (length (S .starts)) (length (S .ends)) (length (S .names)))
+      (λ e. small-unless 32 (omega arith) (fewEnough (graphOf S))))
 
   small-removal : (d : Deck) → SmallWritten (cWritten (programRemoval d) room)
   unfolding programRemoval

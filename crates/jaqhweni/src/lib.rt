@@ -5,8 +5,12 @@ ghost use Prim.Native.Nat.{_<_};
 ghost use lib.IntN.{pos, negℤ};
 ghost use lib.ListN.{length};
 ghost use Rattle.timing.specs.Graphs.{design};
-ghost use Rattle.timing.specs.Calls.{graphSlices, lentRemoval, removeFromDesign, removeFromGraph, graphAnswer, nodesAfter, startsAfter, endsAfter, namesAfter, scratchAfter, testTimes, arrivalsAfter, requiredsAfter, slacksAfter, cNumber, cCall, cRoom};
-ghost use Rattle.timing.specs.Calls.{refusalNumber, graphNumber, verdictNumber};
+ghost use Rattle.timing.specs.GraphBytes.{packedGraph};
+ghost use Rattle.timing.specs.Calls.{graphSlices, graphOf, lentRemoval, removeFromDesign, removeFromGraph, graphAnswer};
+ghost use Rattle.timing.specs.Calls.{nodesAfter, startsAfter, endsAfter, namesAfter, scratchAfter};
+ghost use Rattle.timing.specs.Calls.{testTimes, arrivalsAfter, requiredsAfter, slacksAfter};
+ghost use Rattle.timing.specs.Calls.{graphWriteTests, writing, roomAfterWriting};
+ghost use Rattle.timing.specs.Calls.{refusalNumber, graphNumber, verdictNumber, cNumber, cCall, cRoom};
 ghost use Rattle.true_graph.specs.Small.{SmallRefusal, SmallGraph, SmallWritten, Small};
 use timing::GraphMade;
 use timing::Refusal;
@@ -67,8 +71,9 @@ fn written_number(w: Written) -> i64
 // The packed true graph of a packed deck, into the room. Document 01's C call.
 #[no_mangle]
 pub extern "C" fn jaqhweni_true_graph(deck: &[u8], room: &mut [u8]) -> i64
-    ensures { λ r. ⌜ r ≡ cCall (now (deck .entry)) (now (room .entry)) ⌝ }
-    ensures { λ r. ⌜ now (room .exit) ≡ cRoom (now (deck .entry)) (now (room .entry)) ⌝ }
+    ensures { λ r.
+        ⌜ (r ≡ cCall (now (deck .entry)) (now (room .entry)))
+        × (now (room .exit) ≡ cRoom (now (deck .entry)) (now (room .entry))) ⌝ }
 {
     let written = true_graph::pack(deck, room);
     written_number(written)
@@ -83,18 +88,24 @@ pub extern "C" fn jaqhweni_remove_from_design(
     delays: &[i32],
     listed: &[u32],
     lengths: &[u32],
-    nodes: &mut [u32],
-    from: &mut [u32],
-    to: &mut [u32],
-    via: &mut [u32],
+    room_nodes: &mut [u32],
+    room_from: &mut [u32],
+    room_to: &mut [u32],
+    room_via: &mut [u32],
     scratch: &mut [u32],
 ) -> i64
-    ensures { λ r. ⌜ r ≡ graphNumber (graphAnswer (removeFromDesign (design n (now (starts .entry)) (now (ends .entry)) (now (delays .entry))) (lentRemoval (now (listed .entry)) (now (lengths .entry)) (now (nodes .entry)) (now (from .entry)) (now (to .entry)) (now (via .entry)) (now (scratch .entry))))) ⌝ }
-    ensures { λ r. ⌜ now (nodes .exit) ≡ nodesAfter (removeFromDesign (design n (now (starts .entry)) (now (ends .entry)) (now (delays .entry))) (lentRemoval (now (listed .entry)) (now (lengths .entry)) (now (nodes .entry)) (now (from .entry)) (now (to .entry)) (now (via .entry)) (now (scratch .entry)))) (now (nodes .entry)) ⌝ }
-    ensures { λ r. ⌜ now (from .exit) ≡ startsAfter (removeFromDesign (design n (now (starts .entry)) (now (ends .entry)) (now (delays .entry))) (lentRemoval (now (listed .entry)) (now (lengths .entry)) (now (nodes .entry)) (now (from .entry)) (now (to .entry)) (now (via .entry)) (now (scratch .entry)))) (now (from .entry)) ⌝ }
-    ensures { λ r. ⌜ now (to .exit) ≡ endsAfter (removeFromDesign (design n (now (starts .entry)) (now (ends .entry)) (now (delays .entry))) (lentRemoval (now (listed .entry)) (now (lengths .entry)) (now (nodes .entry)) (now (from .entry)) (now (to .entry)) (now (via .entry)) (now (scratch .entry)))) (now (to .entry)) ⌝ }
-    ensures { λ r. ⌜ now (via .exit) ≡ namesAfter (removeFromDesign (design n (now (starts .entry)) (now (ends .entry)) (now (delays .entry))) (lentRemoval (now (listed .entry)) (now (lengths .entry)) (now (nodes .entry)) (now (from .entry)) (now (to .entry)) (now (via .entry)) (now (scratch .entry)))) (now (via .entry)) ⌝ }
-    ensures { λ r. ⌜ now (scratch .exit) ≡ scratchAfter (removeFromDesign (design n (now (starts .entry)) (now (ends .entry)) (now (delays .entry))) (lentRemoval (now (listed .entry)) (now (lengths .entry)) (now (nodes .entry)) (now (from .entry)) (now (to .entry)) (now (via .entry)) (now (scratch .entry)))) (now (scratch .entry)) ⌝ }
+    ensures { λ r.
+        let D = design n (now (starts .entry)) (now (ends .entry)) (now (delays .entry)) in
+        let lent = lentRemoval (now (listed .entry)) (now (lengths .entry))
+        (now («room_nodes» .entry)) (now («room_from» .entry)) (now («room_to» .entry)) (now («room_via» .entry))
+        (now (scratch .entry)) in
+        let o = removeFromDesign D lent in
+        ⌜ (r ≡ graphNumber (graphAnswer o))
+        × (now («room_nodes» .exit) ≡ nodesAfter o (now («room_nodes» .entry)))
+        × (now («room_from» .exit) ≡ startsAfter o (now («room_from» .entry)))
+        × (now («room_to» .exit) ≡ endsAfter o (now («room_to» .entry)))
+        × (now («room_via» .exit) ≡ namesAfter o (now («room_via» .entry)))
+        × (now (scratch .exit) ≡ scratchAfter o (now (scratch .entry))) ⌝ }
 {
     let made = removal::remove_from_design(
         n,
@@ -103,16 +114,16 @@ pub extern "C" fn jaqhweni_remove_from_design(
         delays,
         listed,
         lengths,
-        nodes,
-        from,
-        to,
-        via,
+        room_nodes,
+        room_from,
+        room_to,
+        room_via,
         scratch,
     );
     graph_number(made)
 }
 
-// What is left of an earlier true graph (`copies`, `gs`, `ge`, `gn`) after a further list of paths.
+// What is left of an earlier true graph (`nodes`, `from`, `to`, `via`) after a further list of paths.
 #[no_mangle]
 pub extern "C" fn jaqhweni_remove_from_graph(
     n: u32,
@@ -121,22 +132,29 @@ pub extern "C" fn jaqhweni_remove_from_graph(
     delays: &[i32],
     listed: &[u32],
     lengths: &[u32],
-    copies: &[u32],
-    gs: &[u32],
-    ge: &[u32],
-    gn: &[u32],
-    nodes: &mut [u32],
-    from: &mut [u32],
-    to: &mut [u32],
-    via: &mut [u32],
+    nodes: &[u32],
+    from: &[u32],
+    to: &[u32],
+    via: &[u32],
+    room_nodes: &mut [u32],
+    room_from: &mut [u32],
+    room_to: &mut [u32],
+    room_via: &mut [u32],
     scratch: &mut [u32],
 ) -> i64
-    ensures { λ r. ⌜ r ≡ graphNumber (graphAnswer (removeFromGraph (design n (now (starts .entry)) (now (ends .entry)) (now (delays .entry))) (graphSlices (now (copies .entry)) (now (gs .entry)) (now (ge .entry)) (now (gn .entry))) (lentRemoval (now (listed .entry)) (now (lengths .entry)) (now (nodes .entry)) (now (from .entry)) (now (to .entry)) (now (via .entry)) (now (scratch .entry))))) ⌝ }
-    ensures { λ r. ⌜ now (nodes .exit) ≡ nodesAfter (removeFromGraph (design n (now (starts .entry)) (now (ends .entry)) (now (delays .entry))) (graphSlices (now (copies .entry)) (now (gs .entry)) (now (ge .entry)) (now (gn .entry))) (lentRemoval (now (listed .entry)) (now (lengths .entry)) (now (nodes .entry)) (now (from .entry)) (now (to .entry)) (now (via .entry)) (now (scratch .entry)))) (now (nodes .entry)) ⌝ }
-    ensures { λ r. ⌜ now (from .exit) ≡ startsAfter (removeFromGraph (design n (now (starts .entry)) (now (ends .entry)) (now (delays .entry))) (graphSlices (now (copies .entry)) (now (gs .entry)) (now (ge .entry)) (now (gn .entry))) (lentRemoval (now (listed .entry)) (now (lengths .entry)) (now (nodes .entry)) (now (from .entry)) (now (to .entry)) (now (via .entry)) (now (scratch .entry)))) (now (from .entry)) ⌝ }
-    ensures { λ r. ⌜ now (to .exit) ≡ endsAfter (removeFromGraph (design n (now (starts .entry)) (now (ends .entry)) (now (delays .entry))) (graphSlices (now (copies .entry)) (now (gs .entry)) (now (ge .entry)) (now (gn .entry))) (lentRemoval (now (listed .entry)) (now (lengths .entry)) (now (nodes .entry)) (now (from .entry)) (now (to .entry)) (now (via .entry)) (now (scratch .entry)))) (now (to .entry)) ⌝ }
-    ensures { λ r. ⌜ now (via .exit) ≡ namesAfter (removeFromGraph (design n (now (starts .entry)) (now (ends .entry)) (now (delays .entry))) (graphSlices (now (copies .entry)) (now (gs .entry)) (now (ge .entry)) (now (gn .entry))) (lentRemoval (now (listed .entry)) (now (lengths .entry)) (now (nodes .entry)) (now (from .entry)) (now (to .entry)) (now (via .entry)) (now (scratch .entry)))) (now (via .entry)) ⌝ }
-    ensures { λ r. ⌜ now (scratch .exit) ≡ scratchAfter (removeFromGraph (design n (now (starts .entry)) (now (ends .entry)) (now (delays .entry))) (graphSlices (now (copies .entry)) (now (gs .entry)) (now (ge .entry)) (now (gn .entry))) (lentRemoval (now (listed .entry)) (now (lengths .entry)) (now (nodes .entry)) (now (from .entry)) (now (to .entry)) (now (via .entry)) (now (scratch .entry)))) (now (scratch .entry)) ⌝ }
+    ensures { λ r.
+        let D = design n (now (starts .entry)) (now (ends .entry)) (now (delays .entry)) in
+        let S = graphSlices (now (nodes .entry)) (now (from .entry)) (now (to .entry)) (now (via .entry)) in
+        let lent = lentRemoval (now (listed .entry)) (now (lengths .entry))
+        (now («room_nodes» .entry)) (now («room_from» .entry)) (now («room_to» .entry)) (now («room_via» .entry))
+        (now (scratch .entry)) in
+        let o = removeFromGraph D S lent in
+        ⌜ (r ≡ graphNumber (graphAnswer o))
+        × (now («room_nodes» .exit) ≡ nodesAfter o (now («room_nodes» .entry)))
+        × (now («room_from» .exit) ≡ startsAfter o (now («room_from» .entry)))
+        × (now («room_to» .exit) ≡ endsAfter o (now («room_to» .entry)))
+        × (now («room_via» .exit) ≡ namesAfter o (now («room_via» .entry)))
+        × (now (scratch .exit) ≡ scratchAfter o (now (scratch .entry))) ⌝ }
 {
     let made = removal::remove_from_graph(
         n,
@@ -145,14 +163,14 @@ pub extern "C" fn jaqhweni_remove_from_graph(
         delays,
         listed,
         lengths,
-        copies,
-        gs,
-        ge,
-        gn,
         nodes,
         from,
         to,
         via,
+        room_nodes,
+        room_from,
+        room_to,
+        room_via,
         scratch,
     );
     graph_number(made)
@@ -167,17 +185,22 @@ pub extern "C" fn jaqhweni_times(
     delays: &[i32],
     allowed: u32,
     nodes: &[u32],
-    gs: &[u32],
-    ge: &[u32],
-    gn: &[u32],
+    from: &[u32],
+    to: &[u32],
+    via: &[u32],
     arrivals: &mut [i64],
     requireds: &mut [i64],
     slacks: &mut [i64],
 ) -> i64
-    ensures { λ r. ⌜ r ≡ verdictNumber (testTimes (design n (now (starts .entry)) (now (ends .entry)) (now (delays .entry))) (graphSlices (now (nodes .entry)) (now (gs .entry)) (now (ge .entry)) (now (gn .entry))) allowed (length (now (arrivals .entry))) (length (now (requireds .entry))) (length (now (slacks .entry)))) ⌝ }
-    ensures { λ r. ⌜ now (arrivals .exit) ≡ arrivalsAfter (design n (now (starts .entry)) (now (ends .entry)) (now (delays .entry))) (graphSlices (now (nodes .entry)) (now (gs .entry)) (now (ge .entry)) (now (gn .entry))) allowed (testTimes (design n (now (starts .entry)) (now (ends .entry)) (now (delays .entry))) (graphSlices (now (nodes .entry)) (now (gs .entry)) (now (ge .entry)) (now (gn .entry))) allowed (length (now (arrivals .entry))) (length (now (requireds .entry))) (length (now (slacks .entry)))) (now (arrivals .entry)) ⌝ }
-    ensures { λ r. ⌜ now (requireds .exit) ≡ requiredsAfter (design n (now (starts .entry)) (now (ends .entry)) (now (delays .entry))) (graphSlices (now (nodes .entry)) (now (gs .entry)) (now (ge .entry)) (now (gn .entry))) allowed (testTimes (design n (now (starts .entry)) (now (ends .entry)) (now (delays .entry))) (graphSlices (now (nodes .entry)) (now (gs .entry)) (now (ge .entry)) (now (gn .entry))) allowed (length (now (arrivals .entry))) (length (now (requireds .entry))) (length (now (slacks .entry)))) (now (requireds .entry)) ⌝ }
-    ensures { λ r. ⌜ now (slacks .exit) ≡ slacksAfter (design n (now (starts .entry)) (now (ends .entry)) (now (delays .entry))) (graphSlices (now (nodes .entry)) (now (gs .entry)) (now (ge .entry)) (now (gn .entry))) allowed (testTimes (design n (now (starts .entry)) (now (ends .entry)) (now (delays .entry))) (graphSlices (now (nodes .entry)) (now (gs .entry)) (now (ge .entry)) (now (gn .entry))) allowed (length (now (arrivals .entry))) (length (now (requireds .entry))) (length (now (slacks .entry)))) (now (slacks .entry)) ⌝ }
+    ensures { λ r.
+        let D = design n (now (starts .entry)) (now (ends .entry)) (now (delays .entry)) in
+        let S = graphSlices (now (nodes .entry)) (now (from .entry)) (now (to .entry)) (now (via .entry)) in
+        let v = testTimes D S allowed
+        (length (now (arrivals .entry))) (length (now (requireds .entry))) (length (now (slacks .entry))) in
+        ⌜ (r ≡ verdictNumber v)
+        × (now (arrivals .exit) ≡ arrivalsAfter D S allowed v (now (arrivals .entry)))
+        × (now (requireds .exit) ≡ requiredsAfter D S allowed v (now (requireds .entry)))
+        × (now (slacks .exit) ≡ slacksAfter D S allowed v (now (slacks .entry))) ⌝ }
 {
     let verdict = times::times(
         n,
@@ -186,12 +209,31 @@ pub extern "C" fn jaqhweni_times(
         delays,
         allowed,
         nodes,
-        gs,
-        ge,
-        gn,
+        from,
+        to,
+        via,
         arrivals,
         requireds,
         slacks,
     );
     verdict_number(verdict)
+}
+
+// A true graph in packed form, into the room.
+#[no_mangle]
+pub extern "C" fn jaqhweni_write_graph(
+    nodes: &[u32],
+    from: &[u32],
+    to: &[u32],
+    via: &[u32],
+    room: &mut [u8],
+) -> i64
+    ensures { λ r.
+        let S = graphSlices (now (nodes .entry)) (now (from .entry)) (now (to .entry)) (now (via .entry)) in
+        let bytes = packedGraph (graphOf S) in
+        ⌜ (r ≡ cNumber (writing (graphWriteTests S) (now (room .entry)) bytes))
+        × (now (room .exit) ≡ roomAfterWriting (graphWriteTests S) (now (room .entry)) bytes) ⌝ }
+{
+    let written = graph_writer::write_graph(nodes, from, to, via, room);
+    written_number(written)
 }

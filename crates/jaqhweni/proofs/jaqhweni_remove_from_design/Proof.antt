@@ -3,6 +3,7 @@ use Rattle.timing.specs.declared.GraphMade.{GraphMade}
 use Rattle.timing.specs.Graphs.{Design, design}
 use Rattle.timing.specs.Calls.{Removal, lentRemoval, removeFromDesign, graphAnswer}
 use Rattle.true_graph.proofs.Small.{small-from-design}
+use borrow.Author.Needs.{needs}
 use Rattle.jaqhweni.proofs.Answers.{made-small, made-number}
 use Rattle.jaqhweni.proofs.jaqhweni_remove_from_design.Statement.{statement}
 use Rattle.jaqhweni.proofs.jaqhweni_remove_from_design.Tie as tie
@@ -14,7 +15,7 @@ abbrev designAt : tie.Start → Design
 designAt s = let a = s .args in design (a .n) (a .starts .now) (a .ends .now) (a .delays .now)
 
 abbrev lentAt : tie.Start → Removal
-lentAt s = let a = s .args in lentRemoval (a .listed .now) (a .lengths .now) (a .nodes .now) (a .from .now) (a .to .now) (a .via .now) (a .scratch .now)
+lentAt s = let a = s .args in lentRemoval (a .listed .now) (a .lengths .now) (a .room-nodes .now) (a .room-from .now) (a .room-to .now) (a .room-via .now) (a .scratch .now)
 
 abbrev answerAt : tie.Start → GraphMade
 answerAt s = graphAnswer (removeFromDesign (designAt s) (lentAt s))
@@ -29,16 +30,16 @@ graph-number-requires c κs =
     made-small (answerAt s) (w .remove-from-design .result) (w .remove-from-design .ensures .0) (small-from-design (designAt s) (lentAt s))
 
 same-length : tie.Need-same-length
-same-length c = c .before .before .before .before .before .before .before .before .before .before .nodes .given
+same-length c = c .before .before .before .before .before .before .before .before .before .before .room-nodes .given
 
 same-length-2 : tie.Need-same-length-2
-same-length-2 c = c .before .before .before .before .before .before .before .before .from .given
+same-length-2 c = c .before .before .before .before .before .before .before .before .room-from .given
 
 same-length-3 : tie.Need-same-length-3
-same-length-3 c = c .before .before .before .before .before .before .to .given
+same-length-3 c = c .before .before .before .before .before .before .room-to .given
 
 same-length-4 : tie.Need-same-length-4
-same-length-4 c = c .before .before .before .before .via .given
+same-length-4 c = c .before .before .before .before .room-via .given
 
 same-length-5 : tie.Need-same-length-5
 same-length-5 c = c .before .before .scratch .given
@@ -46,7 +47,7 @@ same-length-5 c = c .before .before .scratch .given
 returns : tie.Need-returns
 returns c =
     let w = c .before .before .before .before .before .before .before .before .before .before .before in
-    (made-number (answerAt (start w)) (w .remove-from-design .result) (w .remove-from-design .ensures .0) (c .graph-number .result) (c .graph-number .ok) (c .graph-number .ensures), w .remove-from-design .ensures .1)
+    (made-number (answerAt (start w)) (w .remove-from-design .result) (w .remove-from-design .ensures .0) (c .graph-number .result) (c .graph-number .ok) (c .graph-number .ensures), search needs, search needs, search needs, search needs, search needs)
 
 pub jaqhweni-remove-from-design-spec : {M : Type 1} → statement M
 jaqhweni-remove-from-design-spec =

@@ -4,6 +4,7 @@ use Rattle.timing.specs.declared.Verdict.{Verdict}
 use Rattle.timing.specs.Graphs.{Design, design}
 use Rattle.timing.specs.Calls.{GraphSlices, graphSlices, testTimes}
 use Rattle.true_graph.proofs.Small.{small-times}
+use borrow.Author.Needs.{needs}
 use Rattle.jaqhweni.proofs.Answers.{found-small, found-number}
 use Rattle.jaqhweni.proofs.jaqhweni_times.Statement.{statement}
 use Rattle.jaqhweni.proofs.jaqhweni_times.Tie as tie
@@ -15,7 +16,7 @@ abbrev designAt : tie.Start → Design
 designAt s = let a = s .args in design (a .n) (a .starts .now) (a .ends .now) (a .delays .now)
 
 abbrev slicesAt : tie.Start → GraphSlices
-slicesAt s = let a = s .args in graphSlices (a .nodes .now) (a .gs .now) (a .ge .now) (a .gn .now)
+slicesAt s = let a = s .args in graphSlices (a .nodes .now) (a .from .now) (a .to .now) (a .via .now)
 
 abbrev verdictAt : tie.Start → Verdict
 verdictAt s = let a = s .args in testTimes (designAt s) (slicesAt s) (a .allowed) (length (a .arrivals .now)) (length (a .requireds .now)) (length (a .slacks .now))
@@ -43,7 +44,7 @@ same-length-3 c = c .before .slacks .given
 returns : tie.Need-returns
 returns c =
     let w = c .before .before .before .before in
-    (found-number (verdictAt (start w)) (w .times .result) (w .times .ensures .0) (c .verdict-number .result) (c .verdict-number .ok) (c .verdict-number .ensures), w .times .ensures .1)
+    (found-number (verdictAt (start w)) (w .times .result) (w .times .ensures .0) (c .verdict-number .result) (c .verdict-number .ok) (c .verdict-number .ensures), search needs, search needs, search needs)
 
 pub jaqhweni-times-spec : {M : Type 1} → statement M
 jaqhweni-times-spec =
