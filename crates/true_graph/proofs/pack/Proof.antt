@@ -19,7 +19,7 @@ abbrev tablesAt : tie.After-read-deck → Lent
 tablesAt w = let l = w .read-deck .last in lent (l .1 .0) (l .1 .1 .0) (l .1 .1 .1 .0) (l .1 .1 .1 .1 .0) (l .1 .1 .1 .1 .1 .0)
 
 filled-tables : (w : tie.After-read-deck) → tablesAt w ≡ lentAfter (tablesRead (start w .args .deck .now)) tables
-filled-tables w = let e = w .read-deck .ensures .1 in λ i. lent (e .0 i) (e .1 .0 i) (e .1 .1 .0 i) (e .1 .1 .1 .0 i) (e .1 .1 .1 .1 i)
+filled-tables w = let e = w .read-deck .ensures in λ i. lent (e .1 i) (e .2 i) (e .3 i) (e .4 i) (e .5 i)
 
 refuse-requires : tie.Need-refuse-requires
 refuse-requires c κs = search needs

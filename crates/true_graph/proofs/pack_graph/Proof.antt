@@ -40,7 +40,7 @@ answered : (w : tie.After-remove-from-design)
     → Answered (outcomeAt (start w)) (w .remove-from-design .result) (rooms .nodes) (rooms .starts) (rooms .ends) (rooms .names) (roomsAt w .nodes) (roomsAt w .starts) (roomsAt w .ends) (roomsAt w .names)
 answered w =
     let e = w .remove-from-design .ensures in
-    record { answer = e .0; nodes = e .1 .0; starts = e .1 .1 .0; ends = e .1 .1 .1 .0; names = e .1 .1 .1 .1 .0 }
+    record { answer = e .0; nodes = e .1; starts = e .2; ends = e .3; names = e .4 }
 
 slice-aggregate-remove-from-design : tie.Need-slice-aggregate-remove-from-design
 slice-aggregate-remove-from-design c = sym (length-replicate {A = ℕ} 512 0)
