@@ -35,8 +35,9 @@ pub record Demand2 (G : Graph) (L : List (List ℕ)) (H : Graph) : Type 0 where
   -- each once: two source-to-sink paths of H that are, taken back, one path are one path of H
   pub once : (r s : Run) → List·Memᴰ r (completeRuns H) → List·Memᴰ s (completeRuns H) → takenBack H r ≡ takenBack H s → r ≡ s
 
--- The three times of the paths P, each cut into two parts p and q: the largest delay of the part up to the cut, the smallest of
--- t less the delay of the part from there on, and the smallest of t less the whole delay.
+-- The three times of the paths P, each cut into two parts: "arrival is the largest delay of a path from a source", here of the
+-- part up to the cut; "required is the smallest of T less the delay of a path to a sink", of the part from there on; slack is the
+-- smallest of T less the whole delay.
 pub record PathBest (d : ℕ → ℤ) (t : ℤ) (P : List Edge → List Edge → Type 0) (a r s : ℤ) : Type 0 where
   pub arrival : Largest {A = (p : List Edge) × List Edge} (λ x. P (x .0) (x .1)) (λ x. delayAlong d (x .0)) a
   pub required : Smallest {A = (p : List Edge) × List Edge} (λ x. P (x .0) (x .1)) (λ x. t -ℤ delayAlong d (x .1)) r
@@ -47,7 +48,7 @@ pub record PathTimes (d : ℕ → ℤ) (t : ℤ) (P : List Edge → List Edge �
   pub none : (x ≡ None) ↔ ((p q : List Edge) → P p q → ⊥)
   pub some : (p q : List Edge) → P p q → (a : ℤ) × (r : ℤ) × (s : ℤ) × (x ≡ Times a r s) × PathBest d t P a r s
 
--- Demand 3 where no removal of a series is refused: the whole list is all their lists put end to end
+-- For demand 3 where no removal of a series is refused: the whole list is then all their lists, "in order, put end to end".
 abbrev pub AllPassed : List Verdict → Type 0
 AllPassed [] = Unit {0}
 AllPassed (Passed ∷ vs) = AllPassed vs

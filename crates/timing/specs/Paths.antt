@@ -1,5 +1,5 @@
 -- Which permitted complete paths pass a node or show a copy, each cut there into two parts, and what the largest and the
--- smallest of their times are. Nothing here is computed: these are statements, for the demands.
+-- smallest of some values are. No call computes these: they are what `Demands` and the theorems speak of.
 use Prim.Native.Nat.{ℕ}
 use mathlib.Core.Path.{_≡_}
 use mathlib.Core.List.{List, [], _∷_, _++_, List·Memᴰ}
@@ -15,7 +15,8 @@ abbrev pub reached : ℕ → List Edge → ℕ
 reached a [] = a
 reached a (e ∷ es) = reached (e .end) es
 
--- a permitted complete path of G that passes c, cut there: p is its part up to c, q its part from c on
+-- "A complete path is permitted if no listed path occurs in it": one of G that passes c, cut there, so that p is its part up to c
+-- and q its part from c on
 pub record CutAt (G : Graph) (L : List (List ℕ)) (c : ℕ) (p q : List Edge) : Type 0 where
   pub path : Run
   pub permits : List·Memᴰ path (permittedRuns L G)
