@@ -17,7 +17,7 @@ on-held D none r = refl
 on-held D (some G) r = refl
 
 -- what the caller lends on is the graph that the definition holds
-front-held : (h : Option Graph) (c : Called) (o : Outcome Graph) → Meets o c → heldSlices (c .answer) (c .after) (slicesHeld h) ≡ slicesHeld (heldNext h o)
+pub front-held : (h : Option Graph) (c : Called) (o : Outcome Graph) → Meets o c → heldSlices (c .answer) (c .after) (slicesHeld h) ≡ slicesHeld (heldNext h o)
 front-held h c (made G) m =
     ap (λ (a : GraphMade). heldSlices a (c .after) (slicesHeld h)) (m .answer)
     ∙ (λ i.
@@ -35,12 +35,12 @@ same-verdict c (made G) m = ap verdictIn (m .answer)
 same-verdict c (refused r) m = ap verdictIn (m .answer)
 
 -- a series of calls and the series of the definitions go side by side
-record Beside (D : Design) (h : Option Graph) (cs : List Called) : Type 0 where
-  refusals : map (λ (c : Called). verdictIn (c .answer)) cs ≡ verdicts D h (map removalOf cs)
-  slices : lastHeld (slicesHeld h) cs ≡ slicesHeld (heldAfter D h (map removalOf cs))
-  counts : lastCounts (countsHeld h) cs ≡ countsHeld (heldAfter D h (map removalOf cs))
+pub record Beside (D : Design) (h : Option Graph) (cs : List Called) : Type 0 where
+  pub refusals : map (λ (c : Called). verdictIn (c .answer)) cs ≡ verdicts D h (map removalOf cs)
+  pub slices : lastHeld (slicesHeld h) cs ≡ slicesHeld (heldAfter D h (map removalOf cs))
+  pub counts : lastCounts (countsHeld h) cs ≡ countsHeld (heldAfter D h (map removalOf cs))
 
-ran-beside : (D : Design) (h : Option Graph) (cs : List Called) → Ran D (slicesHeld h) cs → Beside D h cs
+pub ran-beside : (D : Design) (h : Option Graph) (cs : List Called) → Ran D (slicesHeld h) cs → Beside D h cs
 ran-beside D h [] r = record { refusals = refl; slices = refl; counts = refl }
 ran-beside D h (c ∷ cs) r =
     let o : Outcome Graph = removeNext D h (removalOf c) in

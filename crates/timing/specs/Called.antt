@@ -1,5 +1,5 @@
 -- A series of removals as it is run: what each call was lent, what it answered and what it left. `Meets` is what the contracts of
--- `remove_from_design` and `remove_from_graph` say of one call; crate `series` shows it of both from these contracts.
+-- `remove_from_design` and `remove_from_graph` say of one call; crate `called` shows it of both from these contracts.
 use Prim.Native.Nat.{ℕ}
 use mathlib.Core.Path.{_≡_}
 use mathlib.Core.List.{List, [], _∷_, map}
@@ -41,10 +41,14 @@ abbrev pub removeOn : Design → Option GraphSlices → Removal → Outcome Grap
 removeOn D none r = removeFromDesign D r
 removeOn D (some S) r = removeFromGraph D S r
 
+-- c copies and e edges at the front of a room
+abbrev pub front : ℕ → ℕ → GraphSlices → GraphSlices
+front c e S = graphSlices (take c (S .nodes)) (take e (S .starts)) (take e (S .ends)) (take e (S .names))
+
 -- the slices that the caller holds after a call, and lends on: the front of the room, as long as the call answered; a refused
 -- call leaves them
 abbrev pub heldSlices : GraphMade → GraphSlices → Option GraphSlices → Option GraphSlices
-heldSlices (Counts c e) S held = some (graphSlices (take c (S .nodes)) (take e (S .starts)) (take e (S .ends)) (take e (S .names)))
+heldSlices (Counts c e) S held = some (front c e S)
 heldSlices (NoGraph r) S held = held
 
 abbrev pub lastHeld : Option GraphSlices → List Called → Option GraphSlices

@@ -7,7 +7,7 @@ use Rattle.timing.specs.Graphs.{Design, Graph}
 use Rattle.timing.specs.Calls.{GraphSlices, Outcome}
 use Rattle.timing.specs.Called.{removalOf, Meets, removeOn, Ran, CalledDemand3}
 use Rattle.theorems.proofs.Called.{called-demand3}
-use Rattle.series.specs.Calls.{Call, onDesign, onGraph, designOf, earlierOf, calledOf, Follows}
+use Rattle.called.specs.Removals.{Call, onDesign, onGraph, designOf, earlierOf, calledOf, Follows}
 
 pub meets : (c : Call) → Meets (removeOn (designOf c) (earlierOf c) (removalOf (calledOf c))) (calledOf c)
 meets (onDesign c) =

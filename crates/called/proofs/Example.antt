@@ -9,7 +9,7 @@ use Rattle.timing.specs.Graphs.{Design}
 use Rattle.timing.specs.Calls.{GraphSlices}
 use Rattle.timing.specs.Called.{Called, removalOf, Meets, removeOn, heldSlices, Ran}
 use Rattle.theorems.proofs.CalledExample.{deckA, series, series-ran}
-use Rattle.series.specs.Calls.{Call, onDesign, onGraph, designOf, earlierOf, calledOf, Follows}
+use Rattle.called.specs.Removals.{Call, onDesign, onGraph, designOf, earlierOf, calledOf, Follows}
 
 -- some slice that holds x
 abbrev lent : {X : Type 0} → X → RefT X

@@ -7,8 +7,9 @@ use mathlib.Core.Option.{Option, none, some}
 use contract.Lifetimes.{Lfts}
 use borrow.Fn.World.{ArgsD, ResD}
 use denote.Triple.Clauses.{AtExit}
-use Rattle.timing.specs.Graphs.{Design, design}
-use Rattle.timing.specs.Calls.{GraphSlices, graphSlices}
+use Rattle.timing.specs.Graphs.{Design, design, Graph, designGraph}
+use Rattle.timing.specs.Marks.{pathList, pathsOf}
+use Rattle.timing.specs.Calls.{GraphSlices, graphSlices, graphOf}
 use Rattle.timing.specs.Called.{Called, heldSlices}
 use Rattle.removal.proofs.remove_from_design.{signature as designSignature, ended as designEnded}
 use Rattle.removal.proofs.remove_from_design.Reads.{Learnt as DesignLearnt}
@@ -75,6 +76,17 @@ calledOf (onGraph c) =
       after = graphSlices (left .0 .now) (left .1 .0 .now) (left .1 .1 .0 .now) (left .1 .1 .1 .0 .now);
       scratchAt = left .1 .1 .1 .1 .0 .now;
     }
+
+-- the graph that a call works on, and its listed paths
+abbrev pub graphOn : Design → Option GraphSlices → Graph
+graphOn D none = designGraph D
+graphOn D (some S) = graphOf S
+
+abbrev pub workedOn : Call → Graph
+workedOn c = graphOn (designOf c) (earlierOf c)
+
+abbrev pub pathsIn : Call → List (List ℕ)
+pathsIn c = pathsOf (pathList (calledOf c .listed) (calledOf c .lengths))
 
 -- "A series is any number of removals, in order, over one design": each call is lent that design and what is held then
 abbrev pub Follows : Design → Option GraphSlices → List Call → Type 0

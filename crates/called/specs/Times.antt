@@ -1,0 +1,70 @@
+-- Calls of `times` and `node_record` as a caller has them, with the `ensures` of their contracts as the toolchain takes these from
+-- the source.
+use Prim.Native.Nat.{ℕ}
+use mathlib.Core.Path.{_≡_}
+use mathlib.Core.List.{List}
+use contract.Lifetimes.{Lfts}
+use borrow.Fn.World.{ArgsD, ResD}
+use denote.Triple.Clauses.{AtExit}
+use lib.IntN.{ℤ, pos}
+use lib.ListN.{getD}
+use Rattle.timing.specs.Graphs.{Design, design, edgeDelay, Edge}
+use Rattle.timing.specs.Calls.{GraphSlices, graphSlices}
+use Rattle.timing.specs.Demands.{PathBest}
+use Rattle.times.proofs.times.{signature as timesSignature, ended as timesEnded}
+use Rattle.times.proofs.times.Reads.{Learnt as TimesLearnt}
+use Rattle.times.proofs.node_record.{signature as recordSignature, ended as recordEnded}
+use Rattle.times.proofs.node_record.Reads.{Learnt as RecordLearnt}
+
+-- a call of `times`
+pub record TimesCall : Type 0 where
+  pub lifetimes : Lfts 10
+  pub passed : ArgsD timesSignature lifetimes
+  pub answer : ResD timesSignature lifetimes
+  pub left : AtExit timesEnded lifetimes
+  pub learnt : TimesLearnt lifetimes passed answer left
+
+-- what stands in its slices: n, starts, ends, delays; T; the graph's four; the times' three
+abbrev pub timedDesign : TimesCall → Design
+timedDesign c = let a = c .passed in design (a .0) (a .1 .0 .now) (a .1 .1 .0 .now) (a .1 .1 .1 .0 .now)
+
+abbrev pub allowedTime : TimesCall → ℕ
+allowedTime c = c .passed .1 .1 .1 .1 .0
+
+abbrev pub timedGraph : TimesCall → GraphSlices
+timedGraph c = let a = c .passed .1 .1 .1 .1 .1 in graphSlices (a .0 .now) (a .1 .0 .now) (a .1 .1 .0 .now) (a .1 .1 .1 .0 .now)
+
+abbrev pub arrivalsLeft : TimesCall → List ℤ
+arrivalsLeft c = c .left .1 .1 .1 .1 .1 .1 .1 .1 .1 .0 .now
+
+abbrev pub requiredsLeft : TimesCall → List ℤ
+requiredsLeft c = c .left .1 .1 .1 .1 .1 .1 .1 .1 .1 .1 .0 .now
+
+abbrev pub slacksLeft : TimesCall → List ℤ
+slacksLeft c = c .left .1 .1 .1 .1 .1 .1 .1 .1 .1 .1 .1 .0 .now
+
+-- the times left at copy h are those of the paths P, each cut into two parts
+abbrev pub TimesLeft : TimesCall → ℕ → (List Edge → List Edge → Type 0) → Type 0
+TimesLeft c h P =
+    PathBest (edgeDelay (timedDesign c)) (pos (allowedTime c)) P
+    (getD (arrivalsLeft c) h (pos 0)) (getD (requiredsLeft c) h (pos 0)) (getD (slacksLeft c) h (pos 0))
+
+-- a call of `node_record`
+pub record RecordCall : Type 0 where
+  pub lifetimes : Lfts 4
+  pub passed : ArgsD recordSignature lifetimes
+  pub answer : ResD recordSignature lifetimes
+  pub left : AtExit recordEnded lifetimes
+  pub learnt : RecordLearnt lifetimes passed answer left
+
+-- the node that it asks for
+abbrev pub askedNode : RecordCall → ℕ
+askedNode c = c .passed .1 .1 .1 .1 .1 .0
+
+-- it is lent n, the nodes of the copies, and the times that a call of `times` left
+pub record RecordAfter (t : TimesCall) (c : RecordCall) : Type 0 where
+  pub nodes : c .passed .0 ≡ timedDesign t .nodes
+  pub copies : c .passed .1 .0 .now ≡ timedGraph t .nodes
+  pub arrivals : c .passed .1 .1 .0 .now ≡ arrivalsLeft t
+  pub requireds : c .passed .1 .1 .1 .0 .now ≡ requiredsLeft t
+  pub slacks : c .passed .1 .1 .1 .1 .0 .now ≡ slacksLeft t

@@ -1,2 +1,0 @@
--- What a series of calls of the two removals is.
-pub mod Calls
