@@ -90,23 +90,19 @@ fn step_listed(
     let a = number_at(from, e) as usize;
     let c = number_at(to, e) as usize;
     let first = low_at(l, scratch, c);
-    let span = slot_span(scratch, l.rest, l.order, first, j);
+    let span = slot_span(l, scratch, first, j);
     let low = low_at(l, scratch, a);
     let middle = middle_at(l, scratch, a);
     let high = high_at(l, scratch, a);
     step_back(
+        l,
         listed,
         scratch,
-        l.rest,
-        l.order,
-        l.rank,
-        l.link,
         low,
         middle,
         high,
         number_at(via, e),
-        span.at,
-        span.len,
+        span,
     )
 }
 
