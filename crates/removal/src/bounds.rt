@@ -89,7 +89,7 @@ fn put_four(scratch: &mut [u32], base: usize, n: usize, c: usize, four: Four)
     scratch[fourth + c] = four.before;
 }
 
-// Fills in the four tables from base on, a word for each copy: its three bounds, and how many slots
+// Fills in the four tables from `low` on, a word for each copy: its three bounds, and how many slots
 // the copies before it have. Gives the number of all slots.
 pub(crate) fn fill_bounds(
     l: Layout,
