@@ -6,6 +6,7 @@ ghost use Rattle.timing.specs.Marks.{pathList};
 ghost use Rattle.removal.specs.Table.{table};
 ghost use Rattle.removal.specs.Search.{codeIn, Searchable, Rising, FirstsBy, Firsts, FilledTo, putFour, Fillable};
 ghost use Rattle.removal.specs.Search.{Filled};
+use crate::rows::Layout;
 use entries::number_at;
 
 // Fills the words from `first` on and before `end`; gives where the next words start.
@@ -88,33 +89,31 @@ fn put_four(scratch: &mut [u32], base: usize, n: usize, c: usize, four: Four)
     scratch[fourth + c] = four.before;
 }
 
-// Fills in the four tables from base on, a word for each copy: its three bounds, and how many slots
+// Fills in the four tables from `low` on, a word for each copy: its three bounds, and how many slots
 // the copies before it have. Gives the number of all slots.
 pub(crate) fn fill_bounds(
+    l: Layout,
     starts: &[u32],
     listed: &[u32],
     lengths: &[u32],
     nodes: &[u32],
     scratch: &mut [u32],
-    rest: usize,
-    order: usize,
-    base: usize,
     firsts: &[u32],
 ) -> u32
-    requires { ⌜ Searchable (now starts) (now listed) (now lengths) (now scratch) rest order base
-        × Fillable (now listed) (now nodes) (now scratch) base
+    requires { ⌜ Searchable (now starts) (now listed) (now lengths) (now scratch) (l .rest) (l .order) (l .low)
+        × Fillable (now listed) (now nodes) (now scratch) (l .low)
         × Firsts (now starts) (pathList (now listed) (now lengths))
-        (table (now scratch) order (length (now listed))) (now firsts) ⌝ }
+        (table (now scratch) (l .order) (length (now listed))) (now firsts) ⌝ }
     ensures { λ r.
         ⌜ Filled (now (starts .entry)) (now (listed .entry)) (now (lengths .entry))
-        (now (nodes .entry)) (now (scratch .entry)) (now (scratch .exit)) order base r ⌝ }
+        (now (nodes .entry)) (now (scratch .entry)) (now (scratch .exit)) (l .order) (l .low) r ⌝ }
 {
     let n = nodes.len();
     let mut total: u32 = 0;
     let mut c = 0;
     while c < n {
         let four = around(firsts, nodes[c], total);
-        put_four(scratch, base, n, c, four);
+        put_four(scratch, l.low, n, c, four);
         total = total + (four.middle - four.low + 1);
         c += 1;
     }

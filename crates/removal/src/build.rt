@@ -62,28 +62,8 @@ pub(crate) fn build(
     let l = layout(nodes.len(), from.len(), listed.len());
     fill_rest(scratch, l.rest, lengths);
     let mut firsts = [0u32; 8193];
-    fill_tables(
-        starts,
-        listed,
-        lengths,
-        scratch,
-        l.rest,
-        l.order,
-        l.rank,
-        l.link,
-        &mut firsts,
-    );
-    let total = fill_bounds(
-        starts,
-        listed,
-        lengths,
-        nodes,
-        scratch,
-        l.rest,
-        l.order,
-        l.low,
-        &firsts,
-    );
+    fill_tables(l, starts, listed, lengths, scratch, &mut firsts);
+    let total = fill_bounds(l, starts, listed, lengths, nodes, scratch, &firsts);
     link_edges(scratch, l.into, l.copies, to);
     link_named(scratch, l.out, l.copies, from, listed, via);
     clear(scratch, l.slots, total as usize);

@@ -192,8 +192,7 @@ fn graph_tests(
     and_graph_test(fit, n, starts, ends, nodes, from, to, via)
 }
 
-// What is left of an earlier true graph (`nodes`, `from`, `to`, `via`) after a
-// further list of paths.
+// What is left of an earlier true graph (`nodes`, `from`, `to`, `via`) after a further list of paths.
 pub fn remove_from_graph(
     n: u32,
     starts: &[u32],

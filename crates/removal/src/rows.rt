@@ -12,11 +12,10 @@ use crate::step::slot_span;
 use crate::step::step_back;
 use entries::number_at;
 
-// `rest`, `order`, `rank` and `link` have a word for each listed edge. `low` has four tables of a word
-// for each copy: the bounds of the copy's places in the order (`Bounds` in specs/), and where its
-// slots start. `into` and `out` are the chains of edges by end
-// and by start: a word for each copy, and then one for each edge. After `out` stands a word for each
-// edge, which is 0 if the edge names no listed one. The slots stand last.
+// `rest`, `order`, `rank` and `link` have a word for each listed edge. `low` has four tables of a word for each
+// copy: the bounds of the copy's places in the order (`Bounds` in specs/), and where its slots start. `into` and
+// `out` are the chains of edges by end and by start: a word for each copy, and then one for each edge. After
+// `out` stands a word for each edge, which is 0 if the edge names no listed one. The slots stand last.
 pub(crate) struct Layout {
     pub(crate) copies: usize,
     pub(crate) edges: usize,
@@ -90,23 +89,19 @@ fn step_listed(
     let a = number_at(from, e) as usize;
     let c = number_at(to, e) as usize;
     let first = low_at(l, scratch, c);
-    let span = slot_span(scratch, l.rest, l.order, first, j);
+    let span = slot_span(l, scratch, first, j);
     let low = low_at(l, scratch, a);
     let middle = middle_at(l, scratch, a);
     let high = high_at(l, scratch, a);
     step_back(
+        l,
         listed,
         scratch,
-        l.rest,
-        l.order,
-        l.rank,
-        l.link,
         low,
         middle,
         high,
         number_at(via, e),
-        span.at,
-        span.len,
+        span,
     )
 }
 

@@ -16,29 +16,29 @@ use Rattle.removal.proofs.bounds.fill_bounds.Statement.{statement}
 use Rattle.removal.proofs.bounds.fill_bounds.Tie as tie
 
 abbrev Inv-loop : tie.InvT-loop
-Inv-loop starts listed lengths nodes s₀ rest order base firsts n total₀ c₀ s total c = Filling starts listed lengths nodes s₀ s rest order base c total
+Inv-loop l starts listed lengths nodes s₀ firsts n total₀ c₀ s total c = Filling starts listed lengths nodes s₀ s (l .rest) (l .order) (l .low) c total
 
 abbrev μ-loop : tie.MeasureT-loop
-μ-loop starts listed lengths nodes s₀ rest order base firsts n total₀ c₀ s total c = length nodes - c
+μ-loop l starts listed lengths nodes s₀ firsts n total₀ c₀ s total c = length nodes - c
 
 -- what is read for copy c are the bounds of its node
 bounds : (p : tie.Start Inv-loop μ-loop) (t : List ℕ) (c total : ℕ)
-    → Filling (p .args .starts .now) (p .args .listed .now) (p .args .lengths .now) (p .args .nodes .now) (p .args .scratch .now) t (p .args .rest) (p .args .order) (p .args .base) c total
+    → Filling (p .args .starts .now) (p .args .listed .now) (p .args .lengths .now) (p .args .nodes .now) (p .args .scratch .now) t (p .args .l .rest) (p .args .l .order) (p .args .l .low) c total
     → c < length (p .args .nodes .now) → (low middle high : ℕ)
     → low ≡ getD (p .args .firsts .now) (2 * getD (p .args .nodes .now) c 0) 0
     → middle ≡ getD (p .args .firsts .now) (2 * getD (p .args .nodes .now) c 0 + 1) 0
     → high ≡ getD (p .args .firsts .now) (2 * getD (p .args .nodes .now) c 0 + 2) 0
-    → Around (p .args .starts .now) (pathList (p .args .listed .now) (p .args .lengths .now)) (table t (p .args .order) (length (p .args .listed .now))) (getD (p .args .nodes .now) c 0) low middle high
+    → Around (p .args .starts .now) (pathList (p .args .listed .now) (p .args .lengths .now)) (table t (p .args .l .order) (length (p .args .listed .now))) (getD (p .args .nodes .now) c 0) low middle high
 bounds p t c total f h low middle high x y z =
-    around-read (p .args .starts .now) (pathList (p .args .listed .now) (p .args .lengths .now)) (table t (p .args .order) (length (p .args .listed .now))) (p .args .firsts .now) (getD (p .args .nodes .now) c 0) low middle high
+    around-read (p .args .starts .now) (pathList (p .args .listed .now) (p .args .lengths .now)) (table t (p .args .l .order) (length (p .args .listed .now))) (p .args .firsts .now) (getD (p .args .nodes .now) c 0) low middle high
     (p .pre .1 .nodes-below c h)
-    (subst (λ (o : List ℕ). Firsts (p .args .starts .now) (pathList (p .args .listed .now) (p .args .lengths .now)) o (p .args .firsts .now)) (sym (f .frame .below (p .args .order) (length (p .args .listed .now)) (p .pre .0 .order-room))) (p .pre .2))
+    (subst (λ (o : List ℕ). Firsts (p .args .starts .now) (pathList (p .args .listed .now) (p .args .lengths .now)) o (p .args .firsts .now)) (sym (f .frame .below (p .args .l .order) (length (p .args .listed .now)) (p .pre .0 .order-room))) (p .pre .2))
     x y z
 
 loop-holds : tie.Need-loop-holds Inv-loop μ-loop
 loop-holds c =
     let p = c .before .before .before .before .before .before in
-    filling-start (p .args .starts .now) (p .args .listed .now) (p .args .lengths .now) (p .args .nodes .now) (p .args .scratch .now) (p .args .rest) (p .args .order) (p .args .base) (p .pre .0) (p .pre .1)
+    filling-start (p .args .starts .now) (p .args .listed .now) (p .args .lengths .now) (p .args .nodes .now) (p .args .scratch .now) (p .args .l .rest) (p .args .l .order) (p .args .l .low) (p .pre .0) (p .pre .1)
 
 mul-around : tie.Need-mul-around Inv-loop μ-loop
 mul-around c = omega arith
@@ -59,7 +59,7 @@ sub-total c =
     let p = l .before .before .before .before .before .before .before in
     let r = w .around .result in
     let v = getD (p .args .nodes .now) (l .loop .c) 0 in
-    lower-le (p .args .starts .now) (pathList (p .args .listed .now) (p .args .lengths .now)) (table (l .loop .scratch) (p .args .order) (length (p .args .listed .now)))
+    lower-le (p .args .starts .now) (pathList (p .args .listed .now) (p .args .lengths .now)) (table (l .loop .scratch) (p .args .l .order) (length (p .args .listed .now)))
     (2 * v) (2 * v + 1) (r .low) (r .middle) (omega arith) ((bounds p (l .loop .scratch) (l .loop .c) (l .loop .total) (l .loop .inv) (omega arith) (r .low) (r .middle) (r .high) (w .around .ensures .0) (w .around .ensures .1) (w .around .ensures .2)) .lows) ((bounds p (l .loop .scratch) (l .loop .c) (l .loop .total) (l .loop .inv) (omega arith) (r .low) (r .middle) (r .high) (w .around .ensures .0) (w .around .ensures .1) (w .around .ensures .2)) .middles)
 
 add-total : tie.Need-add-total Inv-loop μ-loop
@@ -68,7 +68,7 @@ add-total c =
     let l = w .before .before .before in
     let p = l .before .before .before .before .before .before .before in
     let r = w .around .result in
-    omega (arith, middle-small (p .args .starts .now) (p .args .listed .now) (p .args .lengths .now) (p .args .nodes .now) (p .args .scratch .now) (l .loop .scratch) (p .args .rest) (p .args .order) (p .args .base) (l .loop .c) (l .loop .total) (r .low) (r .middle) (r .high) (l .loop .inv) (omega arith) (bounds p (l .loop .scratch) (l .loop .c) (l .loop .total) (l .loop .inv) (omega arith) (r .low) (r .middle) (r .high) (w .around .ensures .0) (w .around .ensures .1) (w .around .ensures .2)))
+    omega (arith, middle-small (p .args .starts .now) (p .args .listed .now) (p .args .lengths .now) (p .args .nodes .now) (p .args .scratch .now) (l .loop .scratch) (p .args .l .rest) (p .args .l .order) (p .args .l .low) (l .loop .c) (l .loop .total) (r .low) (r .middle) (r .high) (l .loop .inv) (omega arith) (bounds p (l .loop .scratch) (l .loop .c) (l .loop .total) (l .loop .inv) (omega arith) (r .low) (r .middle) (r .high) (w .around .ensures .0) (w .around .ensures .1) (w .around .ensures .2)))
 
 add-total-2 : tie.Need-add-total-2 Inv-loop μ-loop
 add-total-2 c =
@@ -76,7 +76,7 @@ add-total-2 c =
     let l = w .before .before .before in
     let p = l .before .before .before .before .before .before .before in
     let r = w .around .result in
-    omega (arith, middle-small (p .args .starts .now) (p .args .listed .now) (p .args .lengths .now) (p .args .nodes .now) (p .args .scratch .now) (l .loop .scratch) (p .args .rest) (p .args .order) (p .args .base) (l .loop .c) (l .loop .total) (r .low) (r .middle) (r .high) (l .loop .inv) (omega arith) (bounds p (l .loop .scratch) (l .loop .c) (l .loop .total) (l .loop .inv) (omega arith) (r .low) (r .middle) (r .high) (w .around .ensures .0) (w .around .ensures .1) (w .around .ensures .2)), l .loop .inv .small, l .loop .inv .able .copies)
+    omega (arith, middle-small (p .args .starts .now) (p .args .listed .now) (p .args .lengths .now) (p .args .nodes .now) (p .args .scratch .now) (l .loop .scratch) (p .args .l .rest) (p .args .l .order) (p .args .l .low) (l .loop .c) (l .loop .total) (r .low) (r .middle) (r .high) (l .loop .inv) (omega arith) (bounds p (l .loop .scratch) (l .loop .c) (l .loop .total) (l .loop .inv) (omega arith) (r .low) (r .middle) (r .high) (w .around .ensures .0) (w .around .ensures .1) (w .around .ensures .2)), l .loop .inv .small, l .loop .inv .able .copies)
 
 add-c : tie.Need-add-c Inv-loop μ-loop
 add-c c = omega arith
@@ -91,7 +91,7 @@ loop-again c =
     let p = l .before .before .before .before .before .before .before in
     let r = w .around .result in
     rw (c .before .before .before .put-four .ensures, w .around .ensures .3, add-one (l .loop .c))
-    (filling-turn (p .args .starts .now) (p .args .listed .now) (p .args .lengths .now) (p .args .nodes .now) (p .args .scratch .now) (l .loop .scratch) (p .args .rest) (p .args .order) (p .args .base) (l .loop .c) (l .loop .total) (r .low) (r .middle) (r .high) (l .loop .inv) (omega arith) (bounds p (l .loop .scratch) (l .loop .c) (l .loop .total) (l .loop .inv) (omega arith) (r .low) (r .middle) (r .high) (w .around .ensures .0) (w .around .ensures .1) (w .around .ensures .2)))
+    (filling-turn (p .args .starts .now) (p .args .listed .now) (p .args .lengths .now) (p .args .nodes .now) (p .args .scratch .now) (l .loop .scratch) (p .args .l .rest) (p .args .l .order) (p .args .l .low) (l .loop .c) (l .loop .total) (r .low) (r .middle) (r .high) (l .loop .inv) (omega arith) (bounds p (l .loop .scratch) (l .loop .c) (l .loop .total) (l .loop .inv) (omega arith) (r .low) (r .middle) (r .high) (w .around .ensures .0) (w .around .ensures .1) (w .around .ensures .2)))
 
 same-length : tie.Need-same-length Inv-loop μ-loop
 same-length c = c .before .loop .inv .frame .size
@@ -100,7 +100,7 @@ returns : tie.Need-returns Inv-loop μ-loop
 returns c =
     let l = c .before in
     let p = l .before .before .before .before .before .before .before in
-    filling-done (p .args .starts .now) (p .args .listed .now) (p .args .lengths .now) (p .args .nodes .now) (p .args .scratch .now) (l .loop .scratch) (p .args .rest) (p .args .order) (p .args .base) (l .loop .c) (l .loop .total) (l .loop .inv) (omega arith)
+    filling-done (p .args .starts .now) (p .args .listed .now) (p .args .lengths .now) (p .args .nodes .now) (p .args .scratch .now) (l .loop .scratch) (p .args .l .rest) (p .args .l .order) (p .args .l .low) (l .loop .c) (l .loop .total) (l .loop .inv) (omega arith)
 
 pub fill-bounds-spec : {M : Type 1} → statement M
 fill-bounds-spec =

@@ -8,19 +8,19 @@ use Rattle.removal.proofs.step.first_from.Statement.{statement}
 use Rattle.removal.proofs.step.first_from.Tie as tie
 
 abbrev Inv-loop : tie.InvT-loop
-Inv-loop listed s rest order rank first end name at len lo₀ hi₀ lo hi =
+Inv-loop l listed s first end name mark lo₀ hi₀ lo hi =
     (first ≤ lo)
     × (lo ≤ hi)
     × (hi ≤ end)
-    × (Rising listed s rest order first end → Narrowed (comesBefore listed s rest order (following listed name at len) (len + 1)) first end lo hi)
+    × (Rising listed s (l .rest) (l .order) first end → Narrowed (comesBefore listed s (l .rest) (l .order) (following listed name (mark .at) (mark .len)) (mark .len + 1)) first end lo hi)
 
 abbrev μ-loop : tie.MeasureT-loop
-μ-loop listed s rest order rank first end name at len lo₀ hi₀ lo hi = hi - lo
+μ-loop l listed s first end name mark lo₀ hi₀ lo hi = hi - lo
 
 loop-holds : tie.Need-loop-holds Inv-loop μ-loop
 loop-holds c =
     let a = c .before .before .args in
-    (omega arith, omega (arith, c .before .before .pre .0 .up), omega arith, λ up. narrowed-start (a .listed .now) (a .scratch .now) (a .rest) (a .order) (a .first) (a .end) (following (a .listed .now) (a .name) (a .at) (a .len)) (a .len + 1) (a .first) (a .end))
+    (omega arith, omega (arith, c .before .before .pre .0 .up), omega arith, λ up. narrowed-start (a .listed .now) (a .scratch .now) (a .l .rest) (a .l .order) (a .first) (a .end) (following (a .listed .now) (a .name) (a .mark .at) (a .mark .len)) (a .mark .len + 1) (a .first) (a .end))
 
 sub-mid : tie.Need-sub-mid Inv-loop μ-loop
 sub-mid c = omega arith
@@ -46,7 +46,7 @@ loop-again c =
     let l = c .before .before .before .loop in
     let a = c .before .before .before .before .before .before .args in
     let mid = l .lo + (l .hi - l .lo) / 2 in
-    (omega arith, omega arith, omega arith, λ up. narrowed-up (a .listed .now) (a .scratch .now) (a .rest) (a .order) (a .first) (a .end) (following (a .listed .now) (a .name) (a .at) (a .len)) (a .len + 1) (l .lo) (l .hi) mid (omega arith) (omega arith) up (l .inv .3 up) (sym (c .before .comes-before .ensures) ∙ c .if1 .taken))
+    (omega arith, omega arith, omega arith, λ up. narrowed-up (a .listed .now) (a .scratch .now) (a .l .rest) (a .l .order) (a .first) (a .end) (following (a .listed .now) (a .name) (a .mark .at) (a .mark .len)) (a .mark .len + 1) (l .lo) (l .hi) mid (omega arith) (omega arith) up (l .inv .3 up) (sym (c .before .comes-before .ensures) ∙ c .if1 .taken))
 
 loop-less-2 : tie.Need-loop-less-2 Inv-loop μ-loop
 loop-less-2 c = omega arith
@@ -56,13 +56,13 @@ loop-again-2 c =
     let l = c .before .before .before .loop in
     let a = c .before .before .before .before .before .before .args in
     let mid = l .lo + (l .hi - l .lo) / 2 in
-    (omega arith, omega arith, omega arith, λ up. narrowed-down (a .listed .now) (a .scratch .now) (a .rest) (a .order) (a .first) (a .end) (following (a .listed .now) (a .name) (a .at) (a .len)) (a .len + 1) (l .lo) (l .hi) mid (omega arith) (omega arith) up (l .inv .3 up) (sym (c .before .comes-before .ensures) ∙ c .if1 .left))
+    (omega arith, omega arith, omega arith, λ up. narrowed-down (a .listed .now) (a .scratch .now) (a .l .rest) (a .l .order) (a .first) (a .end) (following (a .listed .now) (a .name) (a .mark .at) (a .mark .len)) (a .mark .len + 1) (l .lo) (l .hi) mid (omega arith) (omega arith) up (l .inv .3 up) (sym (c .before .comes-before .ensures) ∙ c .if1 .left))
 
 returns : tie.Need-returns Inv-loop μ-loop
 returns c =
     let l = c .before .loop in
     let a = c .before .before .before .before .args in
-    record { least = l .inv .0; most = omega arith; parted = λ up. narrowed-end (a .listed .now) (a .scratch .now) (a .rest) (a .order) (a .first) (a .end) (following (a .listed .now) (a .name) (a .at) (a .len)) (a .len + 1) (l .lo) (l .hi) (c .loop-test .left) (l .inv .3 up) }
+    record { least = l .inv .0; most = omega arith; parted = λ up. narrowed-end (a .listed .now) (a .scratch .now) (a .l .rest) (a .l .order) (a .first) (a .end) (following (a .listed .now) (a .name) (a .mark .at) (a .mark .len)) (a .mark .len + 1) (l .lo) (l .hi) (c .loop-test .left) (l .inv .3 up) }
 
 pub first-from-spec : {M : Type 1} → statement M
 first-from-spec =

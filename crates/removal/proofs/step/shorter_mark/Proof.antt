@@ -24,8 +24,8 @@ sub-at c = search needs
 
 add-number-at-2 : tie.Need-add-number-at-2
 add-number-at-2 c =
-    let b = c .before .before .before in
-    omega (arith, b .pre .mark (omega (arith, c .before .number-at .ensures, c .if1 .left)), c .before .number-at .ensures)
+    let b = c .before .before .before .before .before in
+    omega (arith, b .pre .mark (omega (arith, c .before .before .number-at .ensures, c .before .if1 .left)), c .before .before .number-at .ensures)
 
 number-at-requires-2 : tie.Need-number-at-requires-2
 number-at-requires-2 c κs = search needs
@@ -35,13 +35,13 @@ cast-len c = search needs
 
 returns-2 : tie.Need-returns-2
 returns-2 c =
-    let b = c .before .before .before .before in
-    let v = c .before .before .number-at in
+    let b = c .before .before .before .before .before .before in
+    let v = c .before .before .before .number-at in
     record {
-      first = λ e. absurd (omega (arith, v .ensures, c .before .if1 .left));
-      none = λ e. absurd (omega (arith, v .ensures, c .before .if1 .left));
+      first = λ e. absurd (omega (arith, v .ensures, c .before .before .if1 .left));
+      none = λ e. absurd (omega (arith, v .ensures, c .before .before .if1 .left));
       position = λ h. ap (λ (x : ℕ). x - 1) (v .ensures);
-      size = λ h. c .number-at2 .ensures ∙ ap (λ (x : ℕ). getD (b .args .scratch .now) (b .args .rest + (x - 1)) 0) (v .ensures);
+      size = λ h. c .number-at2 .ensures ∙ ap (λ (x : ℕ). getD (b .args .scratch .now) (b .args .l .rest + (x - 1)) 0) (v .ensures);
     }
 
 pub shorter-mark-spec : {M : Type 1} → statement M

@@ -1,7 +1,7 @@
 -- A slot past the first is a place of the order, whose position has a rest.
-use Prim.Native.Nat.{_+_, _-_}
+use Prim.Native.Nat.{ℕ, _+_}
 use native.Mathlib.Omega.{arith}
-use mathlib.Core.Path.{refl}
+use mathlib.Core.Path.{refl, _∙_, ap}
 use lib.ListN.{getD}
 use borrow.Author.Needs.{needs}
 use Rattle.removal.proofs.step.slot_span.Statement.{statement}
@@ -14,38 +14,37 @@ sub-t : tie.Need-sub-t
 sub-t c = search needs
 
 add-t : tie.Need-add-t
-add-t c = omega (arith, c .before .pre .place (omega arith))
+add-t c = omega (arith, c .before .before .pre .place (omega arith))
 
-add-at : tie.Need-add-at
-add-at c = omega (arith, c .before .pre .place (omega arith))
+add-number-at : tie.Need-add-number-at
+add-number-at c = omega (arith, c .before .before .before .pre .place (omega arith))
 
-mul-at : tie.Need-mul-at
-mul-at c = omega (arith, c .before .pre .place (omega arith))
-
-shared-slice-read-at : tie.Need-shared-slice-read-at
-shared-slice-read-at c = omega (arith, c .before .before .pre .place (omega arith))
+number-at-requires : tie.Need-number-at-requires
+number-at-requires c κs = search needs
 
 cast-at : tie.Need-cast-at
-cast-at c =
-    let a = c .before .before .args in
-    omega (arith, c .shared-slice-known .given (a .order + (a .low + (a .slot - 1))))
+cast-at c = search needs
 
-add-len : tie.Need-add-len
-add-len c = omega (arith, c .before .before .pre .position (omega arith))
+add-number-at-2 : tie.Need-add-number-at-2
+add-number-at-2 c = omega (arith, c .before .number-at .ensures, c .before .before .before .before .before .pre .position (omega arith))
 
-mul-len : tie.Need-mul-len
-mul-len c = omega (arith, c .before .before .pre .position (omega arith))
-
-shared-slice-read-len : tie.Need-shared-slice-read-len
-shared-slice-read-len c = omega (arith, c .before .before .before .pre .position (omega arith))
+number-at-requires-2 : tie.Need-number-at-requires-2
+number-at-requires-2 c κs = search needs
 
 cast-len : tie.Need-cast-len
-cast-len c =
-    let a = c .before .before .before .args in
-    omega (arith, c .shared-slice-known2 .given (a .rest + getD (a .scratch .now) (a .order + (a .low + (a .slot - 1))) 0))
+cast-len c = search needs
 
 returns-2 : tie.Need-returns-2
-returns-2 c = record { first = λ h. absurd (c .before .before .if1 .left h); none = λ h. absurd (c .before .before .if1 .left h); position = λ h. refl; size = λ h. refl }
+returns-2 c =
+    let a = c .before .before .before .before .before .before .args in
+    let i = c .before .before .number-at in
+    let other = c .before .before .before .before .if1 .left in
+    record {
+      first = λ h. absurd (other h);
+      none = λ h. absurd (other h);
+      position = λ h. i .ensures;
+      size = λ h. c .number-at2 .ensures ∙ ap (λ (x : ℕ). getD (a .scratch .now) (a .l .rest + x) 0) (i .ensures);
+    }
 
 pub slot-span-spec : {M : Type 1} → statement M
 slot-span-spec =
@@ -54,12 +53,10 @@ slot-span-spec =
     returns
     sub-t
     add-t
-    add-at
-    mul-at
-    shared-slice-read-at
+    add-number-at
+    number-at-requires
     cast-at
-    add-len
-    mul-len
-    shared-slice-read-len
+    add-number-at-2
+    number-at-requires-2
     cast-len
     returns-2)

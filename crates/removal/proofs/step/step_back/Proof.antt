@@ -11,19 +11,19 @@ longest-fit-requires c κs = search needs
 returns : tie.Need-returns
 returns c =
     let a = c .before .before .before .before .args in
-    dead-meets (a .listed .now) (a .scratch .now) (a .rest) (a .order) (a .low) (a .middle) (a .high) (a .name) (a .at) (a .len)
+    dead-meets (a .listed .now) (a .scratch .now) (a .l .rest) (a .l .order) (a .low) (a .middle) (a .high) (a .name) (a .mark .at) (a .mark .len)
     (c .before .longest-fit .result) (c .if1 .taken) (c .before .longest-fit .ensures)
 
 longest-fit-requires-2 : tie.Need-longest-fit-requires-2
 longest-fit-requires-2 c κs =
     let b = c .before .before .before .before in
     let a = b .args in
-    (room-part (a .listed .now) (a .scratch .now) (a .rest) (a .order) (a .low) (a .high) (a .at) (a .len) (a .low) (a .middle) (b .pre .1 .0) (b .pre .1 .1) (b .pre .0 .0), b .pre .0 .1)
+    (room-part (a .listed .now) (a .scratch .now) (a .l .rest) (a .l .order) (a .low) (a .high) (a .mark .at) (a .mark .len) (a .low) (a .middle) (b .pre .1 .0) (b .pre .1 .1) (b .pre .0 .0), b .pre .0 .1)
 
 returns-2 : tie.Need-returns-2
 returns-2 c =
     let a = c .before .before .before .before .before .args in
-    live-meets (a .listed .now) (a .scratch .now) (a .rest) (a .order) (a .low) (a .middle) (a .high) (a .name) (a .at) (a .len)
+    live-meets (a .listed .now) (a .scratch .now) (a .l .rest) (a .l .order) (a .low) (a .middle) (a .high) (a .name) (a .mark .at) (a .mark .len)
     (c .before .before .longest-fit .result) (c .longest-fit2 .result) (c .before .if1 .left) (c .before .before .longest-fit .ensures) (c .longest-fit2 .ensures)
 
 pub step-back-spec : {M : Type 1} → statement M

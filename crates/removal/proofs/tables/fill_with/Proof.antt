@@ -18,8 +18,8 @@ rank-listed-requires : tie.Need-rank-listed-requires
 rank-listed-requires c κs =
     let b = c .before .before .before .before .before .before .before .before .before .before .before in
     let a = b .args in (
-      sortable (a .starts .now) (a .listed .now) (a .lengths .now) (a .scratch .now) (a .rest) (a .order) (a .rank) (a .link) (b .pre .0) .rest-room,
-      record { falls = falls (a .starts .now) (a .listed .now) (a .lengths .now) (a .scratch .now) (a .rest) (a .order) (a .rank) (a .link) (b .pre .0); room = b .pre .1 .0; words = b .pre .1 .1; few = b .pre .0 .few },
+      sortable (a .starts .now) (a .listed .now) (a .lengths .now) (a .scratch .now) (a .l .rest) (a .l .order) (a .l .rank) (a .l .link) (b .pre .0) .rest-room,
+      record { falls = falls (a .starts .now) (a .listed .now) (a .lengths .now) (a .scratch .now) (a .l .rest) (a .l .order) (a .l .rank) (a .l .link) (b .pre .0); room = b .pre .1 .0; words = b .pre .1 .1; few = b .pre .0 .few },
     )
 
 order-positions-requires : tie.Need-order-positions-requires
@@ -36,47 +36,47 @@ module _ (c : tie.After-store) where
   size : length (c .store .last .0) ≡ length (c .before .before .before .before .before .before .before .before .before .before .before .before .before .before .before .before .before .before .before .before .before .before .before .before .before .before .before .args .scratch .now)
   size = c .store .ensures .1 .size ∙ c .before .before .before .before .before .before .before .order-positions .ensures .0 .frame .size
 
-  tails : Tailed (c .before .before .before .before .before .before .before .before .before .before .before .before .before .before .before .before .before .before .before .before .before .before .before .before .before .before .before .args .starts .now) (c .before .before .before .before .before .before .before .before .before .before .before .before .before .before .before .before .before .before .before .before .before .before .before .before .before .before .before .args .listed .now) (c .before .before .before .before .before .before .before .before .before .before .before .before .before .before .before .before .before .before .before .before .before .before .before .before .before .before .before .args .lengths .now) (c .store .last .0) (c .before .before .before .before .before .before .before .before .before .before .before .before .before .before .before .before .before .before .before .before .before .before .before .before .before .before .before .args .rest) (c .before .before .before .before .before .before .before .before .before .before .before .before .before .before .before .before .before .before .before .before .before .before .before .before .before .before .before .args .order) (c .before .before .before .before .before .before .before .before .before .before .before .before .before .before .before .before .before .before .before .before .before .before .before .before .before .before .before .args .rank) (c .before .before .before .before .before .before .before .before .before .before .before .before .before .before .before .before .before .before .before .before .before .before .before .before .before .before .before .args .link)
+  tails : Tailed (c .before .before .before .before .before .before .before .before .before .before .before .before .before .before .before .before .before .before .before .before .before .before .before .before .before .before .before .args .starts .now) (c .before .before .before .before .before .before .before .before .before .before .before .before .before .before .before .before .before .before .before .before .before .before .before .before .before .before .before .args .listed .now) (c .before .before .before .before .before .before .before .before .before .before .before .before .before .before .before .before .before .before .before .before .before .before .before .before .before .before .before .args .lengths .now) (c .store .last .0) (c .before .before .before .before .before .before .before .before .before .before .before .before .before .before .before .before .before .before .before .before .before .before .before .before .before .before .before .args .l .rest) (c .before .before .before .before .before .before .before .before .before .before .before .before .before .before .before .before .before .before .before .before .before .before .before .before .before .before .before .args .l .order) (c .before .before .before .before .before .before .before .before .before .before .before .before .before .before .before .before .before .before .before .before .before .before .before .before .before .before .before .args .l .rank) (c .before .before .before .before .before .before .before .before .before .before .before .before .before .before .before .before .before .before .before .before .before .before .before .before .before .before .before .args .l .link)
   tails =
       let o = c .before .before .before .before .before .before .before in
       let r = c .before .before .before .before .before .before .before .before .before .before .before .before .before .before .before in
       let b = c .before .before .before .before .before .before .before .before .before .before .before .before .before .before .before .before .before .before .before .before .before .before .before .before .before .before .before in
       let a = b .args in
-      tailed (a .starts .now) (a .listed .now) (a .lengths .now) (a .scratch .now) (a .rest) (a .order) (a .rank) (a .link) (b .pre .0) (r .rank-listed .last .1 .1 .1 .1 .0) (r .rank-listed .last .1 .1 .1 .0) (o .order-positions .last .1 .1 .0) (c .store .last .0) (r .rank-listed .ensures .0) (r .rank-listed .ensures .1) (o .order-positions .ensures .0) (c .store .ensures .0) (c .store .ensures .1)
+      tailed (a .starts .now) (a .listed .now) (a .lengths .now) (a .scratch .now) (a .l .rest) (a .l .order) (a .l .rank) (a .l .link) (b .pre .0) (r .rank-listed .last .1 .1 .1 .1 .0) (r .rank-listed .last .1 .1 .1 .0) (o .order-positions .last .1 .1 .0) (c .store .last .0) (r .rank-listed .ensures .0) (r .rank-listed .ensures .1) (o .order-positions .ensures .0) (c .store .ensures .0) (c .store .ensures .1)
 
-  level : Levels (table (c .store .last .0) (c .before .before .before .before .before .before .before .before .before .before .before .before .before .before .before .before .before .before .before .before .before .before .before .before .before .before .before .args .rest) (length (c .before .before .before .before .before .before .before .before .before .before .before .before .before .before .before .before .before .before .before .before .before .before .before .before .before .before .before .args .listed .now))) (c .before .before .before .before .before .before .before .before .before .before .before .before .before .before .before .rank-listed .last .1 .1 .1 .0) (length (c .before .before .before .before .before .before .before .before .before .before .before .before .before .before .before .before .before .before .before .before .before .before .before .before .before .before .before .args .listed .now)) (length (c .before .before .before .before .before .before .before .before .before .before .before .before .before .before .before .before .before .before .before .before .before .before .before .before .before .before .before .args .listed .now))
+  level : Levels (table (c .store .last .0) (c .before .before .before .before .before .before .before .before .before .before .before .before .before .before .before .before .before .before .before .before .before .before .before .before .before .before .before .args .l .rest) (length (c .before .before .before .before .before .before .before .before .before .before .before .before .before .before .before .before .before .before .before .before .before .before .before .before .before .before .before .args .listed .now))) (c .before .before .before .before .before .before .before .before .before .before .before .before .before .before .before .rank-listed .last .1 .1 .1 .0) (length (c .before .before .before .before .before .before .before .before .before .before .before .before .before .before .before .before .before .before .before .before .before .before .before .before .before .before .before .args .listed .now)) (length (c .before .before .before .before .before .before .before .before .before .before .before .before .before .before .before .before .before .before .before .before .before .before .before .before .before .before .before .args .listed .now))
   level =
       let o = c .before .before .before .before .before .before .before in
       let r = c .before .before .before .before .before .before .before .before .before .before .before .before .before .before .before in
       let b = c .before .before .before .before .before .before .before .before .before .before .before .before .before .before .before .before .before .before .before .before .before .before .before .before .before .before .before in
       let a = b .args in
-      levels₃ (a .starts .now) (a .listed .now) (a .lengths .now) (a .scratch .now) (a .rest) (a .order) (a .rank) (a .link) (b .pre .0) (r .rank-listed .last .1 .1 .1 .1 .0) (r .rank-listed .last .1 .1 .1 .0) (o .order-positions .last .1 .1 .0) (c .store .last .0) (r .rank-listed .ensures .0) (r .rank-listed .ensures .1) (o .order-positions .ensures .0) (c .store .ensures .0) (c .store .ensures .1)
+      levels₃ (a .starts .now) (a .listed .now) (a .lengths .now) (a .scratch .now) (a .l .rest) (a .l .order) (a .l .rank) (a .l .link) (b .pre .0) (r .rank-listed .last .1 .1 .1 .1 .0) (r .rank-listed .last .1 .1 .1 .0) (o .order-positions .last .1 .1 .0) (c .store .last .0) (r .rank-listed .ensures .0) (r .rank-listed .ensures .1) (o .order-positions .ensures .0) (c .store .ensures .0) (c .store .ensures .1)
 
-  tabled : (s₄ : List ℕ) → TailsLinked (c .before .before .before .before .before .before .before .before .before .before .before .before .before .before .before .before .before .before .before .before .before .before .before .before .before .before .before .args .listed .now) (c .store .last .0) s₄ (c .before .before .before .before .before .before .before .before .before .before .before .before .before .before .before .before .before .before .before .before .before .before .before .before .before .before .before .args .rest) (c .before .before .before .before .before .before .before .before .before .before .before .before .before .before .before .before .before .before .before .before .before .before .before .before .before .before .before .args .link)
-      → Tabulated (c .before .before .before .before .before .before .before .before .before .before .before .before .before .before .before .before .before .before .before .before .before .before .before .before .before .before .before .args .starts .now) (c .before .before .before .before .before .before .before .before .before .before .before .before .before .before .before .before .before .before .before .before .before .before .before .before .before .before .before .args .listed .now) (c .before .before .before .before .before .before .before .before .before .before .before .before .before .before .before .before .before .before .before .before .before .before .before .before .before .before .before .args .scratch .now) s₄ (c .before .before .before .before .before .before .before .before .before .before .before .before .before .before .before .before .before .before .before .before .before .before .before .before .before .before .before .args .rest) (c .before .before .before .before .before .before .before .before .before .before .before .before .before .before .before .before .before .before .before .before .before .before .before .before .before .before .before .args .order) (c .before .before .before .before .before .before .before .before .before .before .before .before .before .before .before .before .before .before .before .before .before .before .before .before .before .before .before .args .rank) (c .before .before .before .before .before .before .before .before .before .before .before .before .before .before .before .before .before .before .before .before .before .before .before .before .before .before .before .args .link)
+  tabled : (s₄ : List ℕ) → TailsLinked (c .before .before .before .before .before .before .before .before .before .before .before .before .before .before .before .before .before .before .before .before .before .before .before .before .before .before .before .args .listed .now) (c .store .last .0) s₄ (c .before .before .before .before .before .before .before .before .before .before .before .before .before .before .before .before .before .before .before .before .before .before .before .before .before .before .before .args .l .rest) (c .before .before .before .before .before .before .before .before .before .before .before .before .before .before .before .before .before .before .before .before .before .before .before .before .before .before .before .args .l .link)
+      → Tabulated (c .before .before .before .before .before .before .before .before .before .before .before .before .before .before .before .before .before .before .before .before .before .before .before .before .before .before .before .args .starts .now) (c .before .before .before .before .before .before .before .before .before .before .before .before .before .before .before .before .before .before .before .before .before .before .before .before .before .before .before .args .listed .now) (c .before .before .before .before .before .before .before .before .before .before .before .before .before .before .before .before .before .before .before .before .before .before .before .before .before .before .before .args .scratch .now) s₄ (c .before .before .before .before .before .before .before .before .before .before .before .before .before .before .before .before .before .before .before .before .before .before .before .before .before .before .before .args .l .rest) (c .before .before .before .before .before .before .before .before .before .before .before .before .before .before .before .before .before .before .before .before .before .before .before .before .before .before .before .args .l .order) (c .before .before .before .before .before .before .before .before .before .before .before .before .before .before .before .before .before .before .before .before .before .before .before .before .before .before .before .args .l .rank) (c .before .before .before .before .before .before .before .before .before .before .before .before .before .before .before .before .before .before .before .before .before .before .before .before .before .before .before .args .l .link)
   tabled =
       let o = c .before .before .before .before .before .before .before in
       let r = c .before .before .before .before .before .before .before .before .before .before .before .before .before .before .before in
       let b = c .before .before .before .before .before .before .before .before .before .before .before .before .before .before .before .before .before .before .before .before .before .before .before .before .before .before .before in
       let a = b .args in
-      tabulated (a .starts .now) (a .listed .now) (a .lengths .now) (a .scratch .now) (a .rest) (a .order) (a .rank) (a .link) (b .pre .0) (r .rank-listed .last .1 .1 .1 .1 .0) (r .rank-listed .last .1 .1 .1 .0) (o .order-positions .last .1 .1 .0) (c .store .last .0) (r .rank-listed .ensures .0) (r .rank-listed .ensures .1) (o .order-positions .ensures .0) (c .store .ensures .0) (c .store .ensures .1)
+      tabulated (a .starts .now) (a .listed .now) (a .lengths .now) (a .scratch .now) (a .l .rest) (a .l .order) (a .l .rank) (a .l .link) (b .pre .0) (r .rank-listed .last .1 .1 .1 .1 .0) (r .rank-listed .last .1 .1 .1 .0) (o .order-positions .last .1 .1 .0) (c .store .last .0) (r .rank-listed .ensures .0) (r .rank-listed .ensures .1) (o .order-positions .ensures .0) (c .store .ensures .0) (c .store .ensures .1)
 
-  rising : Rising (codeIn (c .before .before .before .before .before .before .before .order-positions .last .1 .1 .1 .1 .1 .0) (table (c .store .last .0) (c .before .before .before .before .before .before .before .before .before .before .before .before .before .before .before .before .before .before .before .before .before .before .before .before .before .before .before .args .order) (length (c .before .before .before .before .before .before .before .order-positions .last .1 .1 .1 .1 .1 .0)))) (length (c .before .before .before .before .before .before .before .order-positions .last .1 .1 .1 .1 .1 .0))
+  rising : Rising (codeIn (c .before .before .before .before .before .before .before .order-positions .last .1 .1 .1 .1 .1 .0) (table (c .store .last .0) (c .before .before .before .before .before .before .before .before .before .before .before .before .before .before .before .before .before .before .before .before .before .before .before .before .before .before .before .args .l .order) (length (c .before .before .before .before .before .before .before .order-positions .last .1 .1 .1 .1 .1 .0)))) (length (c .before .before .before .before .before .before .before .order-positions .last .1 .1 .1 .1 .1 .0))
   rising =
       let o = c .before .before .before .before .before .before .before in
       let r = c .before .before .before .before .before .before .before .before .before .before .before .before .before .before .before in
       let b = c .before .before .before .before .before .before .before .before .before .before .before .before .before .before .before .before .before .before .before .before .before .before .before .before .before .before .before in
       let a = b .args in
-      rising₃ (a .starts .now) (a .listed .now) (a .lengths .now) (a .scratch .now) (a .rest) (a .order) (a .rank) (a .link) (b .pre .0) (r .rank-listed .last .1 .1 .1 .1 .0) (r .rank-listed .last .1 .1 .1 .0) (o .order-positions .last .1 .1 .0) (c .store .last .0) (r .rank-listed .ensures .0) (r .rank-listed .ensures .1) (o .order-positions .ensures .0) (c .store .ensures .0) (c .store .ensures .1) (o .order-positions .last .1 .1 .1 .1 .1 .0) (o .order-positions .ensures .1) codes-size
+      rising₃ (a .starts .now) (a .listed .now) (a .lengths .now) (a .scratch .now) (a .l .rest) (a .l .order) (a .l .rank) (a .l .link) (b .pre .0) (r .rank-listed .last .1 .1 .1 .1 .0) (r .rank-listed .last .1 .1 .1 .0) (o .order-positions .last .1 .1 .0) (c .store .last .0) (r .rank-listed .ensures .0) (r .rank-listed .ensures .1) (o .order-positions .ensures .0) (c .store .ensures .0) (c .store .ensures .1) (o .order-positions .last .1 .1 .1 .1 .1 .0) (o .order-positions .ensures .1) codes-size
 
-  firsts : (f : List ℕ) → FirstsBy (codeIn (c .before .before .before .before .before .before .before .order-positions .last .1 .1 .1 .1 .1 .0) (table (c .store .last .0) (c .before .before .before .before .before .before .before .before .before .before .before .before .before .before .before .before .before .before .before .before .before .before .before .before .before .before .before .args .order) (length (c .before .before .before .before .before .before .before .order-positions .last .1 .1 .1 .1 .1 .0)))) (length (c .before .before .before .before .before .before .before .order-positions .last .1 .1 .1 .1 .1 .0)) f
-      → Firsts (c .before .before .before .before .before .before .before .before .before .before .before .before .before .before .before .before .before .before .before .before .before .before .before .before .before .before .before .args .starts .now) (pathList (c .before .before .before .before .before .before .before .before .before .before .before .before .before .before .before .before .before .before .before .before .before .before .before .before .before .before .before .args .listed .now) (c .before .before .before .before .before .before .before .before .before .before .before .before .before .before .before .before .before .before .before .before .before .before .before .before .before .before .before .args .lengths .now)) (table (c .store .last .0) (c .before .before .before .before .before .before .before .before .before .before .before .before .before .before .before .before .before .before .before .before .before .before .before .before .before .before .before .args .order) (length (c .before .before .before .before .before .before .before .before .before .before .before .before .before .before .before .before .before .before .before .before .before .before .before .before .before .before .before .args .listed .now))) f
+  firsts : (f : List ℕ) → FirstsBy (codeIn (c .before .before .before .before .before .before .before .order-positions .last .1 .1 .1 .1 .1 .0) (table (c .store .last .0) (c .before .before .before .before .before .before .before .before .before .before .before .before .before .before .before .before .before .before .before .before .before .before .before .before .before .before .before .args .l .order) (length (c .before .before .before .before .before .before .before .order-positions .last .1 .1 .1 .1 .1 .0)))) (length (c .before .before .before .before .before .before .before .order-positions .last .1 .1 .1 .1 .1 .0)) f
+      → Firsts (c .before .before .before .before .before .before .before .before .before .before .before .before .before .before .before .before .before .before .before .before .before .before .before .before .before .before .before .args .starts .now) (pathList (c .before .before .before .before .before .before .before .before .before .before .before .before .before .before .before .before .before .before .before .before .before .before .before .before .before .before .before .args .listed .now) (c .before .before .before .before .before .before .before .before .before .before .before .before .before .before .before .before .before .before .before .before .before .before .before .before .before .before .before .args .lengths .now)) (table (c .store .last .0) (c .before .before .before .before .before .before .before .before .before .before .before .before .before .before .before .before .before .before .before .before .before .before .before .before .before .before .before .args .l .order) (length (c .before .before .before .before .before .before .before .before .before .before .before .before .before .before .before .before .before .before .before .before .before .before .before .before .before .before .before .args .listed .now))) f
   firsts f h =
       let o = c .before .before .before .before .before .before .before in
       let r = c .before .before .before .before .before .before .before .before .before .before .before .before .before .before .before in
       let b = c .before .before .before .before .before .before .before .before .before .before .before .before .before .before .before .before .before .before .before .before .before .before .before .before .before .before .before in
       let a = b .args in
-      firsts₃ (a .starts .now) (a .listed .now) (a .lengths .now) (a .scratch .now) (a .rest) (a .order) (a .rank) (a .link) (b .pre .0) (r .rank-listed .last .1 .1 .1 .1 .0) (r .rank-listed .last .1 .1 .1 .0) (o .order-positions .last .1 .1 .0) (c .store .last .0) (r .rank-listed .ensures .0) (r .rank-listed .ensures .1) (o .order-positions .ensures .0) (c .store .ensures .0) (c .store .ensures .1) (o .order-positions .last .1 .1 .1 .1 .1 .0) (o .order-positions .ensures .1) codes-size f h
+      firsts₃ (a .starts .now) (a .listed .now) (a .lengths .now) (a .scratch .now) (a .l .rest) (a .l .order) (a .l .rank) (a .l .link) (b .pre .0) (r .rank-listed .last .1 .1 .1 .1 .0) (r .rank-listed .last .1 .1 .1 .0) (o .order-positions .last .1 .1 .0) (c .store .last .0) (r .rank-listed .ensures .0) (r .rank-listed .ensures .1) (o .order-positions .ensures .0) (c .store .ensures .0) (c .store .ensures .1) (o .order-positions .last .1 .1 .1 .1 .1 .0) (o .order-positions .ensures .1) codes-size f h
 
 fill-firsts-requires : tie.Need-fill-firsts-requires
 fill-firsts-requires c κs =
@@ -112,8 +112,8 @@ returns c =
     let w = c .before .before .before .before .before .before .before .before .before .before .before .before .before .before in
     let b = w .before .before .before .before .before .before .before .before .before .before .before .before .before .before .before .before .before .before .before .before .before .before .before .before .before .before .before in
     let a = b .args in (
-      tabled w (f .last .1 .1 .1 .0) (f .ensures),
-      subst (λ (x : List ℕ). Firsts (a .starts .now) (pathList (a .listed .now) (a .lengths .now)) x (h .last .1 .1 .1 .0)) (sym (f .ensures .frame .below (a .order) (length (a .listed .now)) (omega (arith, b .pre .0 .order-before, b .pre .0 .rank-before)))) (firsts w (h .last .1 .1 .1 .0) (h .ensures)),
+      tabled w (f .last .1 .1 .1 .1 .0) (f .ensures),
+      subst (λ (x : List ℕ). Firsts (a .starts .now) (pathList (a .listed .now) (a .lengths .now)) x (h .last .1 .1 .1 .0)) (sym (f .ensures .frame .below (a .l .order) (length (a .listed .now)) (omega (arith, b .pre .0 .order-before, b .pre .0 .rank-before)))) (firsts w (h .last .1 .1 .1 .0) (h .ensures)),
     )
 
 pub fill-with-spec : {M : Type 1} → statement M
