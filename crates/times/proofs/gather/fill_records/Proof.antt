@@ -2,13 +2,11 @@
 use Prim.Native.Nat.{ℕ, _-_, _≤_}
 use native.Mathlib.Omega.{arith}
 use mathlib.Core.Path.{_≡_, sym, _∙_, ap}
-use mathlib.Core.List.{List, map}
-use lib.IntN.{ℤ, pos}
+use mathlib.Core.List.{map}
+use lib.IntN.{pos}
 use lib.ListN.{length}
 use borrow.Author.Needs.{needs}
 use Rattle.timing.specs.Lists.{upto}
-use Rattle.timing.specs.Calls.{hasTimes, arrivalOf, requiredOf, slackOf}
-use Rattle.times.specs.Records.{nodeSoFar}
 use Rattle.times.proofs.Elements.{size-each}
 use Rattle.times.proofs.Records.{Gathered, gathered-none, gathered-next, gathered-sizes, gathered-all}
 use Rattle.times.proofs.gather.fill_records.Statement.{statement}

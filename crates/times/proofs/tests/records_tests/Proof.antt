@@ -1,5 +1,4 @@
 -- The tests one after the other; the definition groups them to the right.
-use mathlib.Core.Path.{_∙_}
 use Rattle.timing.specs.Refusals.{_then_}
 use Rattle.timing.specs.Tests.{sameSizes, nodeCount}
 use Rattle.timing.proofs.Verdicts.{then-assoc}
