@@ -5,9 +5,9 @@
  * Each line is one piece of work: what came out, the time of each, and the library's time over the reference's. Both are timed in turn, in
  * rounds, and the best round counts; time is the processor's, so that other processes disturb less. Both are lent rooms and scratch of
  * the same size, the scratch of just the size that test 31 asks for, and both clear it. The two results are compared before any time is
- * taken. The last tables double the list and say how the cost grows. Exit status 1 where results differ. */
+ * taken. Two tables double the list and say how the cost grows. Exit status 1 where results differ. */
 #define _POSIX_C_SOURCE 199309L
-#include "jaqhweni.h"
+#include "inputs.h"
 #include "reference.h"
 
 #include <stdio.h>
@@ -15,7 +15,7 @@
 #include <string.h>
 #include <time.h>
 
-enum { ROUNDS = 7, ROOM_COPIES = 16384, ROOM_EDGES = 65536, SERIES = 32, MOST_WORDS = 1 << 24 };
+enum { ROUNDS = 7, SERIES = 32, MOST_WORDS = 1 << 24 };
 static const double ROUND_SECONDS = 0.02;
 
 /* ---- Two libraries ------------------------------------------------------------------------------------------------------------ */
@@ -32,122 +32,14 @@ typedef struct {
     int64_t (*times)(uint32_t, const uint32_t *, size_t, const uint32_t *, size_t, const int32_t *, size_t, uint32_t, const uint32_t *,
                      size_t, const uint32_t *, size_t, const uint32_t *, size_t, const uint32_t *, size_t, int64_t *, size_t, int64_t *,
                      size_t, int64_t *, size_t);
+    int64_t (*write_graph)(const uint32_t *, size_t, const uint32_t *, size_t, const uint32_t *, size_t, const uint32_t *, size_t,
+                           uint8_t *, size_t);
 } calls;
 
-static const calls LIBRARY = {jaqhweni_true_graph, jaqhweni_remove_from_design, jaqhweni_remove_from_graph, jaqhweni_times};
-static const calls REFERENCE = {reference_true_graph, reference_remove_from_design, reference_remove_from_graph, reference_times};
-
-/* ---- Input -------------------------------------------------------------------------------------------------------------------- */
-
-typedef struct {
-    uint32_t n;
-    size_t m;
-    uint32_t starts[JAQHWENI_MAX_EDGES], ends[JAQHWENI_MAX_EDGES];
-    int32_t delays[JAQHWENI_MAX_EDGES];
-} design;
-
-typedef struct {
-    size_t listed, paths;
-    uint32_t edges[JAQHWENI_MAX_LISTED_EDGES], lengths[JAQHWENI_MAX_PATHS];
-} path_list;
-
-typedef struct {
-    size_t copies, edges;
-    uint32_t nodes[ROOM_COPIES], from[ROOM_EDGES], to[ROOM_EDGES], via[ROOM_EDGES];
-} graph;
-
-static uint64_t state = 88172645463325252u;
-
-static uint32_t below(uint32_t bound)
-{
-    state ^= state << 13;
-    state ^= state >> 7;
-    state ^= state << 17;
-    return (uint32_t)((state >> 32) * bound >> 32);
-}
-
-static void add_edge(design *d, uint32_t start, uint32_t end)
-{
-    d->starts[d->m] = start;
-    d->ends[d->m] = end;
-    d->delays[d->m] = (int32_t)below(2001) - 1000;
-    d->m++;
-}
-
-/* Every node but the last has an edge to one of the next `span`; the rest of the edges are anywhere within `span`. */
-static void random_design(design *d, uint32_t n, size_t m, uint32_t span)
-{
-    d->n = n;
-    d->m = 0;
-    for (uint32_t k = 0; d->m < m; k++) {
-        uint32_t start = k < n - 1 ? k : below(n - 1);
-        uint32_t most = n - 1 - start < span ? n - 1 - start : span;
-        add_edge(d, start, start + 1 + below(most));
-    }
-}
-
-/* Runs of up to `length` edges from random edges on. */
-static void random_paths(path_list *l, const design *d, size_t paths, size_t length)
-{
-    static uint32_t first[JAQHWENI_MAX_NODES + 2], out[JAQHWENI_MAX_EDGES];
-    memset(first, 0, sizeof first);
-    for (size_t e = 0; e < d->m; e++) first[d->starts[e] + 2]++;
-    for (uint32_t v = 2; v < d->n + 1; v++) first[v] += first[v - 1];
-    for (size_t e = 0; e < d->m; e++) out[first[d->starts[e] + 1]++] = (uint32_t)e;
-    l->listed = l->paths = 0;
-    while (l->paths < paths) {
-        uint32_t e = below((uint32_t)d->m);
-        size_t size = 0;
-        for (;;) {
-            l->edges[l->listed + size++] = e;
-            uint32_t v = d->ends[e], count = first[v + 1] - first[v];
-            if (size == length || count == 0) break;
-            e = out[first[v] + below(count)];
-        }
-        if (size < length && below(8) != 0) continue;       /* mostly whole ones */
-        l->lengths[l->paths++] = (uint32_t)size;
-        l->listed += size;
-    }
-}
-
-static size_t words_needed(const design *d, const path_list *l, const graph *old)
-{
-    static size_t starting[JAQHWENI_MAX_NODES];
-    size_t units = l->listed + (old ? old->edges + old->copies : d->m + d->n), at = 0;
-    memset(starting, 0, sizeof starting);
-    for (size_t p = 0; p < l->paths; at += l->lengths[p++])
-        for (size_t k = 1; k < l->lengths[p]; k++) starting[d->starts[l->edges[at + k]]]++;
-    if (old)
-        for (size_t c = 0; c < old->copies; c++) units += starting[old->nodes[c]];
-    else
-        units += l->listed - l->paths;
-    return JAQHWENI_WORDS_PER_UNIT * units;
-}
-
-static void pack_number(uint8_t *bytes, size_t *length, uint32_t value)
-{
-    for (; value >= 0x80; value >>= 7) bytes[(*length)++] = (uint8_t)(value | 0x80);
-    bytes[(*length)++] = (uint8_t)value;
-}
-
-static size_t pack_deck(uint8_t *bytes, const design *d, const path_list *l)
-{
-    size_t length = 0, at = 0;
-    pack_number(bytes, &length, d->n);
-    pack_number(bytes, &length, (uint32_t)d->m);
-    for (size_t e = 0; e < d->m; e++) {
-        pack_number(bytes, &length, d->starts[e]);
-        pack_number(bytes, &length, d->ends[e]);
-        pack_number(bytes, &length, d->delays[e] < 0 ? (uint32_t)(-2 * d->delays[e] - 1) : (uint32_t)(2 * d->delays[e]));
-    }
-    pack_number(bytes, &length, (uint32_t)l->paths);
-    for (size_t p = 0; p < l->paths; p++) {
-        pack_number(bytes, &length, l->lengths[p]);
-        for (size_t k = 0; k < l->lengths[p]; k++) pack_number(bytes, &length, l->edges[at++]);
-    }
-    pack_number(bytes, &length, 1000000);
-    return length;
-}
+static const calls LIBRARY = {jaqhweni_true_graph, jaqhweni_remove_from_design, jaqhweni_remove_from_graph, jaqhweni_times,
+                              jaqhweni_write_graph};
+static const calls REFERENCE = {reference_true_graph, reference_remove_from_design, reference_remove_from_graph, reference_times,
+                                reference_write_graph};
 
 /* ---- Work ---------------------------------------------------------------------------------------------------------------------- */
 
@@ -156,9 +48,9 @@ static path_list list, lists[SERIES];
 static graph earlier, rooms[2][2];                  /* of each library, two to take turns in a series */
 static size_t words[SERIES];
 static uint32_t *scratch;
-static uint8_t deck[JAQHWENI_MAX_DECK_BYTES], packed[2][JAQHWENI_MAX_DECK_BYTES];
+static uint8_t deck[JAQHWENI_MAX_DECK_BYTES], packed[2][MOST_GRAPH_BYTES];
 static size_t deck_length;
-static int64_t times[2][3][ROOM_COPIES];
+static int64_t times[2][3][JAQHWENI_MAX_COPIES];
 
 static int64_t remove_list(const calls *by, const path_list *l, const graph *old, graph *room, size_t scratch_length)
 {
@@ -166,11 +58,11 @@ static int64_t remove_list(const calls *by, const path_list *l, const graph *old
     if (old)
         made = by->remove_from_graph(d.n, d.starts, d.m, d.ends, d.m, d.delays, d.m, l->edges, l->listed, l->lengths, l->paths, old->nodes,
                                      old->copies, old->from, old->edges, old->to, old->edges, old->via, old->edges, room->nodes,
-                                     ROOM_COPIES, room->from, ROOM_EDGES, room->to, ROOM_EDGES, room->via, ROOM_EDGES, scratch,
+                                     JAQHWENI_MAX_COPIES, room->from, JAQHWENI_MAX_COPY_EDGES, room->to, JAQHWENI_MAX_COPY_EDGES, room->via, JAQHWENI_MAX_COPY_EDGES, scratch,
                                      scratch_length);
     else
         made = by->remove_from_design(d.n, d.starts, d.m, d.ends, d.m, d.delays, d.m, l->edges, l->listed, l->lengths, l->paths,
-                                      room->nodes, ROOM_COPIES, room->from, ROOM_EDGES, room->to, ROOM_EDGES, room->via, ROOM_EDGES,
+                                      room->nodes, JAQHWENI_MAX_COPIES, room->from, JAQHWENI_MAX_COPY_EDGES, room->to, JAQHWENI_MAX_COPY_EDGES, room->via, JAQHWENI_MAX_COPY_EDGES,
                                       scratch, scratch_length);
     if (made >= 0) {
         room->copies = (uint32_t)made;
@@ -209,10 +101,16 @@ static int64_t do_series(int which)
 
 static int64_t do_times(int which)
 {
-    int64_t (*t)[ROOM_COPIES] = times[which];
+    int64_t (*t)[JAQHWENI_MAX_COPIES] = times[which];
     return (which ? LIBRARY : REFERENCE).times(d.n, d.starts, d.m, d.ends, d.m, d.delays, d.m, 1000000, earlier.nodes, earlier.copies,
                                                earlier.from, earlier.edges, earlier.to, earlier.edges, earlier.via, earlier.edges, t[0],
                                                earlier.copies, t[1], earlier.copies, t[2], earlier.copies);
+}
+
+static int64_t do_write(int which)
+{
+    return (which ? LIBRARY : REFERENCE).write_graph(earlier.nodes, earlier.copies, earlier.from, earlier.edges, earlier.to, earlier.edges,
+                                                     earlier.via, earlier.edges, packed[which], sizeof packed[which]);
 }
 
 typedef int64_t (*work)(int which);
@@ -257,7 +155,7 @@ static double measure(const char *name, work w)
     int64_t answers[2] = {w(0), w(1)};
     char made[40];
     if (answers[0] < 0) snprintf(made, sizeof made, "refused %d", (int)(-answers[0] % 256));
-    else if (w == do_deck) snprintf(made, sizeof made, "%d bytes", (int)answers[0]);
+    else if (w == do_deck || w == do_write) snprintf(made, sizeof made, "%d bytes", (int)answers[0]);
     else if (w == do_times) snprintf(made, sizeof made, "%zu copies", earlier.copies);
     else snprintf(made, sizeof made, "%d copies, %d edges", (int)(uint32_t)answers[0], (int)(answers[0] >> 32));
     if (answers[0] != answers[1] || !same_results()) {
@@ -356,6 +254,8 @@ static void deck_sizes(void)
     random_design(&d, 150, 450, 12);
     random_paths(&list, &d, 40, 5);
     on_deck("deck of 450 edges, 40 paths");
+    make_earlier();
+    measure("of that, packing the graph", do_write);
     d.n = 2;
     d.m = list.paths = list.listed = 0;
     while (d.m < 1000) add_edge(&d, 0, 1);
@@ -457,6 +357,13 @@ static void growth(void)
     }
 }
 
+static void packing(void)
+{
+    full_graph(&d, &earlier);
+    printf("\nA graph is packed:\n");
+    measure("16,384 copies, 65,536 edges", do_write);
+}
+
 int main(void)
 {
     scratch = calloc(MOST_WORDS, sizeof *scratch);
@@ -469,6 +376,7 @@ int main(void)
     from_earlier();
     series();
     growth();
+    packing();
     printf("\nlargest ratio %.2f (* marks those above 1.25); slowest call %.1f ms\n", worst_ratio, 1e3 * slowest);
     free(scratch);
     return differ;

@@ -9,27 +9,25 @@ extern __typeof__(jaqhweni_true_graph) reference_true_graph;
 extern __typeof__(jaqhweni_remove_from_design) reference_remove_from_design;
 extern __typeof__(jaqhweni_remove_from_graph) reference_remove_from_graph;
 extern __typeof__(jaqhweni_times) reference_times;
+extern __typeof__(jaqhweni_write_graph) reference_write_graph;
 
 /* Their parameters, for whoever defines one of either name; the compiler holds these to jaqhweni.h. */
 #define DESIGN_PARAMETERS                                                                                                       \
     uint32_t n, const uint32_t *starts, size_t starts_length, const uint32_t *ends, size_t ends_length, const int32_t *delays,  \
         size_t delays_length
 #define LIST_PARAMETERS const uint32_t *listed, size_t listed_length, const uint32_t *lengths, size_t lengths_length
-#define OLD_PARAMETERS                                                                                                          \
-    const uint32_t *old_nodes, size_t old_nodes_length, const uint32_t *old_from, size_t old_from_length,                       \
-        const uint32_t *old_to, size_t old_to_length, const uint32_t *old_via, size_t old_via_length
-#define ROOM_PARAMETERS                                                                                                         \
-    uint32_t *nodes, size_t nodes_length, uint32_t *from, size_t from_length, uint32_t *to, size_t to_length, uint32_t *via,    \
-        size_t via_length, uint32_t *scratch, size_t scratch_length
 #define GRAPH_PARAMETERS                                                                                                        \
     const uint32_t *nodes, size_t nodes_length, const uint32_t *from, size_t from_length, const uint32_t *to, size_t to_length, \
         const uint32_t *via, size_t via_length
+#define ROOM_PARAMETERS                                                                                                         \
+    uint32_t *room_nodes, size_t room_nodes_length, uint32_t *room_from, size_t room_from_length, uint32_t *room_to,            \
+        size_t room_to_length, uint32_t *room_via, size_t room_via_length, uint32_t *scratch, size_t scratch_length
 #define TIME_PARAMETERS                                                                                                         \
-    int64_t *arrival, size_t arrival_length, int64_t *required, size_t required_length, int64_t *slack, size_t slack_length
+    int64_t *arrivals, size_t arrivals_length, int64_t *requireds, size_t requireds_length, int64_t *slacks, size_t slacks_length
 
 /* For the stand-in of the deck program (reference_deck.c): a deck read into tables and tested, or its refusal; and the removal. */
 typedef struct {
-    uint32_t n, allowed_time;
+    uint32_t n, allowed;
     size_t edges, paths, listed;
     uint32_t starts[1024], ends[1024], listed_edges[1024], lengths[256];
     int32_t delays[1024];

@@ -29,7 +29,7 @@ int main(void)
     answer = reference_remove_from_design(k.n, k.starts, k.edges, k.ends, k.edges, k.delays, k.edges, k.listed_edges, k.listed, k.lengths,
                                           k.paths, nodes, 512, from, 2048, to, 2048, via, 2048, scratch, 16384);
     size_t copies = (uint32_t)answer, edges = (size_t)(answer >> 32);
-    reference_times(k.n, k.starts, k.edges, k.ends, k.edges, k.delays, k.edges, k.allowed_time, nodes, copies, from, edges, to, edges, via,
+    reference_times(k.n, k.starts, k.edges, k.ends, k.edges, k.delays, k.edges, k.allowed, nodes, copies, from, edges, to, edges, via,
                     edges, arrival, copies, required, copies, slack, copies);
     printf("copies %zu edges %zu\n", copies, edges);
     for (size_t c = 0; c < copies; c++)

@@ -11,8 +11,10 @@
 
 #define DESIGN_SLICES n, starts, starts_length, ends, ends_length, delays, delays_length
 #define LIST_SLICES listed, listed_length, lengths, lengths_length
-#define OLD_SLICES old_nodes, old_nodes_length, old_from, old_from_length, old_to, old_to_length, old_via, old_via_length
 #define GRAPH_SLICES nodes, nodes_length, from, from_length, to, to_length, via, via_length
+#define ROOM_SLICES                                                                                                          \
+    room_nodes, room_nodes_length, room_from, room_from_length, room_to, room_to_length, room_via, room_via_length, scratch, \
+        scratch_length
 
 int64_t jaqhweni_true_graph(const uint8_t *deck, size_t deck_length, uint8_t *room, size_t room_length)
 {
@@ -25,35 +27,44 @@ int64_t jaqhweni_true_graph(const uint8_t *deck, size_t deck_length, uint8_t *ro
 
 int64_t jaqhweni_remove_from_design(DESIGN_PARAMETERS, LIST_PARAMETERS, ROOM_PARAMETERS)
 {
-    int64_t made = reference_remove_from_design(DESIGN_SLICES, LIST_SLICES, GRAPH_SLICES, scratch, scratch_length);
+    int64_t made = reference_remove_from_design(DESIGN_SLICES, LIST_SLICES, ROOM_SLICES);
     if (FAULT == 4 && made == -31) memset(scratch, 0, scratch_length * sizeof *scratch);    /* clears where it must not */
     if (FAULT == 5 && made >> 32 > 2) {                                                     /* two edges out of order */
         size_t last = (size_t)(made >> 32) - 1;
-        uint32_t name = via[last];
-        via[last] = via[last - 1];
-        via[last - 1] = name;
+        uint32_t name = room_via[last];
+        room_via[last] = room_via[last - 1];
+        room_via[last - 1] = name;
     }
     if (FAULT == 6 && made == -34) return -33;
-    if (FAULT == 7 && made > 0 && nodes_length > 0) nodes[nodes_length] = 0;                /* one place past the room */
+    if (FAULT == 7 && made > 0 && room_nodes_length > 0) room_nodes[room_nodes_length] = 0; /* one place past the room */
     return made;
 }
 
-int64_t jaqhweni_remove_from_graph(DESIGN_PARAMETERS, LIST_PARAMETERS, OLD_PARAMETERS, ROOM_PARAMETERS)
+int64_t jaqhweni_remove_from_graph(DESIGN_PARAMETERS, LIST_PARAMETERS, GRAPH_PARAMETERS, ROOM_PARAMETERS)
 {
     if (FAULT == 8 && listed_length > 0)                                                    /* cuts on nothing but the first edge's path */
-        return reference_remove_from_graph(DESIGN_SLICES, listed, lengths[0], lengths, 1, OLD_SLICES, GRAPH_SLICES, scratch, scratch_length);
-    int64_t made = reference_remove_from_graph(DESIGN_SLICES, LIST_SLICES, OLD_SLICES, GRAPH_SLICES, scratch, scratch_length);
+        return reference_remove_from_graph(DESIGN_SLICES, listed, lengths[0], lengths, 1, GRAPH_SLICES, ROOM_SLICES);
+    int64_t made = reference_remove_from_graph(DESIGN_SLICES, LIST_SLICES, GRAPH_SLICES, ROOM_SLICES);
     if (FAULT == 9 && made > 0 && scratch_length > 0) scratch[scratch_length - 1] = 1;      /* leaves a word */
-    if (FAULT == 10 && made > 0 && old_nodes_length > 0) ((uint32_t *)(uintptr_t)old_nodes)[0]++;   /* writes what is only lent to read */
+    if (FAULT == 10 && made > 0 && nodes_length > 0) ((uint32_t *)(uintptr_t)nodes)[0]++;           /* writes what is only lent to read */
     return made;
 }
 
-int64_t jaqhweni_times(DESIGN_PARAMETERS, uint32_t allowed_time, GRAPH_PARAMETERS, TIME_PARAMETERS)
+int64_t jaqhweni_times(DESIGN_PARAMETERS, uint32_t allowed, GRAPH_PARAMETERS, TIME_PARAMETERS)
 {
-    int64_t made = reference_times(DESIGN_SLICES, allowed_time, GRAPH_SLICES, arrival, arrival_length, required, required_length,
-                                   slack, slack_length);
+    int64_t made = reference_times(DESIGN_SLICES, allowed, GRAPH_SLICES, arrivals, arrivals_length, requireds, requireds_length, slacks,
+                                   slacks_length);
     if (FAULT == 11 && made == 0)                                                           /* the largest arrival starts from 0 */
         for (size_t c = 0; c < nodes_length; c++)
-            if (arrival[c] < 0) arrival[c] = 0;
+            if (arrivals[c] < 0) arrivals[c] = 0;
+    return made;
+}
+
+int64_t jaqhweni_write_graph(GRAPH_PARAMETERS, uint8_t *room, size_t room_length)
+{
+    int64_t made = reference_write_graph(GRAPH_SLICES, room, room_length);
+    if (FAULT == 13 && made == -35 && room_length > 0) room[0] = 2;                         /* writes before it knows that all fits */
+    if (FAULT == 14 && made > 0 && (size_t)made == room_length) return -35;                 /* wants one byte more than it writes */
+    if (FAULT == 15 && made == -30) return -32;
     return made;
 }

@@ -1,4 +1,5 @@
-/* A design and a false path, packed, given to jaqhweni_true_graph, and the true graph that comes back, unpacked and printed.
+/* A design and a false path, packed, given to jaqhweni_true_graph, and the true graph that comes back, unpacked and printed. Then the same
+ * from plain arrays, by jaqhweni_remove_from_design, and packed by jaqhweni_write_graph: the same bytes.
  *
  *     cc -std=c11 -Wall -Wextra -Werror -I include examples/true_graph.c target/staticlib/libjaqhweni.a -o true_graph && ./true_graph
  *
@@ -8,11 +9,12 @@
 
 #include <stdio.h>
 #include <stdlib.h>
+#include <string.h>
 
-typedef struct {
-    uint32_t start, end;
-    int32_t delay;
-} edge;
+enum { NODES = 5, EDGES = 4, LISTED = 2, ALLOWED_TIME = 10 };
+static const uint32_t starts[EDGES] = {0, 1, 2, 2}, ends[EDGES] = {2, 2, 3, 4};
+static const int32_t delays[EDGES] = {3, 5, 2, 1};
+static const uint32_t false_path[LISTED] = {1, 2};
 
 typedef struct {
     uint8_t bytes[4096];
@@ -48,34 +50,52 @@ static uint32_t get(const packed *p, size_t *place)
     }
 }
 
-int main(void)
+static size_t or_stop(int64_t answer)
 {
-    static const edge edges[] = {{0, 2, 3}, {1, 2, 5}, {2, 3, 2}, {2, 4, 1}};
-    static const uint32_t false_path[] = {1, 2};
-    enum { NODES = 5, EDGES = sizeof edges / sizeof edges[0], LISTED = sizeof false_path / sizeof false_path[0], ALLOWED_TIME = 10 };
+    if (answer < 0) {
+        printf("refused %d at %d\n", (int)(-answer % 256), (int)(-answer / 256));
+        exit(1);
+    }
+    return (size_t)answer;
+}
 
-    packed deck = {.length = 0};
+static packed from_deck(void)
+{
+    packed deck = {.length = 0}, graph;
     put(&deck, NODES);
     put(&deck, EDGES);
     for (size_t k = 0; k < EDGES; k++) {
-        put(&deck, edges[k].start);
-        put(&deck, edges[k].end);
-        put_delay(&deck, edges[k].delay);
+        put(&deck, starts[k]);
+        put(&deck, ends[k]);
+        put_delay(&deck, delays[k]);
     }
     put(&deck, 1);                          /* one listed path */
     put(&deck, LISTED);
     for (size_t k = 0; k < LISTED; k++) put(&deck, false_path[k]);
     put(&deck, ALLOWED_TIME);
-
-    packed graph;
-    int64_t answer = jaqhweni_true_graph(deck.bytes, deck.length, graph.bytes, sizeof graph.bytes);
-    if (answer < 0) {
-        printf("refused %d at %d\n", (int)(-answer % 256), (int)(-answer / 256));
-        return 1;
-    }
-    graph.length = (size_t)answer;
-
+    graph.length = or_stop(jaqhweni_true_graph(deck.bytes, deck.length, graph.bytes, sizeof graph.bytes));
     printf("deck %zu bytes, graph %zu bytes\n", deck.length, graph.length);
+    return graph;
+}
+
+/* The scratch has 16 words for each node, for each listed edge but the first, and for each listed edge and edge. */
+static packed from_arrays(void)
+{
+    enum { ROOM = 16, SCRATCH = JAQHWENI_WORDS_PER_UNIT * (NODES + LISTED - 1 + LISTED + EDGES) };
+    static const uint32_t lengths[1] = {LISTED};
+    uint32_t nodes[ROOM], from[ROOM], to[ROOM], via[ROOM], scratch[SCRATCH];
+    size_t counts = or_stop(jaqhweni_remove_from_design(
+        NODES, starts, EDGES, ends, EDGES, delays, EDGES, false_path, LISTED, lengths, 1,
+        nodes, ROOM, from, ROOM, to, ROOM, via, ROOM, scratch, SCRATCH));
+    size_t copies = (uint32_t)counts, edges = counts >> 32;
+    packed graph;
+    graph.length = or_stop(jaqhweni_write_graph(nodes, copies, from, edges, to, edges, via, edges, graph.bytes, sizeof graph.bytes));
+    return graph;
+}
+
+int main(void)
+{
+    packed graph = from_deck();
     size_t place = 0;
     uint32_t copies = get(&graph, &place);
     for (uint32_t copy = 0; copy < copies; copy++) printf("copy %u node %u\n", copy, get(&graph, &place));
@@ -84,5 +104,8 @@ int main(void)
         uint32_t from = get(&graph, &place), to = get(&graph, &place), via = get(&graph, &place);
         printf("edge %u from copy %u to copy %u by design edge %u\n", k, from, to, via);
     }
-    return place == graph.length ? 0 : 1;
+    packed again = from_arrays();
+    int same = again.length == graph.length && memcmp(again.bytes, graph.bytes, graph.length) == 0;
+    printf("packed from plain arrays: %s\n", same ? "the same bytes" : "OTHER BYTES");
+    return same && place == graph.length ? 0 : 1;
 }

@@ -5,7 +5,7 @@
  * paths from source to sink are the design's paths that contain no listed path, each once.
  *
  * Link with libjaqhweni.a. No function allocates, keeps anything between calls or reads anything but its arguments, so calls on separate
- * buffers may run on separate threads. A call takes less than 512 KiB of stack. A slice is a pointer and its count of elements (not
+ * buffers may run on separate threads. How much stack a call takes is said below. A slice is a pointer and its count of elements (not
  * bytes). The pointer must be valid for that many elements, and not null even where the count is 0. Slices that a call writes must
  * overlap no other slice of that call.
  *
@@ -61,6 +61,14 @@ extern "C" {
 #define JAQHWENI_MAX_DECK_BYTES 65536
 #define JAQHWENI_WORDS_PER_UNIT 16
 
+/* The most stack that a call takes, in bytes, whatever it is given. The library is compiled, so that this holds for every caller; it was
+ * measured at the limits and rounded up, and tests/stack.c measures it again. */
+#define JAQHWENI_STACK_TRUE_GRAPH 393216
+#define JAQHWENI_STACK_REMOVE_FROM_DESIGN 262144
+#define JAQHWENI_STACK_REMOVE_FROM_GRAPH 196608
+#define JAQHWENI_STACK_TIMES 49152
+#define JAQHWENI_STACK_WRITE_GRAPH 4096
+
 /* From a packed deck to its packed true graph.
  *
  * Numbers are packed in groups of seven bits, lowest group first, the top bit of a byte set when more bytes follow, shortest form only.
@@ -76,8 +84,9 @@ int64_t jaqhweni_true_graph(const uint8_t *deck, size_t deck_length, uint8_t *ro
 /* The true graph of a design and a list of paths.
  *
  * Edge k of the design runs from starts[k] to ends[k] with delays[k]. The listed paths stand end to end in `listed`, and `lengths` has
- * the length of each. The result is `nodes`, the node of each copy, and for each edge its start copy `from`, its end copy `to` and its
- * design edge `via`; copies go by node, edges by end copy and then design edge. `from`, `to` and `via` are of one length.
+ * the length of each. The result is `room_nodes`, the node of each copy, and for each edge its start copy `room_from`, its end copy
+ * `room_to` and its design edge `room_via`; copies go by node, edges by end copy and then design edge. The three slices of edges are of
+ * one length.
  *
  * The scratch has at least 16 words for each of: the nodes, the listed edges that are not first in their path, the listed edges, the
  * design's edges. It may hold anything; afterwards it is all zero (after success, 33 and 34) or unchanged.
@@ -90,17 +99,19 @@ int64_t jaqhweni_remove_from_design(
     const int32_t *delays, size_t delays_length,
     const uint32_t *listed, size_t listed_length,
     const uint32_t *lengths, size_t lengths_length,
-    uint32_t *nodes, size_t nodes_length,
-    uint32_t *from, size_t from_length,
-    uint32_t *to, size_t to_length,
-    uint32_t *via, size_t via_length,
+    uint32_t *room_nodes, size_t room_nodes_length,
+    uint32_t *room_from, size_t room_from_length,
+    uint32_t *room_to, size_t room_to_length,
+    uint32_t *room_via, size_t room_via_length,
     uint32_t *scratch, size_t scratch_length);
 
-/* The same, from an earlier true graph of the design (`old_...`), whose paths are cut further: what comes out is the true graph of the
- * design and of all lists so far, up to the numbering of copies within a node. The earlier graph is in other slices than the room.
+/* What is left of an earlier true graph of the design (`nodes`, `from`, `to`, `via`) after a further list: the graph of its paths that
+ * contain no listed path. Where the earlier graph came from such removals of the same design, this is the true graph of the design and of
+ * all lists so far, up to the numbering of copies within a node. Of a well-formed graph from elsewhere the call knows its paths alone. The
+ * earlier graph stands in other slices than the room.
  *
  * The scratch has at least 16 words for each of: the copies; for each copy, the listed edges, not first in their path, that start at its
- * node; the listed edges; the earlier graph's edges. */
+ * node; the listed edges; the earlier graph's edges. All else is as above. */
 int64_t jaqhweni_remove_from_graph(
     uint32_t n,
     const uint32_t *starts, size_t starts_length,
@@ -108,18 +119,22 @@ int64_t jaqhweni_remove_from_graph(
     const int32_t *delays, size_t delays_length,
     const uint32_t *listed, size_t listed_length,
     const uint32_t *lengths, size_t lengths_length,
-    const uint32_t *old_nodes, size_t old_nodes_length,
-    const uint32_t *old_from, size_t old_from_length,
-    const uint32_t *old_to, size_t old_to_length,
-    const uint32_t *old_via, size_t old_via_length,
-    uint32_t *nodes, size_t nodes_length,
-    uint32_t *from, size_t from_length,
-    uint32_t *to, size_t to_length,
-    uint32_t *via, size_t via_length,
+    const uint32_t *nodes, size_t nodes_length,
+    const uint32_t *from, size_t from_length,
+    const uint32_t *to, size_t to_length,
+    const uint32_t *via, size_t via_length,
+    uint32_t *room_nodes, size_t room_nodes_length,
+    uint32_t *room_from, size_t room_from_length,
+    uint32_t *room_to, size_t room_to_length,
+    uint32_t *room_via, size_t room_via_length,
     uint32_t *scratch, size_t scratch_length);
 
-/* Arrival, required time and slack of each copy of a true graph, in picoseconds. `arrival`, `required` and `slack` have one place for
- * each copy. At a node: the largest arrival, the smallest required time and the smallest slack of its copies.
+/* Arrival, required time and slack of each copy of a true graph, in picoseconds. `arrivals`, `requireds` and `slacks` have one place for
+ * each copy.
+ *
+ * There is no call yet for the times of a node. The caller takes them from its copies: the largest arrival, the smallest required time and
+ * the smallest slack (which may be more than required time less arrival: the two may belong to different copies). A node without a copy
+ * has none.
  *
  * Returns 0. */
 int64_t jaqhweni_times(
@@ -127,14 +142,25 @@ int64_t jaqhweni_times(
     const uint32_t *starts, size_t starts_length,
     const uint32_t *ends, size_t ends_length,
     const int32_t *delays, size_t delays_length,
-    uint32_t allowed_time,
+    uint32_t allowed,
     const uint32_t *nodes, size_t nodes_length,
     const uint32_t *from, size_t from_length,
     const uint32_t *to, size_t to_length,
     const uint32_t *via, size_t via_length,
-    int64_t *arrival, size_t arrival_length,
-    int64_t *required, size_t required_length,
-    int64_t *slack, size_t slack_length);
+    int64_t *arrivals, size_t arrivals_length,
+    int64_t *requireds, size_t requireds_length,
+    int64_t *slacks, size_t slacks_length);
+
+/* A true graph as jaqhweni_true_graph packs it. Only 30, the counts (32) and 35 are tested: numbers of any size are packed, and that the
+ * graph is well formed is left to the other calls. A well-formed graph takes at most 2 bytes for each copy, 6 for each edge and 6 more.
+ *
+ * Returns the length, at least 2, of which `room` then holds the bytes; what follows them is unchanged. */
+int64_t jaqhweni_write_graph(
+    const uint32_t *nodes, size_t nodes_length,
+    const uint32_t *from, size_t from_length,
+    const uint32_t *to, size_t to_length,
+    const uint32_t *via, size_t via_length,
+    uint8_t *room, size_t room_length);
 
 #ifdef __cplusplus
 }

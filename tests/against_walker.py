@@ -1,7 +1,8 @@
 #!/usr/bin/env python3
 """The deck program and the C calls against tests/walker.py, byte for byte, on generated decks, designs and series.
 
-    python3 tests/against_walker.py              target/bin/deck_program and target/staticlib/libjaqhweni.a; about a minute, at most two
+    python3 tests/against_walker.py              target/bin/deck_program and target/staticlib/libjaqhweni.a; about a minute, at most two on a
+                                                 machine that makes the least count of random cases (LEAST) in that time
     python3 tests/against_walker.py --long       ten times as many random cases, from other seeds, and no bound on time
     python3 tests/against_walker.py --stand-in   the reference program of bench/ in place of the library and the deck program
     python3 tests/against_walker.py --try-faults stand-ins with an error put in on purpose, one by one: each must be found
@@ -11,7 +12,7 @@ The C calls are made by tests/c_runner.c: once built with the address and undefi
 and once more under valgrind, which sees the library's own accesses, each slice an allocation of its own. Where the machine has no
 sanitizers the guard bytes alone stand for them, and where it has no valgrind the second run is left out; the last line says what was run.
 Every expected answer, and every word of what was lent, is the walker's. Ends with a line that begins 'against_walker:' and exit
-status 0, or with the first difference and status 1.
+status 0, or with the first difference and status 1, or, where fewer random cases were run than LEAST says, with how many and status 1.
 """
 import argparse
 import array
@@ -30,16 +31,18 @@ import decks
 import removal_cases
 import times_cases
 import walker
-from removal_cases import DESIGN, GIVEN, HELD, Series, exact, hub, pattern, thresholds
+from removal_cases import DESIGN, GIVEN, HELD, TOP, Series, exact, hub, pattern, thresholds
 from walker import Design, Graph, PathList, Room
 
 HERE = pathlib.Path(__file__).resolve().parent.parent
 BUILT = HERE / "target" / "against_walker"
 LIBRARY = HERE / "target" / "staticlib" / "libjaqhweni.a"
 PROGRAM = HERE / "target" / "bin" / "deck_program"
-TRUE_GRAPH, REMOVE_FROM_DESIGN, REMOVE_FROM_GRAPH, TIMES = range(4)
+TRUE_GRAPH, REMOVE_FROM_DESIGN, REMOVE_FROM_GRAPH, TIMES, WRITE_GRAPH = range(5)
 PARTS = ["decks", "fixed", "random"]
-FAULTS = range(1, 13)       # bench/stand_in.c and bench/reference_deck.c
+LEAST_DECKS = 2000          # random cases end when the time is over, but not before so many decks
+LEAST = {"decks": {"decks printed": LEAST_DECKS}, "random": {"decks": LEAST_DECKS, "random series": LEAST_DECKS // 4}}
+FAULTS = range(1, 16)       # bench/stand_in.c and bench/reference_deck.c
 VALGRIND = ["valgrind", "--quiet", "--error-exitcode=9", "--main-stacksize=33554432", "--max-stackframe=16777216"]
 BATCH, BATCH_BYTES = 400, 1 << 24       # requests to the runner at a time
 
@@ -81,11 +84,24 @@ def graph_bytes(graph):
     return b"".join(lent(list(part)) for part in graph)
 
 
-def deck_request(name, data, room):
-    answer, result = walker.c_call(data, room)
+def bytes_request(name, call, sent, room, answer, result):
+    """A call that writes bytes into a room."""
     before = bytes((37 * place + 11) % 256 for place in range(room))
+    return Request(name, words([call]) + sent + words([room]), answer, result + before[len(result):])
+
+
+def deck_request(name, data, room):
     padded = words([len(data)]) + data + b"\0" * (-len(data) % 4)
-    return Request(name, words([TRUE_GRAPH]) + padded + words([room]), answer, result + before[len(result):])
+    return bytes_request(name, TRUE_GRAPH, padded, room, *walker.c_call(data, room))
+
+
+def write_request(name, graph, room):
+    try:
+        result = walker.write_graph(graph, room)
+        answer = len(result)
+    except walker.Refused as refused:
+        answer, result = refusal_answer(refused.refusal), b""
+    return bytes_request(name, WRITE_GRAPH, graph_bytes(graph), room, answer, result)
 
 
 def times_request(name, design, graph, allowed_time, lengths):
@@ -130,6 +146,32 @@ class Recorded(Series):
 
 # ---- Cases -------------------------------------------------------------------------------------
 
+def of_graph(name, graph, beyond=(-1, 0)):
+    """The graph packed into rooms with so many bytes more than it takes."""
+    try:
+        length = len(walker.write_graph(graph, TOP))
+    except walker.Refused:
+        length, beyond = 40, (0,)
+    for more in beyond:
+        yield "graphs packed", write_request("%s, packed" % name, graph, length + more)
+
+
+def graphs_to_pack():
+    """Graphs of any numbers and lengths: a writer tests 30, the counts and 35, and no more."""
+    numbers = (0, 1, 127, 128, 16383, 16384, 2097151, 2097152, 268435455, 268435456, TOP)     # the last and the first of each length
+    yield from of_graph("no copy", Graph([], [], [], []), (-2, -1, 0, 1))
+    for number in numbers:
+        yield from of_graph("all %d" % number, Graph([number], [number], [number], [number]), (-4, -1, 0, 9))
+    yield from of_graph("every length", Graph(numbers, numbers, numbers[::-1], numbers[3:] + numbers[:3]), range(-60, 10))
+    for count in (127, 128, 129):
+        yield from of_graph("%d copies and edges" % count, Graph([7] * count, [300] * count, [1] * count, range(count)))
+    for lengths in ((2, 1, 1), (1, 2, 1), (1, 1, 2), (0, 1, 1), (1, 0, 1), (1, 1, 0), (0, 1, 2)):         # 30
+        yield from of_graph("edges of %d, %d and %d" % lengths, Graph([9], *([5] * length for length in lengths)))
+    for copies, starts, others in ((16384, 65536, 65536), (16385, 2, 2), (2, 65537, 65537), (16385, 2, 3)):
+        graph = Graph([TOP] * copies, [TOP] * starts, [TOP] * others, [TOP] * others)
+        yield from of_graph("%d copies and %d edges" % (copies, starts), graph)
+
+
 def of_removal_cases():
     """All fixed series of crates/removal_cases."""
     plain, removal_cases.Series = removal_cases.Series, Recorded
@@ -151,6 +193,7 @@ def random_series(rng):
         removal_cases.Series = plain
     yield from (("random series", request) for request in series.requests)
     if series.held is not None:
+        yield from of_graph("what is held", series.held, (rng.choice((-1, 9)), 0))
         allowed = rng.choice((0, 7, 1_000_000_000, 1_000_000_001))
         yield "random series", times_request("times", series.design, series.held, allowed, [len(series.held.copy_nodes)] * 3)
 
@@ -160,6 +203,7 @@ def of_unfit_graphs():
         design = Design(given.nodes, given.starts, given.ends, given.delays)
         graph = Graph(given.copy_nodes, given.copy_starts, given.copy_ends, given.names)
         yield "graphs", times_request("times", design, graph, given.allowed, given.rooms)
+        yield from of_graph("a graph of times_cases", graph, (0,))
 
 
 def rooms_above_the_limits():
@@ -322,12 +366,12 @@ def plan(options, count):
     rng = random.Random(options.seed)
     parts = [options.only] if options.only else PARTS
     if "fixed" in parts:
-        for cases in (of_removal_cases, of_unfit_graphs, rooms_above_the_limits, at_the_limits):
+        for cases in (of_removal_cases, of_unfit_graphs, graphs_to_pack, rooms_above_the_limits, at_the_limits):
             yield from cases()
     if parts == ["fixed"]:
         return
     for number, data in enumerate(decks.deck_files(options.seed, count)):
-        if time.monotonic() > over:
+        if number >= LEAST_DECKS and time.monotonic() > over:
             return
         if "decks" in parts:
             yield None, (data, walker.deck_program(data).encode())
@@ -338,7 +382,7 @@ def plan(options, count):
 
 
 def compare(planned, commands, program):
-    """Runs what is planned, C calls some hundred at a time; returns in words what was run."""
+    """Runs what is planned, C calls some hundred at a time; returns how many of each kind were run."""
     counts, waiting, size = {}, [], 0
     for kind, case in planned:
         kind = kind or "decks printed"
@@ -352,7 +396,16 @@ def compare(planned, commands, program):
             run_calls(commands, waiting)
             waiting, size = [], 0
     run_calls(commands, waiting)
+    return counts
+
+
+def in_words(counts):
     return ", ".join("%s: %d" % item for item in counts.items())
+
+
+def too_few(counts, parts):
+    """What must be run of these parts and was not, or too seldom, however slow the machine is."""
+    return {kind: counts.get(kind, 0) for part in parts for kind, least in LEAST.get(part, {}).items() if counts.get(kind, 0) < least}
 
 
 def try_faults(options):
@@ -360,7 +413,7 @@ def try_faults(options):
     for fault in FAULTS:
         (runner, _), program = build_runner(None, True, fault), build_stand_in_program(fault)
         try:
-            print("fault %d: NOT FOUND (%s)" % (fault, compare(planned, [[runner]], program)), flush=True)
+            print("fault %d: NOT FOUND (%s)" % (fault, in_words(compare(planned, [[runner]], program))), flush=True)
             missed.append(fault)
         except Differs as differs:
             print("fault %d: found: %s" % (fault, str(differs).splitlines()[0][:150]), flush=True)
@@ -392,8 +445,11 @@ def main():
     used = [] if options.only == "decks" else runners(library)
     try:
         ran = compare(plan(options, 40000 if options.long else 4000), [command for command, _ in used], program)
+        few = too_few(ran, [options.only] if options.only else PARTS)
+        if few:
+            sys.exit("against_walker: FAILED: too few random cases: %s" % in_words(few))
         under = "; C calls under " + ", and under ".join(checks for _, checks in used) if used else ""
-        print("against_walker: %s%s; all as the walker says" % (ran, under))
+        print("against_walker: %s%s; all as the walker says" % (in_words(ran), under))
     except Differs as differs:
         print(differs)
         sys.exit(1)

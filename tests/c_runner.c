@@ -4,7 +4,7 @@
  *
  * A request is 32-bit words, lowest byte first: which call, and its arguments in order. A number is a word; a slice that is only read is
  * its length and its elements (bytes are padded to a whole word); a slice to be written is its length. Calls: 0 true_graph, 1
- * remove_from_design, 2 remove_from_graph, 3 times.
+ * remove_from_design, 2 remove_from_graph, 3 times, 4 write_graph.
  *
  * Before the call, a slice to be written is set to a pattern: byte k is 37 k + 11; word k of the j-th such slice is 3,000,000,000 +
  * 100,000,000 j + k mod 65,536; time k of the j-th is -1,000,000,000,000 (j + 1) - k. The answer is the 64-bit number that was returned,
@@ -133,28 +133,32 @@ static int64_t call(void)
         uint32_t n = word();
         lent *starts = read_slice(4), *ends = read_slice(4), *delays = read_slice(4);
         lent *listed = read_slice(4), *lengths = read_slice(4);
-        lent *nodes = word_room(), *from = word_room(), *to = word_room(), *via = word_room(), *scratch = word_room();
-        return jaqhweni_remove_from_design(n, SLICE(starts), SLICE(ends), SLICE(delays), SLICE(listed), SLICE(lengths), SLICE(nodes),
-                                           SLICE(from), SLICE(to), SLICE(via), SLICE(scratch));
+        lent *room_nodes = word_room(), *room_from = word_room(), *room_to = word_room(), *room_via = word_room(), *scratch = word_room();
+        return jaqhweni_remove_from_design(n, SLICE(starts), SLICE(ends), SLICE(delays), SLICE(listed), SLICE(lengths),
+                                           SLICE(room_nodes), SLICE(room_from), SLICE(room_to), SLICE(room_via), SLICE(scratch));
     }
     case 2: {
         uint32_t n = word();
         lent *starts = read_slice(4), *ends = read_slice(4), *delays = read_slice(4);
         lent *listed = read_slice(4), *lengths = read_slice(4);
-        lent *old_nodes = read_slice(4), *old_from = read_slice(4), *old_to = read_slice(4), *old_via = read_slice(4);
-        lent *nodes = word_room(), *from = word_room(), *to = word_room(), *via = word_room(), *scratch = word_room();
-        return jaqhweni_remove_from_graph(n, SLICE(starts), SLICE(ends), SLICE(delays), SLICE(listed), SLICE(lengths), SLICE(old_nodes),
-                                          SLICE(old_from), SLICE(old_to), SLICE(old_via), SLICE(nodes), SLICE(from), SLICE(to),
-                                          SLICE(via), SLICE(scratch));
+        lent *nodes = read_slice(4), *from = read_slice(4), *to = read_slice(4), *via = read_slice(4);
+        lent *room_nodes = word_room(), *room_from = word_room(), *room_to = word_room(), *room_via = word_room(), *scratch = word_room();
+        return jaqhweni_remove_from_graph(n, SLICE(starts), SLICE(ends), SLICE(delays), SLICE(listed), SLICE(lengths), SLICE(nodes),
+                                          SLICE(from), SLICE(to), SLICE(via), SLICE(room_nodes), SLICE(room_from), SLICE(room_to),
+                                          SLICE(room_via), SLICE(scratch));
     }
     case 3: {
         uint32_t n = word();
         lent *starts = read_slice(4), *ends = read_slice(4), *delays = read_slice(4);
-        uint32_t allowed_time = word();
+        uint32_t allowed = word();
         lent *nodes = read_slice(4), *from = read_slice(4), *to = read_slice(4), *via = read_slice(4);
-        lent *arrival = time_room(), *required = time_room(), *slack = time_room();
-        return jaqhweni_times(n, SLICE(starts), SLICE(ends), SLICE(delays), allowed_time, SLICE(nodes), SLICE(from), SLICE(to),
-                              SLICE(via), SLICE(arrival), SLICE(required), SLICE(slack));
+        lent *arrivals = time_room(), *requireds = time_room(), *slacks = time_room();
+        return jaqhweni_times(n, SLICE(starts), SLICE(ends), SLICE(delays), allowed, SLICE(nodes), SLICE(from), SLICE(to), SLICE(via),
+                              SLICE(arrivals), SLICE(requireds), SLICE(slacks));
+    }
+    case 4: {
+        lent *nodes = read_slice(4), *from = read_slice(4), *to = read_slice(4), *via = read_slice(4), *room = byte_room();
+        return jaqhweni_write_graph(SLICE(nodes), SLICE(from), SLICE(to), SLICE(via), SLICE(room));
     }
     default:
         fprintf(stderr, "c_runner: no such call\n");

@@ -1,10 +1,11 @@
 #!/usr/bin/env python3
 """Reference program: true timing graphs by walking all paths.
 
-Written from document 01 (papers/01-scope.md), with open points as in design/readings.md.
-Naive on purpose: every complete path is written out, the false ones are struck out, and
-copies, edges and times are read off the paths that remain.  Text in double quotes in the
-comments is a sentence of document 01.
+Written from document 01, the specification, and from no code or definition of this
+repository; points that it leaves open are read as docs/DECISIONS.md says ("How document 01
+is read"). Naive on purpose: every complete path is written out, the false ones are struck
+out, and copies, edges and times are read off the paths that remain. Text in double quotes in
+the comments is a sentence of document 01; docs/REVIEW.md lists these.
 
     python3 walker.py < deck              the deck program
     python3 walker.py --c ROOM < deck     the C call: its number, then the bytes in hex

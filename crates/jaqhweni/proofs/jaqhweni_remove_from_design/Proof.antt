@@ -1,24 +1,9 @@
 -- The answer as one number.
-use Rattle.timing.specs.declared.GraphMade.{GraphMade}
-use Rattle.timing.specs.Graphs.{Design, design}
-use Rattle.timing.specs.Calls.{Removal, lentRemoval, removeFromDesign, graphAnswer}
 use Rattle.true_graph.proofs.Small.{small-from-design}
 use borrow.Author.Needs.{needs}
 use Rattle.jaqhweni.proofs.Answers.{made-small, made-number}
 use Rattle.jaqhweni.proofs.jaqhweni_remove_from_design.Statement.{statement}
 use Rattle.jaqhweni.proofs.jaqhweni_remove_from_design.Tie as tie
-
-abbrev start : tie.After-remove-from-design → tie.Start
-start w = w .before .before .before .before .before .before .before .before .before .before .before .before .before .before .before
-
-abbrev designAt : tie.Start → Design
-designAt s = let a = s .args in design (a .n) (a .starts .now) (a .ends .now) (a .delays .now)
-
-abbrev lentAt : tie.Start → Removal
-lentAt s = let a = s .args in lentRemoval (a .listed .now) (a .lengths .now) (a .room-nodes .now) (a .room-from .now) (a .room-to .now) (a .room-via .now) (a .scratch .now)
-
-abbrev answerAt : tie.Start → GraphMade
-answerAt s = graphAnswer (removeFromDesign (designAt s) (lentAt s))
 
 remove-from-design-requires : tie.Need-remove-from-design-requires
 remove-from-design-requires c κs = tt
@@ -26,8 +11,7 @@ remove-from-design-requires c κs = tt
 graph-number-requires : tie.Need-graph-number-requires
 graph-number-requires c κs =
     let w = c .before .before .before .before .before .before .before .before .before .before in
-    let s = start w in
-    made-small (answerAt s) (w .remove-from-design .result) (w .remove-from-design .ensures .0) (small-from-design (designAt s) (lentAt s))
+    made-small (w .remove-from-design .ensures .0) (small-from-design _ _)
 
 same-length : tie.Need-same-length
 same-length c = c .before .before .before .before .before .before .before .before .before .before .room-nodes .given
@@ -47,7 +31,7 @@ same-length-5 c = c .before .before .scratch .given
 returns : tie.Need-returns
 returns c =
     let w = c .before .before .before .before .before .before .before .before .before .before .before in
-    (made-number (answerAt (start w)) (w .remove-from-design .result) (w .remove-from-design .ensures .0) (c .graph-number .result) (c .graph-number .ok) (c .graph-number .ensures), search needs, search needs, search needs, search needs, search needs)
+    (made-number (w .remove-from-design .ensures .0) (c .graph-number .result) (c .graph-number .ok) (c .graph-number .ensures), search needs, search needs, search needs, search needs, search needs)
 
 pub jaqhweni-remove-from-design-spec : {M : Type 1} → statement M
 jaqhweni-remove-from-design-spec =

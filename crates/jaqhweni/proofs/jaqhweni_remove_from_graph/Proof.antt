@@ -1,27 +1,9 @@
 -- The answer as one number.
-use Rattle.timing.specs.declared.GraphMade.{GraphMade}
-use Rattle.timing.specs.Graphs.{Design, design}
-use Rattle.timing.specs.Calls.{GraphSlices, graphSlices, Removal, lentRemoval, removeFromGraph, graphAnswer}
 use Rattle.true_graph.proofs.Small.{small-from-graph}
 use borrow.Author.Needs.{needs}
 use Rattle.jaqhweni.proofs.Answers.{made-small, made-number}
 use Rattle.jaqhweni.proofs.jaqhweni_remove_from_graph.Statement.{statement}
 use Rattle.jaqhweni.proofs.jaqhweni_remove_from_graph.Tie as tie
-
-abbrev start : tie.After-remove-from-graph → tie.Start
-start w = w .before .before .before .before .before .before .before .before .before .before .before .before .before .before .before .before .before .before .before
-
-abbrev designAt : tie.Start → Design
-designAt s = let a = s .args in design (a .n) (a .starts .now) (a .ends .now) (a .delays .now)
-
-abbrev slicesAt : tie.Start → GraphSlices
-slicesAt s = let a = s .args in graphSlices (a .nodes .now) (a .from .now) (a .to .now) (a .via .now)
-
-abbrev lentAt : tie.Start → Removal
-lentAt s = let a = s .args in lentRemoval (a .listed .now) (a .lengths .now) (a .room-nodes .now) (a .room-from .now) (a .room-to .now) (a .room-via .now) (a .scratch .now)
-
-abbrev answerAt : tie.Start → GraphMade
-answerAt s = graphAnswer (removeFromGraph (designAt s) (slicesAt s) (lentAt s))
 
 remove-from-graph-requires : tie.Need-remove-from-graph-requires
 remove-from-graph-requires c κs = tt
@@ -29,8 +11,7 @@ remove-from-graph-requires c κs = tt
 graph-number-requires : tie.Need-graph-number-requires
 graph-number-requires c κs =
     let w = c .before .before .before .before .before .before .before .before .before .before in
-    let s = start w in
-    made-small (answerAt s) (w .remove-from-graph .result) (w .remove-from-graph .ensures .0) (small-from-graph (designAt s) (slicesAt s) (lentAt s))
+    made-small (w .remove-from-graph .ensures .0) (small-from-graph _ _ _)
 
 same-length : tie.Need-same-length
 same-length c = c .before .before .before .before .before .before .before .before .before .before .room-nodes .given
@@ -50,7 +31,7 @@ same-length-5 c = c .before .before .scratch .given
 returns : tie.Need-returns
 returns c =
     let w = c .before .before .before .before .before .before .before .before .before .before .before in
-    (made-number (answerAt (start w)) (w .remove-from-graph .result) (w .remove-from-graph .ensures .0) (c .graph-number .result) (c .graph-number .ok) (c .graph-number .ensures), search needs, search needs, search needs, search needs, search needs)
+    (made-number (w .remove-from-graph .ensures .0) (c .graph-number .result) (c .graph-number .ok) (c .graph-number .ensures), search needs, search needs, search needs, search needs, search needs)
 
 pub jaqhweni-remove-from-graph-spec : {M : Type 1} → statement M
 jaqhweni-remove-from-graph-spec =

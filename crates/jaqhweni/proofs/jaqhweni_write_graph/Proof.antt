@@ -1,16 +1,10 @@
 -- The answer as one number.
 use native.Mathlib.Omega.{arith}
-use mathlib.Core.Path.{_∙_, ap, sym, subst}
-use Rattle.timing.specs.Calls.{GraphSlices, graphSlices, cNumber}
-use Rattle.times.proofs.Elements.{read-back}
-use Rattle.true_graph.specs.Small.{SmallWritten}
+use Rattle.jaqhweni.proofs.Answers.{written-small, written-number}
 use Rattle.jaqhweni.proofs.SmallProgram.{small-graph}
 use borrow.Author.Needs.{needs}
 use Rattle.jaqhweni.proofs.jaqhweni_write_graph.Statement.{statement}
 use Rattle.jaqhweni.proofs.jaqhweni_write_graph.Tie as tie
-
-abbrev slicesAt : tie.Start → GraphSlices
-slicesAt s = let a = s .args in graphSlices (a .nodes .now) (a .from .now) (a .to .now) (a .via .now)
 
 write-graph-requires : tie.Need-write-graph-requires
 write-graph-requires c κs = tt
@@ -18,8 +12,8 @@ write-graph-requires c κs = tt
 written-number-requires : tie.Need-written-number-requires
 written-number-requires c κs =
     let w = c .before .before in
-    let s = w .before .before .before .before .before .before .before in
-    subst SmallWritten (sym (w .write-graph .ensures .0)) (small-graph (s .args .room .now) (omega arith) (slicesAt s))
+    let a = w .before .before .before .before .before .before .before .args in
+    written-small (w .write-graph .ensures .0) (small-graph (a .room .now) (omega arith) _)
 
 same-length : tie.Need-same-length
 same-length c = search needs
@@ -27,7 +21,7 @@ same-length c = search needs
 returns : tie.Need-returns
 returns c =
     let w = c .before .before .before in
-    (read-back (c .written-number .result) (c .written-number .ok) ∙ c .written-number .ensures ∙ ap cNumber (w .write-graph .ensures .0), w .write-graph .ensures .1)
+    (written-number (w .write-graph .ensures .0) (c .written-number .result) (c .written-number .ok) (c .written-number .ensures), w .write-graph .ensures .1)
 
 pub jaqhweni-write-graph-spec : {M : Type 1} → statement M
 jaqhweni-write-graph-spec =
