@@ -13,7 +13,7 @@ import sys
 import walker as w
 
 FILE = pathlib.Path(__file__).resolve().parent.parent / "crates" / "timing" / "proofs" / "Marked.antt"
-AMPLE = w.Room(512, 2048, 2048, 2048)
+WIDTH = 120
 
 
 def design(nodes, *edges):
@@ -25,89 +25,145 @@ def listed(*paths):
 
 
 A = design(5, (0, 2, 3), (1, 2, 5), (2, 3, 2), (2, 4, 1))
-ONE = design(1)
+NO_NODES = design(0)
+ONE_NODE = design(1)
 CHAIN = design(3, (0, 1, 1), (1, 2, 1))
 M8 = design(6, (0, 2, 1), (1, 2, 1), (2, 3, 1), (3, 4, 1), (4, 5, 1), (3, 5, 1))
+M9 = design(2, (0, 1, -4))
 PARALLEL = design(4, (0, 1, 1), (0, 1, 2), (1, 2, 1), (1, 2, 2), (2, 3, 1), (2, 3, 2))
-LENGTHS = design(5, (0, 2, 1), (1, 2, 1), (2, 3, 1), (3, 4, 1), (2, 4, 1))
+TWO_LENGTHS = design(5, (0, 2, 1), (1, 2, 1), (2, 3, 1), (3, 4, 1), (2, 4, 1))
+ISOLATED = design(3, (0, 2, 1))
 FORKED = design(4, (0, 1, 0), (1, 2, 0), (1, 3, 0))
+FALLING = design(2, (1, 0, 0))
+FALLING_AND_UNKNOWN = design(2, (1, 0, 0), (0, 2, 0))
+LIST_A = listed((1, 2))
+NONE = listed()
+M8_LIST = listed((0, 2, 3), (1, 2, 3, 4))
+SPLIT_SOURCE = w.Graph([0, 0, 1, 1, 2, 3], [0, 1, 2, 3], [2, 3, 4, 5], [0, 0, 1, 2])
+OUT_OF_ORDER = w.Graph([0, 0, 1, 1, 2, 3], [1, 0, 2, 3], [3, 2, 4, 5], [0, 0, 1, 2])
+AMPLE = w.Room(512, 2048, 2048, 2048)
+
+# What has a name in the table: the name, what it is, and the comment there.
+NAMES = [
+    ("deckA", A, "Deck A: its design, its list, its true graph and its bytes with T 10."),
+    ("listA", LIST_A, None),
+    ("graphA", w.run_series(A, [w.Call(LIST_A, AMPLE, 16384)])[1], None),
+    ("bytesA", w.write_deck(w.Deck(A, LIST_A, 10), 65536), None),
+    ("noPaths", NONE, "The other designs, lists and graphs that rows are about."),
+    ("noNodes", NO_NODES, None),
+    ("oneNode", ONE_NODE, None),
+    ("chain", CHAIN, None),
+    ("designM8", M8, None),
+    ("listM8", M8_LIST, None),
+    ("designM9", M9, None),
+    ("parallel", PARALLEL, "two edges for each step of a chain"),
+    ("twoLengths", TWO_LENGTHS, "two ways from node 2 to node 4, by one edge and by two"),
+    ("isolated", ISOLATED, "node 1 has no edge"),
+    ("forked", FORKED, None),
+    ("splitSource", SPLIT_SOURCE, "of it: two copies of the source; and the same with its first two edges exchanged"),
+    ("outOfOrder", OUT_OF_ORDER, None),
+    ("falling", FALLING, "edge 0 falls; and with it an edge to a node that is not there"),
+    ("fallingAndUnknown", FALLING_AND_UNKNOWN, None),
+    ("ample", AMPLE, "the deck program's room"),
+]
 
 # One row: its comment, and the facts of it. "graph": the graph after removing each list in turn, in ample room;
 # "times" and "nodes": the times of its copies and the records of the nodes.
 ROWS = [
-    ("M1: deck A", [("graph", A, [listed((1, 2))]), ("times", A, 10, [listed((1, 2))]), ("nodes", A, 10, [listed((1, 2))]),
-                    ("deck", A, listed((1, 2)), 10), ("c", A, listed((1, 2)), 10, 64)]),
-    ("M2: no nodes", [("graph", design(0), [listed()])]),
-    ("M3: one node, no edges", [("graph", ONE, [listed()]), ("times", ONE, 7, [listed()])]),
+    ("M1: deck A", [("graph", A, [LIST_A]), ("times", A, 10, [LIST_A]), ("nodes", A, 10, [LIST_A]),
+                    ("deck", A, LIST_A, 10), ("c", A, LIST_A, 10, 64), ("c room", A, LIST_A, 10, 64)]),
+    ("M2: no nodes", [("graph", NO_NODES, [NONE])]),
+    ("M3: one node, no edges", [("graph", ONE_NODE, [NONE]), ("times", ONE_NODE, 7, [NONE])]),
     ("M4: A with only path 2; a graph handed back uncut does not meet it",
      [("graph", A, [listed((2,))]), ("nodes", A, 10, [listed((2,))])]),
     ("M5: A with 0,2 and 1,2: the graph of M4", [("graph", A, [listed((0, 2), (1, 2))])]),
     ("M6: A with 1,2 and 0,3; then by parts, which differs by a renumbering of node 2",
-     [("graph", A, [listed((1, 2), (0, 3))]), ("graph", A, [listed((1, 2)), listed((0, 3))])]),
+     [("graph", A, [listed((1, 2), (0, 3))]), ("graph", A, [LIST_A, listed((0, 3))])]),
     ("M7: a list that removes everything", [("graph", CHAIN, [listed((0, 1))])]),
     ("M8: following only the long tail leaves edge 0 in a false path",
-     [("graph", M8, [listed((0, 2, 3), (1, 2, 3, 4))]), ("nodes", M8, 10, [listed((0, 2, 3), (1, 2, 3, 4))])]),
-    ("M9: an arrival below 0; a largest arrival that starts from 0 does not meet it",
-     [("times", design(2, (0, 1, -4)), 10, [listed()])]),
+     [("graph", M8, [M8_LIST]), ("nodes", M8, 10, [M8_LIST])]),
+    ("M9: an arrival below 0; a largest arrival that starts from 0 does not meet it", [("times", M9, 10, [NONE])]),
     ("M10: packed numbers", [("packed", 127), ("packed", 128), ("read", b"\x80\x00"), ("packed", 4294967295),
                              ("read", b"\xff\xff\xff\xff\x10"), ("read", b"\x80")]),
     ("Inner tails, with parallel edges: shuts out only the longest tail of each path",
      [("graph", PARALLEL, [listed((0, 2, 4))])]),
     ("Marks by length before edges: mark 4 comes before mark 2,3 at node 2; shuts out the dictionary order alone",
-     [("graph", LENGTHS, [listed((0, 4), (0, 2, 3))])]),
+     [("graph", TWO_LENGTHS, [listed((0, 4), (0, 2, 3))])]),
     ("Parallel edges are two paths: shuts out paths as lists of nodes", [("graph", PARALLEL, [listed((1,), (3,))])]),
-    ("An isolated node keeps its copy: shuts out copies by edges alone", [("graph", design(3, (0, 2, 1)), [listed((0,))])]),
+    ("An isolated node keeps its copy: shuts out copies by edges alone", [("graph", ISOLATED, [listed((0,))])]),
     ("A listed path inside another, and one listed twice: shuts out a mark by the first path that fits",
      [("graph", M8, [listed((0, 2, 3), (2, 3), (0, 2, 3))])]),
     ("Scratch: 16 words for 6 candidates, 2 listed edges and 4 edges, and one word less",
-     [("removal", A, listed((1, 2)), AMPLE, 192), ("removal", A, listed((1, 2)), AMPLE, 191)]),
+     [("removal", A, LIST_A, AMPLE, 192), ("removal", A, LIST_A, AMPLE, 191)]),
     ("Room: 5 copies on A; 4 edges on A; rooms that differ in length come before a bad edge",
-     [("removal", A, listed((1, 2)), w.Room(5, 9, 9, 9), 192), ("removal", A, listed((1, 2)), w.Room(6, 4, 4, 4), 192),
-      ("removal", design(2, (1, 0, 0)), listed(), w.Room(6, 4, 3, 4), 192)]),
+     [("removal", A, LIST_A, w.Room(5, 9, 9, 9), 192), ("removal", A, LIST_A, w.Room(6, 4, 4, 4), 192),
+      ("removal", FALLING, NONE, w.Room(6, 4, 3, 4), 192)]),
     ("One number over everything before the next: 12 at edge 1 before 13 at edge 0; 23 at path 1 before 24 at path 0",
-     [("removal", design(2, (1, 0, 0), (0, 2, 0)), listed(), AMPLE, 192),
+     [("removal", FALLING_AND_UNKNOWN, NONE, AMPLE, 192),
       ("removal", A, listed((2, 1), (9,)), AMPLE, 999), ("removal", A, listed((0, 2), (2, 1)), AMPLE, 999)]),
     ("An earlier graph that is not the design: two copies of a source, which removal keeps apart",
-     [("again", FORKED, w.Graph([0, 0, 1, 1, 2, 3], [0, 1, 2, 3], [2, 3, 4, 5], [0, 0, 1, 2]), listed((0, 1)), AMPLE, 999)]),
-    ("An earlier graph that is not well formed: its last edge out of order",
-     [("again", FORKED, w.Graph([0, 0, 1, 1, 2, 3], [1, 0, 2, 3], [3, 2, 4, 5], [0, 0, 1, 2]), listed((0, 1)), AMPLE, 999)]),
+     [("again", FORKED, SPLIT_SOURCE, listed((0, 1)), AMPLE, 999)]),
+    ("An earlier graph that is not well formed: two edges out of order",
+     [("again", FORKED, OUT_OF_ORDER, listed((0, 1)), AMPLE, 999)]),
 ]
 
 
-def numbers(xs):
-    return "(" + "".join("%d ∷ " % x for x in xs) + "[])"
+# Text of the table. What stands behind a function's name is an argument: in brackets unless it is a name or a number.
+def argument(text):
+    return "(%s)" % text if " " in text else text
+
+
+def applied(function, *arguments):
+    return " ".join((function,) + tuple(map(argument, arguments)))
+
+
+def items(texts, end="[]"):
+    return "".join("%s ∷ " % t for t in texts) + end
+
+
+def numbers(xs, end="[]"):
+    return items(map(str, xs), end)
 
 
 def integer(z):
-    return "(pos %d)" % z if z >= 0 else "(negsuc %d)" % (-z - 1)
+    return "pos %d" % z if z >= 0 else "negsuc %d" % (-z - 1)
 
 
-def integers(zs):
-    return "(" + "".join("%s ∷ " % integer(z) for z in zs) + "[])"
+def written_out(x):
+    """What the walker's x is in the table, where it has no name."""
+    if isinstance(x, w.Design):
+        return applied("design", str(x.nodes), numbers(x.starts), numbers(x.ends), items(map(integer, x.delays)))
+    if isinstance(x, w.PathList):
+        return applied("pathList", numbers(x.flat), numbers(x.lengths))
+    if isinstance(x, w.Graph):
+        edges = items("edge %d %d %d" % e for e in zip(x.starts, x.ends, x.design_edges))
+        return applied("graph", numbers(x.copy_nodes), edges)
+    if isinstance(x, w.Room):
+        return applied("room", *map(str, x))
+    if isinstance(x, bytes):
+        return numbers(x)
+    if x is None:
+        return "None"
+    assert isinstance(x, w.Times)
+    return applied("Times", *map(integer, x))
 
 
-def design_text(d):
-    return "(design %d %s %s %s)" % (d.nodes, numbers(d.starts), numbers(d.ends), integers(d.delays))
+def named(x):
+    for name, is_x, _ in NAMES:
+        if type(is_x) is type(x) and is_x == x:
+            return name
+    return written_out(x)
 
 
-def list_text(l):
-    return "(pathList %s %s)" % (numbers(l.flat), numbers(l.lengths))
-
-
-def series_text(ls):
-    return "(" + "".join(list_text(l) + " ∷ " for l in ls) + "[])"
-
-
-def graph_text(g):
-    edges = "".join("edge %d %d %d ∷ " % e for e in zip(g.starts, g.ends, g.design_edges))
-    return "(graph %s (%s[]))" % (numbers(g.copy_nodes), edges)
+def removal_text(l, room, words):
+    return applied("removal", named(l), named(room), str(words))
 
 
 def outcome_text(call):
     try:
-        return "(made %s)" % graph_text(call())
+        return applied("made", named(call()))
     except w.Refused as r:
-        return "(refused (refusal %d %d))" % r.refusal
+        return applied("refused", "refusal %d %d" % r.refusal)
 
 
 def after(d, lists):
@@ -116,63 +172,76 @@ def after(d, lists):
     return held
 
 
-def times_text(t):
-    return "Times %s %s %s" % tuple(map(integer, t)) if t is not None else "None"
-
-
-def room_text(r):
-    return "(record { nodes = %d; starts = %d; ends = %d; names = %d })" % r
-
-
 def deck_bytes(d, l, t):
     return w.write_deck(w.Deck(d, l, t), 65536)
 
 
 def read_text(data):
     try:
-        return "(Value %d %d)" % w.read_number(data, 0)
+        return "Value %d %d" % w.read_number(data, 0)
     except w.Refused as r:
-        return "(NotRead (refusal %d %d))" % r.refusal
+        return applied("NotRead", "refusal %d %d" % r.refusal)
 
 
 def fact(kind, *given):
+    """The words of a fact: its constructor, and then its arguments."""
     if kind == "graph":
         d, lists = given
-        return "graphIs %s %s %s" % (design_text(d), series_text(lists), graph_text(after(d, lists)))
+        return "graphIs", named(d), items(map(named, lists)), named(after(d, lists))
     if kind in ("times", "nodes"):
         d, t, lists = given
         held = after(d, lists)
-        at = w.copy_times(d, held, t)
-        if kind == "times":
-            rows = [times_text(x) for x in at]
-        else:
-            columns = [[x[i] for x in at] for i in range(3)]
-            rows = [times_text(w.node_record(d.nodes, held.copy_nodes, *columns, v)) for v in range(d.nodes + 1)]
-        return "%sAre %s %d %s (%s[])" % (kind, design_text(d), t, series_text(lists), "".join(r + " ∷ " for r in rows))
+        rows = w.copy_times(d, held, t)
+        if kind == "nodes":
+            columns = [[x[i] for x in rows] for i in range(3)]
+            rows = [w.node_record(d.nodes, held.copy_nodes, *columns, v) for v in range(d.nodes + 1)]
+        return kind + "Are", named(d), str(t), items(map(named, lists)), items(map(named, rows))
     if kind == "deck":
         data = deck_bytes(*given)
-        return "programIs %s %s" % (numbers(data), outcome_text(lambda: w.deck_and_graph(data)[1]))
-    if kind == "c":
+        return "programIs", named(data), outcome_text(lambda: w.deck_and_graph(data)[1])
+    if kind in ("c", "c room"):
         data, room = deck_bytes(*given[:3]), given[3]
         number, result = w.c_call(data, room)
-        return "cCallIs %s %d %s %s" % (numbers(data), room, integer(number), numbers(list(result) + [0] * (room - len(result))))
+        if kind == "c":
+            return "cCallIs", named(data), str(room), integer(number)
+        return "cRoomIs", named(data), str(room), numbers(result, "zeros %d" % (room - len(result)))
     if kind == "packed":
-        return "packedIs %d %s" % (given[0], numbers(w.write_number(given[0])))
+        return "packedIs", str(given[0]), numbers(w.write_number(given[0]))
     if kind == "read":
-        return "readIs %s %s" % (numbers(given[0]), read_text(given[0]))
+        return "readIs", named(given[0]), read_text(given[0])
     if kind == "removal":
         d, l, room, words = given
-        return "removalIs %s (removal %s %s %d) %s" % (
-            design_text(d), list_text(l), room_text(room), words, outcome_text(lambda: w.removal(d, l, None, words, room)))
+        outcome = outcome_text(lambda: w.removal(d, l, None, words, room))
+        return "removalIs", named(d), removal_text(l, room, words), outcome
     if kind == "again":
         d, g, l, room, words = given
-        return "againIs %s %s (removal %s %s %d) %s" % (
-            design_text(d), graph_text(g), list_text(l), room_text(room), words, outcome_text(lambda: w.removal(d, l, g, words, room)))
+        outcome = outcome_text(lambda: w.removal(d, l, g, words, room))
+        return "againIs", named(d), named(g), removal_text(l, room, words), outcome
     raise ValueError(kind)
 
 
-HEADER = """-- The marked cases of document 01, M1 to M10, and rows that shut out wrong definitions which M1 to M10 would let through: one
--- table and one claim, shown by computing the definitions. Made by tests/marked_table.py: every result is the walker's.
+def lines_of(text, indent, between):
+    """A text in lines that fit, broken behind the separator `between`."""
+    lines, line = [], indent
+    for piece in text.replace(between, between + "\0").split("\0"):
+        if len((line + piece).rstrip()) > WIDTH:
+            lines.append(line.rstrip())
+            line = indent
+        line += piece
+    return lines + [line]
+
+
+def row(start, words):
+    """A fact of the table: what is found stands in lines of its own where one line would be too long."""
+    whole = start + applied(*words)
+    if len(whole) <= WIDTH:
+        return [whole]
+    return [start + applied(*words[:-1])] + lines_of(argument(words[-1]), " " * 4, " ∷ ")
+
+
+HEADER = """-- The marked cases of document 01, M1 to M10, and rows that shut out wrong definitions which M1 to M10 would let
+-- through: one table and one claim, shown by computing the definitions. Made by tests/marked_table.py: every result
+-- is the walker's.
 use Prim.Native.Nat.{ℕ, suc}
 use mathlib.Core.Path.{_≡_, refl}
 use mathlib.Core.List.{List, [], _∷_, map, flatMap}
@@ -183,7 +252,8 @@ use Rattle.timing.specs.declared.NumberRead.the-variants.{Refused as Not
 use Rattle.timing.specs.declared.NodeTimes.{NodeTimes}
 use Rattle.timing.specs.declared.NodeTimes.the-variants.{Times, None}
 use Rattle.timing.specs.Lists.{upto}
-use Rattle.timing.specs.Graphs.{Design, design, edgeDelay, edge, Graph, graph, designGraph, edgesIn, edgesOut, runsTo, runsFrom, completeRuns}
+use Rattle.timing.specs.Graphs.{Design, design, edgeDelay, edge, Graph, graph, designGraph, edgesIn, edgesOut}
+use Rattle.timing.specs.Graphs.{runsTo, runsFrom, completeRuns}
 use Rattle.timing.specs.Marks.{PathList, pathList, pathsOf, permitted, tails, mark}
 use Rattle.timing.specs.TrueGraphs.{permittedRuns, copies, joins, trueGraph}
 use Rattle.timing.specs.WellFormed.{wellFormed}
@@ -192,8 +262,9 @@ use Rattle.timing.specs.Numbers.{packedIn, packed, groupsIn, readNumber,
 use Rattle.timing.specs.Decks.{readDeck}
 use Rattle.timing.specs.GraphBytes.{graphNumbers, packedGraph}
 use Rattle.timing.specs.Refusals.{refusal}
-use Rattle.timing.specs.Tests.{designTests, listTests, candidates, scratchTest, roomTests}
-use Rattle.timing.specs.Calls.{Outcome, made, refused, Removal, removal, slicesOf, testDeck, removeFromDesign, removeFromGraph, programRemoval, program, cCall, cRoom}
+use Rattle.timing.specs.Tests.{Room, designTests, listTests, candidates, scratchTest, roomTests}
+use Rattle.timing.specs.Calls.{Outcome, made, refused, Removal, removal, slicesOf, testDeck}
+use Rattle.timing.specs.Calls.{removeFromDesign, removeFromGraph, programRemoval, program, cCall, cRoom}
 
 -- the graph after some lists are removed in turn
 abbrev pub removed : Graph → List PathList → Graph
@@ -207,11 +278,18 @@ pub data Fact : Type 0 where
   removalIs : Design → Removal → Outcome Graph → Fact
   againIs : Design → Graph → Removal → Outcome Graph → Fact
   programIs : List ℕ → Outcome Graph → Fact
-  cCallIs : List ℕ → ℕ → ℤ → List ℕ → Fact
+  cCallIs : List ℕ → ℕ → ℤ → Fact
+  cRoomIs : List ℕ → ℕ → List ℕ → Fact
   packedIs : ℕ → List ℕ → Fact
   readIs : List ℕ → NumberRead → Fact
 
--- the three times of every copy, one list for each
+abbrev pub zeros : ℕ → List ℕ
+zeros n = map (λ i. 0) (upto n 0)
+
+abbrev pub room : ℕ → ℕ → ℕ → ℕ → Room
+room nodes from to via = record { nodes = nodes; starts = from; ends = to; names = via }
+
+-- a time of every copy
 abbrev copyTimes : (ℕ → ℤ) → Graph → List ℤ
 copyTimes time G = map time (upto (length (G .nodes)) 0)
 
@@ -219,43 +297,66 @@ abbrev pub Holds : Fact → Type 0
 Holds (graphIs D Ls R) = removed (designGraph D) Ls ≡ R
 Holds (timesAre D T Ls ts) =
     let R : Graph = removed (designGraph D) Ls in
-    map (λ c. Times (arrivalAt (edgeDelay D) (pos T) R c) (requiredAt (edgeDelay D) (pos T) R c) (slackAt (edgeDelay D) (pos T) R c)) (upto (length (R .nodes)) 0) ≡ ts
+    let arrival = arrivalAt (edgeDelay D) (pos T) R in
+    let required = requiredAt (edgeDelay D) (pos T) R in
+    let slack = slackAt (edgeDelay D) (pos T) R in
+    map (λ c. Times (arrival c) (required c) (slack c)) (upto (length (R .nodes)) 0) ≡ ts
 Holds (nodesAre D T Ls ts) =
     let R : Graph = removed (designGraph D) Ls in
-    map
-    (nodeTimes (D .nodes) (R .nodes) (copyTimes (arrivalAt (edgeDelay D) (pos T) R) R) (copyTimes (requiredAt (edgeDelay D) (pos T) R) R) (copyTimes (slackAt (edgeDelay D) (pos T) R) R))
-    (upto (suc (D .nodes)) 0)
-    ≡ ts
+    let arrivals = copyTimes (arrivalAt (edgeDelay D) (pos T) R) R in
+    let requireds = copyTimes (requiredAt (edgeDelay D) (pos T) R) R in
+    let slacks = copyTimes (slackAt (edgeDelay D) (pos T) R) R in
+    map (nodeTimes (D .nodes) (R .nodes) arrivals requireds slacks) (upto (suc (D .nodes)) 0) ≡ ts
 Holds (removalIs D r o) = removeFromDesign D r ≡ o
 Holds (againIs D G r o) = removeFromGraph D (slicesOf G) r ≡ o
 Holds (programIs s o) = program s ≡ o
-Holds (cCallIs s n z bs) = let room : List ℕ = map (λ i. 0) (upto n 0) in (cCall s room ≡ z) × (cRoom s room ≡ bs)
+Holds (cCallIs s n z) = cCall s (zeros n) ≡ z
+Holds (cRoomIs s n bs) = cRoom s (zeros n) ≡ bs
 Holds (packedIs x bs) = packed x ≡ bs
 Holds (readIs bs r) = readNumber bs 0 ≡ r
 
-abbrev pub All : List Fact → Type 0
-All [] = Unit {0}
-All (f ∷ fs) = Holds f × All fs
+infixr 4 _also_
+pub data All : List Fact → Type 0 where
+  none : All []
+  _also_ : {f : Fact} {fs : List Fact} → Holds f → All fs → All (f ∷ fs)
 
 """
 
 
+# What marked-hold computes through.
+UNFOLDING = [
+    "flatMap designGraph edgesIn edgesOut runsTo runsFrom completeRuns permitted tails mark permittedRuns copies",
+    "joins trueGraph wellFormed arrivalAt requiredAt slackAt nodeTimes packedIn groupsIn readNumber writeAnswer",
+    "writtenRoom readDeck graphNumbers packedGraph designTests listTests candidates scratchTest roomTests testDeck",
+    "removeFromDesign removeFromGraph programRemoval program cCall cRoom",
+]
+
+TYPES = {w.Design: "Design", w.PathList: "PathList", w.Graph: "Graph", w.Room: "Room", bytes: "List ℕ"}
+
+
+def definition(name, x, comment):
+    lines = ["-- " + comment] if comment else []
+    lines.append("abbrev pub %s : %s" % (name, TYPES[type(x)]))
+    whole = "%s = %s" % (name, written_out(x))
+    if len(whole) <= WIDTH:
+        return lines + [whole, ""]
+    return lines + [name + " ="] + lines_of(written_out(x), " " * 4, ") ") + [""]
+
+
 def table():
-    lines, proofs = [], []
+    lines, count = [], 0
+    for name in NAMES:
+        lines += definition(*name)
+    lines += ["abbrev pub marked : List Fact", "marked ="]
     for comment, facts in ROWS:
         lines.append("    -- " + comment)
         for f in facts:
-            lines.append("    " + ("" if not proofs else "∷ ") + fact(*f))
-            proofs.append("(refl, refl)" if f[0] == "c" else "refl")
-    lines.append("    ∷ []")
-    proof = "".join("(%s, " % p for p in proofs) + "tt" + ")" * len(proofs)
-    return HEADER + """abbrev pub marked : List Fact
-marked =
-""" + "\n".join(lines) + """
-
-pub marked-hold : All marked
-unfolding flatMap designGraph edgesIn edgesOut runsTo runsFrom completeRuns permitted tails mark permittedRuns copies joins trueGraph wellFormed arrivalAt requiredAt slackAt nodeTimes packedIn groupsIn readNumber writeAnswer writtenRoom readDeck graphNumbers packedGraph designTests listTests candidates scratchTest roomTests testDeck removeFromDesign removeFromGraph programRemoval program cCall cRoom
-marked-hold = """ + proof + "\n"
+            lines += row("    ∷ " if count else "    ", fact(*f))
+            count += 1
+    lines += ["    ∷ []", "", "pub marked-hold : All marked"]
+    lines += ["unfolding " + UNFOLDING[0]] + ["    " + names for names in UNFOLDING[1:]]
+    lines += ["marked-hold ="] + lines_of("refl also " * count + "none", " " * 4, " also ")
+    return HEADER + "\n".join(lines) + "\n"
 
 
 def main():

@@ -1,5 +1,6 @@
--- The marked cases of document 01, M1 to M10, and rows that shut out wrong definitions which M1 to M10 would let through: one
--- table and one claim, shown by computing the definitions. Made by tests/marked_table.py: every result is the walker's.
+-- The marked cases of document 01, M1 to M10, and rows that shut out wrong definitions which M1 to M10 would let
+-- through: one table and one claim, shown by computing the definitions. Made by tests/marked_table.py: every result
+-- is the walker's.
 use Prim.Native.Nat.{ℕ, suc}
 use mathlib.Core.Path.{_≡_, refl}
 use mathlib.Core.List.{List, [], _∷_, map, flatMap}
@@ -10,7 +11,8 @@ use Rattle.timing.specs.declared.NumberRead.the-variants.{Refused as Not
 use Rattle.timing.specs.declared.NodeTimes.{NodeTimes}
 use Rattle.timing.specs.declared.NodeTimes.the-variants.{Times, None}
 use Rattle.timing.specs.Lists.{upto}
-use Rattle.timing.specs.Graphs.{Design, design, edgeDelay, edge, Graph, graph, designGraph, edgesIn, edgesOut, runsTo, runsFrom, completeRuns}
+use Rattle.timing.specs.Graphs.{Design, design, edgeDelay, edge, Graph, graph, designGraph, edgesIn, edgesOut}
+use Rattle.timing.specs.Graphs.{runsTo, runsFrom, completeRuns}
 use Rattle.timing.specs.Marks.{PathList, pathList, pathsOf, permitted, tails, mark}
 use Rattle.timing.specs.TrueGraphs.{permittedRuns, copies, joins, trueGraph}
 use Rattle.timing.specs.WellFormed.{wellFormed}
@@ -19,8 +21,9 @@ use Rattle.timing.specs.Numbers.{packedIn, packed, groupsIn, readNumber,
 use Rattle.timing.specs.Decks.{readDeck}
 use Rattle.timing.specs.GraphBytes.{graphNumbers, packedGraph}
 use Rattle.timing.specs.Refusals.{refusal}
-use Rattle.timing.specs.Tests.{designTests, listTests, candidates, scratchTest, roomTests}
-use Rattle.timing.specs.Calls.{Outcome, made, refused, Removal, removal, slicesOf, testDeck, removeFromDesign, removeFromGraph, programRemoval, program, cCall, cRoom}
+use Rattle.timing.specs.Tests.{Room, designTests, listTests, candidates, scratchTest, roomTests}
+use Rattle.timing.specs.Calls.{Outcome, made, refused, Removal, removal, slicesOf, testDeck}
+use Rattle.timing.specs.Calls.{removeFromDesign, removeFromGraph, programRemoval, program, cCall, cRoom}
 
 -- the graph after some lists are removed in turn
 abbrev pub removed : Graph → List PathList → Graph
@@ -34,11 +37,18 @@ pub data Fact : Type 0 where
   removalIs : Design → Removal → Outcome Graph → Fact
   againIs : Design → Graph → Removal → Outcome Graph → Fact
   programIs : List ℕ → Outcome Graph → Fact
-  cCallIs : List ℕ → ℕ → ℤ → List ℕ → Fact
+  cCallIs : List ℕ → ℕ → ℤ → Fact
+  cRoomIs : List ℕ → ℕ → List ℕ → Fact
   packedIs : ℕ → List ℕ → Fact
   readIs : List ℕ → NumberRead → Fact
 
--- the three times of every copy, one list for each
+abbrev pub zeros : ℕ → List ℕ
+zeros n = map (λ i. 0) (upto n 0)
+
+abbrev pub room : ℕ → ℕ → ℕ → ℕ → Room
+room nodes from to via = record { nodes = nodes; starts = from; ends = to; names = via }
+
+-- a time of every copy
 abbrev copyTimes : (ℕ → ℤ) → Graph → List ℤ
 copyTimes time G = map time (upto (length (G .nodes)) 0)
 
@@ -46,52 +56,144 @@ abbrev pub Holds : Fact → Type 0
 Holds (graphIs D Ls R) = removed (designGraph D) Ls ≡ R
 Holds (timesAre D T Ls ts) =
     let R : Graph = removed (designGraph D) Ls in
-    map (λ c. Times (arrivalAt (edgeDelay D) (pos T) R c) (requiredAt (edgeDelay D) (pos T) R c) (slackAt (edgeDelay D) (pos T) R c)) (upto (length (R .nodes)) 0) ≡ ts
+    let arrival = arrivalAt (edgeDelay D) (pos T) R in
+    let required = requiredAt (edgeDelay D) (pos T) R in
+    let slack = slackAt (edgeDelay D) (pos T) R in
+    map (λ c. Times (arrival c) (required c) (slack c)) (upto (length (R .nodes)) 0) ≡ ts
 Holds (nodesAre D T Ls ts) =
     let R : Graph = removed (designGraph D) Ls in
-    map
-    (nodeTimes (D .nodes) (R .nodes) (copyTimes (arrivalAt (edgeDelay D) (pos T) R) R) (copyTimes (requiredAt (edgeDelay D) (pos T) R) R) (copyTimes (slackAt (edgeDelay D) (pos T) R) R))
-    (upto (suc (D .nodes)) 0)
-    ≡ ts
+    let arrivals = copyTimes (arrivalAt (edgeDelay D) (pos T) R) R in
+    let requireds = copyTimes (requiredAt (edgeDelay D) (pos T) R) R in
+    let slacks = copyTimes (slackAt (edgeDelay D) (pos T) R) R in
+    map (nodeTimes (D .nodes) (R .nodes) arrivals requireds slacks) (upto (suc (D .nodes)) 0) ≡ ts
 Holds (removalIs D r o) = removeFromDesign D r ≡ o
 Holds (againIs D G r o) = removeFromGraph D (slicesOf G) r ≡ o
 Holds (programIs s o) = program s ≡ o
-Holds (cCallIs s n z bs) = let room : List ℕ = map (λ i. 0) (upto n 0) in (cCall s room ≡ z) × (cRoom s room ≡ bs)
+Holds (cCallIs s n z) = cCall s (zeros n) ≡ z
+Holds (cRoomIs s n bs) = cRoom s (zeros n) ≡ bs
 Holds (packedIs x bs) = packed x ≡ bs
 Holds (readIs bs r) = readNumber bs 0 ≡ r
 
-abbrev pub All : List Fact → Type 0
-All [] = Unit {0}
-All (f ∷ fs) = Holds f × All fs
+infixr 4 _also_
+pub data All : List Fact → Type 0 where
+  none : All []
+  _also_ : {f : Fact} {fs : List Fact} → Holds f → All fs → All (f ∷ fs)
+
+-- Deck A: its design, its list, its true graph and its bytes with T 10.
+abbrev pub deckA : Design
+deckA = design 5 (0 ∷ 1 ∷ 2 ∷ 2 ∷ []) (2 ∷ 2 ∷ 3 ∷ 4 ∷ []) (pos 3 ∷ pos 5 ∷ pos 2 ∷ pos 1 ∷ [])
+
+abbrev pub listA : PathList
+listA = pathList (1 ∷ 2 ∷ []) (2 ∷ [])
+
+abbrev pub graphA : Graph
+graphA = graph (0 ∷ 1 ∷ 2 ∷ 2 ∷ 3 ∷ 4 ∷ []) (edge 0 2 0 ∷ edge 1 2 1 ∷ edge 0 3 0 ∷ edge 3 4 2 ∷ edge 2 5 3 ∷ [])
+
+abbrev pub bytesA : List ℕ
+bytesA = 5 ∷ 4 ∷ 0 ∷ 2 ∷ 6 ∷ 1 ∷ 2 ∷ 10 ∷ 2 ∷ 3 ∷ 4 ∷ 2 ∷ 4 ∷ 2 ∷ 1 ∷ 2 ∷ 1 ∷ 2 ∷ 10 ∷ []
+
+-- The other designs, lists and graphs that rows are about.
+abbrev pub noPaths : PathList
+noPaths = pathList [] []
+
+abbrev pub noNodes : Design
+noNodes = design 0 [] [] []
+
+abbrev pub oneNode : Design
+oneNode = design 1 [] [] []
+
+abbrev pub chain : Design
+chain = design 3 (0 ∷ 1 ∷ []) (1 ∷ 2 ∷ []) (pos 1 ∷ pos 1 ∷ [])
+
+abbrev pub designM8 : Design
+designM8 =
+    design 6 (0 ∷ 1 ∷ 2 ∷ 3 ∷ 4 ∷ 3 ∷ []) (2 ∷ 2 ∷ 3 ∷ 4 ∷ 5 ∷ 5 ∷ [])
+    (pos 1 ∷ pos 1 ∷ pos 1 ∷ pos 1 ∷ pos 1 ∷ pos 1 ∷ [])
+
+abbrev pub listM8 : PathList
+listM8 = pathList (0 ∷ 2 ∷ 3 ∷ 1 ∷ 2 ∷ 3 ∷ 4 ∷ []) (3 ∷ 4 ∷ [])
+
+abbrev pub designM9 : Design
+designM9 = design 2 (0 ∷ []) (1 ∷ []) (negsuc 3 ∷ [])
+
+-- two edges for each step of a chain
+abbrev pub parallel : Design
+parallel =
+    design 4 (0 ∷ 0 ∷ 1 ∷ 1 ∷ 2 ∷ 2 ∷ []) (1 ∷ 1 ∷ 2 ∷ 2 ∷ 3 ∷ 3 ∷ [])
+    (pos 1 ∷ pos 2 ∷ pos 1 ∷ pos 2 ∷ pos 1 ∷ pos 2 ∷ [])
+
+-- two ways from node 2 to node 4, by one edge and by two
+abbrev pub twoLengths : Design
+twoLengths = design 5 (0 ∷ 1 ∷ 2 ∷ 3 ∷ 2 ∷ []) (2 ∷ 2 ∷ 3 ∷ 4 ∷ 4 ∷ []) (pos 1 ∷ pos 1 ∷ pos 1 ∷ pos 1 ∷ pos 1 ∷ [])
+
+-- node 1 has no edge
+abbrev pub isolated : Design
+isolated = design 3 (0 ∷ []) (2 ∷ []) (pos 1 ∷ [])
+
+abbrev pub forked : Design
+forked = design 4 (0 ∷ 1 ∷ 1 ∷ []) (1 ∷ 2 ∷ 3 ∷ []) (pos 0 ∷ pos 0 ∷ pos 0 ∷ [])
+
+-- of it: two copies of the source; and the same with its first two edges exchanged
+abbrev pub splitSource : Graph
+splitSource = graph (0 ∷ 0 ∷ 1 ∷ 1 ∷ 2 ∷ 3 ∷ []) (edge 0 2 0 ∷ edge 1 3 0 ∷ edge 2 4 1 ∷ edge 3 5 2 ∷ [])
+
+abbrev pub outOfOrder : Graph
+outOfOrder = graph (0 ∷ 0 ∷ 1 ∷ 1 ∷ 2 ∷ 3 ∷ []) (edge 1 3 0 ∷ edge 0 2 0 ∷ edge 2 4 1 ∷ edge 3 5 2 ∷ [])
+
+-- edge 0 falls; and with it an edge to a node that is not there
+abbrev pub falling : Design
+falling = design 2 (1 ∷ []) (0 ∷ []) (pos 0 ∷ [])
+
+abbrev pub fallingAndUnknown : Design
+fallingAndUnknown = design 2 (1 ∷ 0 ∷ []) (0 ∷ 2 ∷ []) (pos 0 ∷ pos 0 ∷ [])
+
+-- the deck program's room
+abbrev pub ample : Room
+ample = room 512 2048 2048 2048
 
 abbrev pub marked : List Fact
 marked =
     -- M1: deck A
-    graphIs (design 5 (0 ∷ 1 ∷ 2 ∷ 2 ∷ []) (2 ∷ 2 ∷ 3 ∷ 4 ∷ []) ((pos 3) ∷ (pos 5) ∷ (pos 2) ∷ (pos 1) ∷ [])) ((pathList (1 ∷ 2 ∷ []) (2 ∷ [])) ∷ []) (graph (0 ∷ 1 ∷ 2 ∷ 2 ∷ 3 ∷ 4 ∷ []) (edge 0 2 0 ∷ edge 1 2 1 ∷ edge 0 3 0 ∷ edge 3 4 2 ∷ edge 2 5 3 ∷ []))
-    ∷ timesAre (design 5 (0 ∷ 1 ∷ 2 ∷ 2 ∷ []) (2 ∷ 2 ∷ 3 ∷ 4 ∷ []) ((pos 3) ∷ (pos 5) ∷ (pos 2) ∷ (pos 1) ∷ [])) 10 ((pathList (1 ∷ 2 ∷ []) (2 ∷ [])) ∷ []) (Times (pos 0) (pos 5) (pos 5) ∷ Times (pos 0) (pos 4) (pos 4) ∷ Times (pos 5) (pos 9) (pos 4) ∷ Times (pos 3) (pos 8) (pos 5) ∷ Times (pos 5) (pos 10) (pos 5) ∷ Times (pos 6) (pos 10) (pos 4) ∷ [])
-    ∷ nodesAre (design 5 (0 ∷ 1 ∷ 2 ∷ 2 ∷ []) (2 ∷ 2 ∷ 3 ∷ 4 ∷ []) ((pos 3) ∷ (pos 5) ∷ (pos 2) ∷ (pos 1) ∷ [])) 10 ((pathList (1 ∷ 2 ∷ []) (2 ∷ [])) ∷ []) (Times (pos 0) (pos 5) (pos 5) ∷ Times (pos 0) (pos 4) (pos 4) ∷ Times (pos 5) (pos 8) (pos 4) ∷ Times (pos 5) (pos 10) (pos 5) ∷ Times (pos 6) (pos 10) (pos 4) ∷ None ∷ [])
-    ∷ programIs (5 ∷ 4 ∷ 0 ∷ 2 ∷ 6 ∷ 1 ∷ 2 ∷ 10 ∷ 2 ∷ 3 ∷ 4 ∷ 2 ∷ 4 ∷ 2 ∷ 1 ∷ 2 ∷ 1 ∷ 2 ∷ 10 ∷ []) (made (graph (0 ∷ 1 ∷ 2 ∷ 2 ∷ 3 ∷ 4 ∷ []) (edge 0 2 0 ∷ edge 1 2 1 ∷ edge 0 3 0 ∷ edge 3 4 2 ∷ edge 2 5 3 ∷ [])))
-    ∷ cCallIs (5 ∷ 4 ∷ 0 ∷ 2 ∷ 6 ∷ 1 ∷ 2 ∷ 10 ∷ 2 ∷ 3 ∷ 4 ∷ 2 ∷ 4 ∷ 2 ∷ 1 ∷ 2 ∷ 1 ∷ 2 ∷ 10 ∷ []) 64 (pos 23) (6 ∷ 0 ∷ 1 ∷ 2 ∷ 2 ∷ 3 ∷ 4 ∷ 5 ∷ 0 ∷ 2 ∷ 0 ∷ 1 ∷ 2 ∷ 1 ∷ 0 ∷ 3 ∷ 0 ∷ 3 ∷ 4 ∷ 2 ∷ 2 ∷ 5 ∷ 3 ∷ 0 ∷ 0 ∷ 0 ∷ 0 ∷ 0 ∷ 0 ∷ 0 ∷ 0 ∷ 0 ∷ 0 ∷ 0 ∷ 0 ∷ 0 ∷ 0 ∷ 0 ∷ 0 ∷ 0 ∷ 0 ∷ 0 ∷ 0 ∷ 0 ∷ 0 ∷ 0 ∷ 0 ∷ 0 ∷ 0 ∷ 0 ∷ 0 ∷ 0 ∷ 0 ∷ 0 ∷ 0 ∷ 0 ∷ 0 ∷ 0 ∷ 0 ∷ 0 ∷ 0 ∷ 0 ∷ 0 ∷ 0 ∷ [])
+    graphIs deckA (listA ∷ []) graphA
+    ∷ timesAre deckA 10 (listA ∷ [])
+    (Times (pos 0) (pos 5) (pos 5) ∷ Times (pos 0) (pos 4) (pos 4) ∷ Times (pos 5) (pos 9) (pos 4) ∷
+    Times (pos 3) (pos 8) (pos 5) ∷ Times (pos 5) (pos 10) (pos 5) ∷ Times (pos 6) (pos 10) (pos 4) ∷ [])
+    ∷ nodesAre deckA 10 (listA ∷ [])
+    (Times (pos 0) (pos 5) (pos 5) ∷ Times (pos 0) (pos 4) (pos 4) ∷ Times (pos 5) (pos 8) (pos 4) ∷
+    Times (pos 5) (pos 10) (pos 5) ∷ Times (pos 6) (pos 10) (pos 4) ∷ None ∷ [])
+    ∷ programIs bytesA (made graphA)
+    ∷ cCallIs bytesA 64 (pos 23)
+    ∷ cRoomIs bytesA 64
+    (6 ∷ 0 ∷ 1 ∷ 2 ∷ 2 ∷ 3 ∷ 4 ∷ 5 ∷ 0 ∷ 2 ∷ 0 ∷ 1 ∷ 2 ∷ 1 ∷ 0 ∷ 3 ∷ 0 ∷ 3 ∷ 4 ∷ 2 ∷ 2 ∷ 5 ∷ 3 ∷ zeros 41)
     -- M2: no nodes
-    ∷ graphIs (design 0 ([]) ([]) ([])) ((pathList ([]) ([])) ∷ []) (graph ([]) ([]))
+    ∷ graphIs noNodes (noPaths ∷ []) (graph [] [])
     -- M3: one node, no edges
-    ∷ graphIs (design 1 ([]) ([]) ([])) ((pathList ([]) ([])) ∷ []) (graph (0 ∷ []) ([]))
-    ∷ timesAre (design 1 ([]) ([]) ([])) 7 ((pathList ([]) ([])) ∷ []) (Times (pos 0) (pos 7) (pos 7) ∷ [])
+    ∷ graphIs oneNode (noPaths ∷ []) (graph (0 ∷ []) [])
+    ∷ timesAre oneNode 7 (noPaths ∷ []) (Times (pos 0) (pos 7) (pos 7) ∷ [])
     -- M4: A with only path 2; a graph handed back uncut does not meet it
-    ∷ graphIs (design 5 (0 ∷ 1 ∷ 2 ∷ 2 ∷ []) (2 ∷ 2 ∷ 3 ∷ 4 ∷ []) ((pos 3) ∷ (pos 5) ∷ (pos 2) ∷ (pos 1) ∷ [])) ((pathList (2 ∷ []) (1 ∷ [])) ∷ []) (graph (0 ∷ 1 ∷ 2 ∷ 4 ∷ []) (edge 0 2 0 ∷ edge 1 2 1 ∷ edge 2 3 3 ∷ []))
-    ∷ nodesAre (design 5 (0 ∷ 1 ∷ 2 ∷ 2 ∷ []) (2 ∷ 2 ∷ 3 ∷ 4 ∷ []) ((pos 3) ∷ (pos 5) ∷ (pos 2) ∷ (pos 1) ∷ [])) 10 ((pathList (2 ∷ []) (1 ∷ [])) ∷ []) (Times (pos 0) (pos 6) (pos 6) ∷ Times (pos 0) (pos 4) (pos 4) ∷ Times (pos 5) (pos 9) (pos 4) ∷ None ∷ Times (pos 6) (pos 10) (pos 4) ∷ None ∷ [])
+    ∷ graphIs deckA (pathList (2 ∷ []) (1 ∷ []) ∷ [])
+    (graph (0 ∷ 1 ∷ 2 ∷ 4 ∷ []) (edge 0 2 0 ∷ edge 1 2 1 ∷ edge 2 3 3 ∷ []))
+    ∷ nodesAre deckA 10 (pathList (2 ∷ []) (1 ∷ []) ∷ [])
+    (Times (pos 0) (pos 6) (pos 6) ∷ Times (pos 0) (pos 4) (pos 4) ∷ Times (pos 5) (pos 9) (pos 4) ∷ None ∷
+    Times (pos 6) (pos 10) (pos 4) ∷ None ∷ [])
     -- M5: A with 0,2 and 1,2: the graph of M4
-    ∷ graphIs (design 5 (0 ∷ 1 ∷ 2 ∷ 2 ∷ []) (2 ∷ 2 ∷ 3 ∷ 4 ∷ []) ((pos 3) ∷ (pos 5) ∷ (pos 2) ∷ (pos 1) ∷ [])) ((pathList (0 ∷ 2 ∷ 1 ∷ 2 ∷ []) (2 ∷ 2 ∷ [])) ∷ []) (graph (0 ∷ 1 ∷ 2 ∷ 4 ∷ []) (edge 0 2 0 ∷ edge 1 2 1 ∷ edge 2 3 3 ∷ []))
+    ∷ graphIs deckA (pathList (0 ∷ 2 ∷ 1 ∷ 2 ∷ []) (2 ∷ 2 ∷ []) ∷ [])
+    (graph (0 ∷ 1 ∷ 2 ∷ 4 ∷ []) (edge 0 2 0 ∷ edge 1 2 1 ∷ edge 2 3 3 ∷ []))
     -- M6: A with 1,2 and 0,3; then by parts, which differs by a renumbering of node 2
-    ∷ graphIs (design 5 (0 ∷ 1 ∷ 2 ∷ 2 ∷ []) (2 ∷ 2 ∷ 3 ∷ 4 ∷ []) ((pos 3) ∷ (pos 5) ∷ (pos 2) ∷ (pos 1) ∷ [])) ((pathList (1 ∷ 2 ∷ 0 ∷ 3 ∷ []) (2 ∷ 2 ∷ [])) ∷ []) (graph (0 ∷ 1 ∷ 2 ∷ 2 ∷ 3 ∷ 4 ∷ []) (edge 0 2 0 ∷ edge 1 3 1 ∷ edge 2 4 2 ∷ edge 3 5 3 ∷ []))
-    ∷ graphIs (design 5 (0 ∷ 1 ∷ 2 ∷ 2 ∷ []) (2 ∷ 2 ∷ 3 ∷ 4 ∷ []) ((pos 3) ∷ (pos 5) ∷ (pos 2) ∷ (pos 1) ∷ [])) ((pathList (1 ∷ 2 ∷ []) (2 ∷ [])) ∷ (pathList (0 ∷ 3 ∷ []) (2 ∷ [])) ∷ []) (graph (0 ∷ 1 ∷ 2 ∷ 2 ∷ 3 ∷ 4 ∷ []) (edge 1 2 1 ∷ edge 0 3 0 ∷ edge 3 4 2 ∷ edge 2 5 3 ∷ []))
+    ∷ graphIs deckA (pathList (1 ∷ 2 ∷ 0 ∷ 3 ∷ []) (2 ∷ 2 ∷ []) ∷ [])
+    (graph (0 ∷ 1 ∷ 2 ∷ 2 ∷ 3 ∷ 4 ∷ []) (edge 0 2 0 ∷ edge 1 3 1 ∷ edge 2 4 2 ∷ edge 3 5 3 ∷ []))
+    ∷ graphIs deckA (listA ∷ pathList (0 ∷ 3 ∷ []) (2 ∷ []) ∷ [])
+    (graph (0 ∷ 1 ∷ 2 ∷ 2 ∷ 3 ∷ 4 ∷ []) (edge 1 2 1 ∷ edge 0 3 0 ∷ edge 3 4 2 ∷ edge 2 5 3 ∷ []))
     -- M7: a list that removes everything
-    ∷ graphIs (design 3 (0 ∷ 1 ∷ []) (1 ∷ 2 ∷ []) ((pos 1) ∷ (pos 1) ∷ [])) ((pathList (0 ∷ 1 ∷ []) (2 ∷ [])) ∷ []) (graph ([]) ([]))
+    ∷ graphIs chain (pathList (0 ∷ 1 ∷ []) (2 ∷ []) ∷ []) (graph [] [])
     -- M8: following only the long tail leaves edge 0 in a false path
-    ∷ graphIs (design 6 (0 ∷ 1 ∷ 2 ∷ 3 ∷ 4 ∷ 3 ∷ []) (2 ∷ 2 ∷ 3 ∷ 4 ∷ 5 ∷ 5 ∷ []) ((pos 1) ∷ (pos 1) ∷ (pos 1) ∷ (pos 1) ∷ (pos 1) ∷ (pos 1) ∷ [])) ((pathList (0 ∷ 2 ∷ 3 ∷ 1 ∷ 2 ∷ 3 ∷ 4 ∷ []) (3 ∷ 4 ∷ [])) ∷ []) (graph (0 ∷ 1 ∷ 2 ∷ 3 ∷ 5 ∷ []) (edge 0 2 0 ∷ edge 1 2 1 ∷ edge 2 3 2 ∷ edge 3 4 5 ∷ []))
-    ∷ nodesAre (design 6 (0 ∷ 1 ∷ 2 ∷ 3 ∷ 4 ∷ 3 ∷ []) (2 ∷ 2 ∷ 3 ∷ 4 ∷ 5 ∷ 5 ∷ []) ((pos 1) ∷ (pos 1) ∷ (pos 1) ∷ (pos 1) ∷ (pos 1) ∷ (pos 1) ∷ [])) 10 ((pathList (0 ∷ 2 ∷ 3 ∷ 1 ∷ 2 ∷ 3 ∷ 4 ∷ []) (3 ∷ 4 ∷ [])) ∷ []) (Times (pos 0) (pos 7) (pos 7) ∷ Times (pos 0) (pos 7) (pos 7) ∷ Times (pos 1) (pos 8) (pos 7) ∷ Times (pos 2) (pos 9) (pos 7) ∷ None ∷ Times (pos 3) (pos 10) (pos 7) ∷ None ∷ [])
+    ∷ graphIs designM8 (listM8 ∷ [])
+    (graph (0 ∷ 1 ∷ 2 ∷ 3 ∷ 5 ∷ []) (edge 0 2 0 ∷ edge 1 2 1 ∷ edge 2 3 2 ∷ edge 3 4 5 ∷ []))
+    ∷ nodesAre designM8 10 (listM8 ∷ [])
+    (Times (pos 0) (pos 7) (pos 7) ∷ Times (pos 0) (pos 7) (pos 7) ∷ Times (pos 1) (pos 8) (pos 7) ∷
+    Times (pos 2) (pos 9) (pos 7) ∷ None ∷ Times (pos 3) (pos 10) (pos 7) ∷ None ∷ [])
     -- M9: an arrival below 0; a largest arrival that starts from 0 does not meet it
-    ∷ timesAre (design 2 (0 ∷ []) (1 ∷ []) ((negsuc 3) ∷ [])) 10 ((pathList ([]) ([])) ∷ []) (Times (pos 0) (pos 14) (pos 14) ∷ Times (negsuc 3) (pos 10) (pos 14) ∷ [])
+    ∷ timesAre designM9 10 (noPaths ∷ []) (Times (pos 0) (pos 14) (pos 14) ∷ Times (negsuc 3) (pos 10) (pos 14) ∷ [])
     -- M10: packed numbers
     ∷ packedIs 127 (127 ∷ [])
     ∷ packedIs 128 (128 ∷ 1 ∷ [])
@@ -100,32 +202,45 @@ marked =
     ∷ readIs (255 ∷ 255 ∷ 255 ∷ 255 ∷ 16 ∷ []) (NotRead (refusal 2 0))
     ∷ readIs (128 ∷ []) (NotRead (refusal 1 1))
     -- Inner tails, with parallel edges: shuts out only the longest tail of each path
-    ∷ graphIs (design 4 (0 ∷ 0 ∷ 1 ∷ 1 ∷ 2 ∷ 2 ∷ []) (1 ∷ 1 ∷ 2 ∷ 2 ∷ 3 ∷ 3 ∷ []) ((pos 1) ∷ (pos 2) ∷ (pos 1) ∷ (pos 2) ∷ (pos 1) ∷ (pos 2) ∷ [])) ((pathList (0 ∷ 2 ∷ 4 ∷ []) (3 ∷ [])) ∷ []) (graph (0 ∷ 1 ∷ 1 ∷ 2 ∷ 2 ∷ 3 ∷ []) (edge 0 1 0 ∷ edge 0 1 1 ∷ edge 0 2 1 ∷ edge 1 3 2 ∷ edge 1 3 3 ∷ edge 2 4 2 ∷ edge 1 4 3 ∷ edge 4 5 4 ∷ edge 3 5 5 ∷ []))
+    ∷ graphIs parallel (pathList (0 ∷ 2 ∷ 4 ∷ []) (3 ∷ []) ∷ [])
+    (graph (0 ∷ 1 ∷ 1 ∷ 2 ∷ 2 ∷ 3 ∷ []) (edge 0 1 0 ∷ edge 0 1 1 ∷ edge 0 2 1 ∷ edge 1 3 2 ∷ edge 1 3 3 ∷ edge 2 4 2 ∷
+    edge 1 4 3 ∷ edge 4 5 4 ∷ edge 3 5 5 ∷ []))
     -- Marks by length before edges: mark 4 comes before mark 2,3 at node 2; shuts out the dictionary order alone
-    ∷ graphIs (design 5 (0 ∷ 1 ∷ 2 ∷ 3 ∷ 2 ∷ []) (2 ∷ 2 ∷ 3 ∷ 4 ∷ 4 ∷ []) ((pos 1) ∷ (pos 1) ∷ (pos 1) ∷ (pos 1) ∷ (pos 1) ∷ [])) ((pathList (0 ∷ 4 ∷ 0 ∷ 2 ∷ 3 ∷ []) (2 ∷ 3 ∷ [])) ∷ []) (graph (1 ∷ 2 ∷ 2 ∷ 3 ∷ 4 ∷ []) (edge 0 1 1 ∷ edge 0 2 1 ∷ edge 2 3 2 ∷ edge 3 4 3 ∷ edge 1 4 4 ∷ []))
+    ∷ graphIs twoLengths (pathList (0 ∷ 4 ∷ 0 ∷ 2 ∷ 3 ∷ []) (2 ∷ 3 ∷ []) ∷ [])
+    (graph (1 ∷ 2 ∷ 2 ∷ 3 ∷ 4 ∷ []) (edge 0 1 1 ∷ edge 0 2 1 ∷ edge 2 3 2 ∷ edge 3 4 3 ∷ edge 1 4 4 ∷ []))
     -- Parallel edges are two paths: shuts out paths as lists of nodes
-    ∷ graphIs (design 4 (0 ∷ 0 ∷ 1 ∷ 1 ∷ 2 ∷ 2 ∷ []) (1 ∷ 1 ∷ 2 ∷ 2 ∷ 3 ∷ 3 ∷ []) ((pos 1) ∷ (pos 2) ∷ (pos 1) ∷ (pos 2) ∷ (pos 1) ∷ (pos 2) ∷ [])) ((pathList (1 ∷ 3 ∷ []) (1 ∷ 1 ∷ [])) ∷ []) (graph (0 ∷ 1 ∷ 2 ∷ 3 ∷ []) (edge 0 1 0 ∷ edge 1 2 2 ∷ edge 2 3 4 ∷ edge 2 3 5 ∷ []))
+    ∷ graphIs parallel (pathList (1 ∷ 3 ∷ []) (1 ∷ 1 ∷ []) ∷ [])
+    (graph (0 ∷ 1 ∷ 2 ∷ 3 ∷ []) (edge 0 1 0 ∷ edge 1 2 2 ∷ edge 2 3 4 ∷ edge 2 3 5 ∷ []))
     -- An isolated node keeps its copy: shuts out copies by edges alone
-    ∷ graphIs (design 3 (0 ∷ []) (2 ∷ []) ((pos 1) ∷ [])) ((pathList (0 ∷ []) (1 ∷ [])) ∷ []) (graph (1 ∷ []) ([]))
+    ∷ graphIs isolated (pathList (0 ∷ []) (1 ∷ []) ∷ []) (graph (1 ∷ []) [])
     -- A listed path inside another, and one listed twice: shuts out a mark by the first path that fits
-    ∷ graphIs (design 6 (0 ∷ 1 ∷ 2 ∷ 3 ∷ 4 ∷ 3 ∷ []) (2 ∷ 2 ∷ 3 ∷ 4 ∷ 5 ∷ 5 ∷ []) ((pos 1) ∷ (pos 1) ∷ (pos 1) ∷ (pos 1) ∷ (pos 1) ∷ (pos 1) ∷ [])) ((pathList (0 ∷ 2 ∷ 3 ∷ 2 ∷ 3 ∷ 0 ∷ 2 ∷ 3 ∷ []) (3 ∷ 2 ∷ 3 ∷ [])) ∷ []) (graph (0 ∷ 1 ∷ 2 ∷ 3 ∷ 5 ∷ []) (edge 0 2 0 ∷ edge 1 2 1 ∷ edge 2 3 2 ∷ edge 3 4 5 ∷ []))
+    ∷ graphIs designM8 (pathList (0 ∷ 2 ∷ 3 ∷ 2 ∷ 3 ∷ 0 ∷ 2 ∷ 3 ∷ []) (3 ∷ 2 ∷ 3 ∷ []) ∷ [])
+    (graph (0 ∷ 1 ∷ 2 ∷ 3 ∷ 5 ∷ []) (edge 0 2 0 ∷ edge 1 2 1 ∷ edge 2 3 2 ∷ edge 3 4 5 ∷ []))
     -- Scratch: 16 words for 6 candidates, 2 listed edges and 4 edges, and one word less
-    ∷ removalIs (design 5 (0 ∷ 1 ∷ 2 ∷ 2 ∷ []) (2 ∷ 2 ∷ 3 ∷ 4 ∷ []) ((pos 3) ∷ (pos 5) ∷ (pos 2) ∷ (pos 1) ∷ [])) (removal (pathList (1 ∷ 2 ∷ []) (2 ∷ [])) (record { nodes = 512; starts = 2048; ends = 2048; names = 2048 }) 192) (made (graph (0 ∷ 1 ∷ 2 ∷ 2 ∷ 3 ∷ 4 ∷ []) (edge 0 2 0 ∷ edge 1 2 1 ∷ edge 0 3 0 ∷ edge 3 4 2 ∷ edge 2 5 3 ∷ [])))
-    ∷ removalIs (design 5 (0 ∷ 1 ∷ 2 ∷ 2 ∷ []) (2 ∷ 2 ∷ 3 ∷ 4 ∷ []) ((pos 3) ∷ (pos 5) ∷ (pos 2) ∷ (pos 1) ∷ [])) (removal (pathList (1 ∷ 2 ∷ []) (2 ∷ [])) (record { nodes = 512; starts = 2048; ends = 2048; names = 2048 }) 191) (refused (refusal 31 0))
+    ∷ removalIs deckA (removal listA ample 192) (made graphA)
+    ∷ removalIs deckA (removal listA ample 191) (refused (refusal 31 0))
     -- Room: 5 copies on A; 4 edges on A; rooms that differ in length come before a bad edge
-    ∷ removalIs (design 5 (0 ∷ 1 ∷ 2 ∷ 2 ∷ []) (2 ∷ 2 ∷ 3 ∷ 4 ∷ []) ((pos 3) ∷ (pos 5) ∷ (pos 2) ∷ (pos 1) ∷ [])) (removal (pathList (1 ∷ 2 ∷ []) (2 ∷ [])) (record { nodes = 5; starts = 9; ends = 9; names = 9 }) 192) (refused (refusal 33 0))
-    ∷ removalIs (design 5 (0 ∷ 1 ∷ 2 ∷ 2 ∷ []) (2 ∷ 2 ∷ 3 ∷ 4 ∷ []) ((pos 3) ∷ (pos 5) ∷ (pos 2) ∷ (pos 1) ∷ [])) (removal (pathList (1 ∷ 2 ∷ []) (2 ∷ [])) (record { nodes = 6; starts = 4; ends = 4; names = 4 }) 192) (refused (refusal 34 0))
-    ∷ removalIs (design 2 (1 ∷ []) (0 ∷ []) ((pos 0) ∷ [])) (removal (pathList ([]) ([])) (record { nodes = 6; starts = 4; ends = 3; names = 4 }) 192) (refused (refusal 30 0))
+    ∷ removalIs deckA (removal listA (room 5 9 9 9) 192) (refused (refusal 33 0))
+    ∷ removalIs deckA (removal listA (room 6 4 4 4) 192) (refused (refusal 34 0))
+    ∷ removalIs falling (removal noPaths (room 6 4 3 4) 192) (refused (refusal 30 0))
     -- One number over everything before the next: 12 at edge 1 before 13 at edge 0; 23 at path 1 before 24 at path 0
-    ∷ removalIs (design 2 (1 ∷ 0 ∷ []) (0 ∷ 2 ∷ []) ((pos 0) ∷ (pos 0) ∷ [])) (removal (pathList ([]) ([])) (record { nodes = 512; starts = 2048; ends = 2048; names = 2048 }) 192) (refused (refusal 12 1))
-    ∷ removalIs (design 5 (0 ∷ 1 ∷ 2 ∷ 2 ∷ []) (2 ∷ 2 ∷ 3 ∷ 4 ∷ []) ((pos 3) ∷ (pos 5) ∷ (pos 2) ∷ (pos 1) ∷ [])) (removal (pathList (2 ∷ 1 ∷ 9 ∷ []) (2 ∷ 1 ∷ [])) (record { nodes = 512; starts = 2048; ends = 2048; names = 2048 }) 999) (refused (refusal 23 1))
-    ∷ removalIs (design 5 (0 ∷ 1 ∷ 2 ∷ 2 ∷ []) (2 ∷ 2 ∷ 3 ∷ 4 ∷ []) ((pos 3) ∷ (pos 5) ∷ (pos 2) ∷ (pos 1) ∷ [])) (removal (pathList (0 ∷ 2 ∷ 2 ∷ 1 ∷ []) (2 ∷ 2 ∷ [])) (record { nodes = 512; starts = 2048; ends = 2048; names = 2048 }) 999) (refused (refusal 24 1))
+    ∷ removalIs fallingAndUnknown (removal noPaths ample 192) (refused (refusal 12 1))
+    ∷ removalIs deckA (removal (pathList (2 ∷ 1 ∷ 9 ∷ []) (2 ∷ 1 ∷ [])) ample 999) (refused (refusal 23 1))
+    ∷ removalIs deckA (removal (pathList (0 ∷ 2 ∷ 2 ∷ 1 ∷ []) (2 ∷ 2 ∷ [])) ample 999) (refused (refusal 24 1))
     -- An earlier graph that is not the design: two copies of a source, which removal keeps apart
-    ∷ againIs (design 4 (0 ∷ 1 ∷ 1 ∷ []) (1 ∷ 2 ∷ 3 ∷ []) ((pos 0) ∷ (pos 0) ∷ (pos 0) ∷ [])) (graph (0 ∷ 0 ∷ 1 ∷ 1 ∷ 2 ∷ 3 ∷ []) (edge 0 2 0 ∷ edge 1 3 0 ∷ edge 2 4 1 ∷ edge 3 5 2 ∷ [])) (removal (pathList (0 ∷ 1 ∷ []) (2 ∷ [])) (record { nodes = 512; starts = 2048; ends = 2048; names = 2048 }) 999) (made (graph (0 ∷ 1 ∷ 3 ∷ []) (edge 0 1 0 ∷ edge 1 2 2 ∷ [])))
-    -- An earlier graph that is not well formed: its last edge out of order
-    ∷ againIs (design 4 (0 ∷ 1 ∷ 1 ∷ []) (1 ∷ 2 ∷ 3 ∷ []) ((pos 0) ∷ (pos 0) ∷ (pos 0) ∷ [])) (graph (0 ∷ 0 ∷ 1 ∷ 1 ∷ 2 ∷ 3 ∷ []) (edge 1 3 0 ∷ edge 0 2 0 ∷ edge 2 4 1 ∷ edge 3 5 2 ∷ [])) (removal (pathList (0 ∷ 1 ∷ []) (2 ∷ [])) (record { nodes = 512; starts = 2048; ends = 2048; names = 2048 }) 999) (refused (refusal 32 0))
+    ∷ againIs forked splitSource (removal (pathList (0 ∷ 1 ∷ []) (2 ∷ [])) ample 999)
+    (made (graph (0 ∷ 1 ∷ 3 ∷ []) (edge 0 1 0 ∷ edge 1 2 2 ∷ [])))
+    -- An earlier graph that is not well formed: two edges out of order
+    ∷ againIs forked outOfOrder (removal (pathList (0 ∷ 1 ∷ []) (2 ∷ [])) ample 999) (refused (refusal 32 0))
     ∷ []
 
 pub marked-hold : All marked
-unfolding flatMap designGraph edgesIn edgesOut runsTo runsFrom completeRuns permitted tails mark permittedRuns copies joins trueGraph wellFormed arrivalAt requiredAt slackAt nodeTimes packedIn groupsIn readNumber writeAnswer writtenRoom readDeck graphNumbers packedGraph designTests listTests candidates scratchTest roomTests testDeck removeFromDesign removeFromGraph programRemoval program cCall cRoom
-marked-hold = (refl, (refl, (refl, (refl, ((refl, refl), (refl, (refl, (refl, (refl, (refl, (refl, (refl, (refl, (refl, (refl, (refl, (refl, (refl, (refl, (refl, (refl, (refl, (refl, (refl, (refl, (refl, (refl, (refl, (refl, (refl, (refl, (refl, (refl, (refl, (refl, (refl, (refl, (refl, tt))))))))))))))))))))))))))))))))))))))
+unfolding flatMap designGraph edgesIn edgesOut runsTo runsFrom completeRuns permitted tails mark permittedRuns copies
+    joins trueGraph wellFormed arrivalAt requiredAt slackAt nodeTimes packedIn groupsIn readNumber writeAnswer
+    writtenRoom readDeck graphNumbers packedGraph designTests listTests candidates scratchTest roomTests testDeck
+    removeFromDesign removeFromGraph programRemoval program cCall cRoom
+marked-hold =
+    refl also refl also refl also refl also refl also refl also refl also refl also refl also refl also refl also
+    refl also refl also refl also refl also refl also refl also refl also refl also refl also refl also refl also
+    refl also refl also refl also refl also refl also refl also refl also refl also refl also refl also refl also
+    refl also refl also refl also refl also refl also refl also none
