@@ -1,8 +1,7 @@
 -- How far a reader gets, whatever it finds.
 use Prim.Native.Nat.{ℕ, suc, _+_, _-_, _≤_, _<_}
 use native.Mathlib.Omega.{arith}
-use mathlib.Core.Path.{_≡_, refl, sym, _∙_}
-use mathlib.Core.Bool.{Bool, true, false}
+use mathlib.Core.Path.{_≡_, refl, sym, _∙_, ap}
 use mathlib.Core.List.{List, _∷_, _++_}
 use lib.Dec.{leb}
 use lib.ListN.{length}
@@ -19,17 +18,14 @@ use Rattle.timing.specs.Numbers.{readNumber}
 use Rattle.timing.specs.Refusals.{refusal, unless, _then_}
 use Rattle.timing.specs.Parsing.{Parsed, found, stopped, Reader, onward, _>>=_, _>>_, return, tested, parsedNumber, number, repeated, row, ended}
 use Rattle.timing.specs.Decks.{Tables, paths, readDeck}
+use Rattle.timing.specs.declared.Looked.{Looked}
 use Rattle.timing.specs.declared.Looked.the-variants.{At, Refused}
 use Rattle.timing.specs.Looks.{looked, numberOf}
-use Rattle.deck_reader.specs.Reading.{verdictOf, countIn, pathIn, tailIn, deckIn}
+use Rattle.deck_reader.specs.Reading.{verdictOf, nodesIn, countIn, pathIn, edgesIn, designIn, listIn, tailIn, placeOf, behind, verdictBehind}
 use Rattle.timing.proofs.Verdicts.{then-passed, unless-passed}
 use Rattle.packed_lists.proofs.Looking.{looked-made}
 
 -- a reader that goes on, from where the one before it stopped
-pub looked-onward : {A B C : Type 0} (p : Parsed A) (f : A → Reader B) (g : A → Reader C) → ((x : A) (at : ℕ) → looked (f x at) ≡ looked (g x at)) → looked (onward p f) ≡ looked (onward p g)
-looked-onward (found x at) f g h = h x at
-looked-onward (stopped r) f g h = refl
-
 verdict-onward : {A B C : Type 0} (p : Parsed A) (f : A → Reader B) (g : A → Reader C) → ((x : A) (at : ℕ) → verdictOf (f x at) ≡ verdictOf (g x at)) → verdictOf (onward p f) ≡ verdictOf (onward p g)
 verdict-onward (found x at) f g h = h x at
 verdict-onward (stopped r) f g h = refl
@@ -149,69 +145,71 @@ paths-end s table count k sum at h =
     let d : count - k ≡ 0 = omega arith in
     rw d
 
--- One thing after the other, by what the look at the first answered.
-module _ {A B : Type 0} (p : Parsed A) (f : Reader B) where
-  pub then-at : (at : ℕ) (v : Verdict) → At at ≡ looked p → v ≡ verdictOf (f at) → v ≡ verdictOf (onward p (λ x. f))
-  then-at at v e g = by p e
-    where
-      by : (p : Parsed A) → At at ≡ looked p → v ≡ verdictOf (onward p (λ x. f))
-      by (found x a) q = let d : at ≡ a = cc in rw (← d) g
-      by (stopped r) q = absurd (let z : _≡_ {A = ℕ} 0 1 = cc in omega arith)
-
-  pub then-stop : (r : Refusal) → Refused r ≡ looked p → NotPassed r ≡ verdictOf (onward p (λ x. f))
-  then-stop r e = by p e
-    where
-      by : (p : Parsed A) → Refused r ≡ looked p → NotPassed r ≡ verdictOf (onward p (λ x. f))
-      by (found x a) q = absurd (let z : _≡_ {A = ℕ} 0 1 = cc in omega arith)
-      by (stopped r') q = let d : r ≡ r' = cc in rw d
-
+-- what stands behind a count, by what the look at the count answered
 module _ {B : Type 0} (p : Parsed ℕ) (f : ℕ → Reader B) where
-  pub number-at : (n at : ℕ) (v : Verdict) → numberOf p ≡ Value n at → v ≡ verdictOf (f n at) → v ≡ verdictOf (onward p f)
-  number-at n at v e g = by p e
+  pub number-at : (n at : ℕ) (l : Looked) → numberOf p ≡ Value n at → l ≡ looked (f n at) → l ≡ looked (onward p f)
+  number-at n at l e g = by p e
     where
-      by : (p : Parsed ℕ) → numberOf p ≡ Value n at → v ≡ verdictOf (onward p f)
+      by : (p : Parsed ℕ) → numberOf p ≡ Value n at → l ≡ looked (onward p f)
       by (found x a) q =
           let d : n ≡ x = cc in
           let b : at ≡ a = cc in
           rw (← d, ← b) g
       by (stopped r) q = absurd (let z : _≡_ {A = ℕ} 0 1 = cc in omega arith)
 
-  pub number-stop : (r : Refusal) → numberOf p ≡ NotRead r → NotPassed r ≡ verdictOf (onward p f)
+  pub number-stop : (r : Refusal) → numberOf p ≡ NotRead r → Refused r ≡ looked (onward p f)
   number-stop r e = by p e
     where
-      by : (p : Parsed ℕ) → numberOf p ≡ NotRead r → NotPassed r ≡ verdictOf (onward p f)
+      by : (p : Parsed ℕ) → numberOf p ≡ NotRead r → Refused r ≡ looked (onward p f)
       by (found x a) q = absurd (let z : _≡_ {A = ℕ} 0 1 = cc in omega arith)
       by (stopped r') q = let d : r ≡ r' = cc in rw d
 
--- the number of nodes has a limit and no table
-nodes-test : (n : ℕ) → (unless 10 (leb (0 + n) 4096) then unless 36 (leb (0 + n) 4096)) ≡ unless 10 (leb n 4096)
-nodes-test n =
-    let d : 0 + n ≡ n = omega arith in
-    rw d (by (leb n 4096))
-  where
-    by : (b : Bool) → (unless 10 b then unless 36 b) ≡ unless 10 b
-    by true = refl
-    by false = refl
+-- n, by what was read
+pub nodes-is : (s : List ℕ) (at v next : ℕ) (w : Verdict) → readNumber s at ≡ Value v next → w ≡ unless 10 (leb v 4096)
+    → numberOf (onward (tested w next) (λ x. return v)) ≡ numberOf (nodesIn s at)
+nodes-is s at v next w e f = rw (f, e)
+
+pub nodes-none : (s : List ℕ) (at : ℕ) (r : Refusal) → readNumber s at ≡ NotRead r → NotRead r ≡ numberOf (nodesIn s at)
+nodes-none s at r e = rw e
 
 -- The look at the whole is the reader's verdict.
-counted : {A B : Type 0} (s : List ℕ) (test limit table at : ℕ) (v : ℕ → Verdict) (f : ℕ → Reader A) (g : ℕ → Reader B)
-    → ((n : ℕ) → (unless test (leb (0 + n) limit) then unless 36 (leb (0 + n) table)) ≡ v n) → ((n a : ℕ) → verdictOf (f n a) ≡ verdictOf (g n a))
-    → verdictOf (onward (countIn s 0 test limit table at) f) ≡ verdictOf (onward (number s at) (λ n. tested (v n) >> g n))
-counted {A} {B} s test limit table at v f g e h = one (readNumber s at)
+-- part by part, each from the place that the one before it got to
+steps : {A B C : Type 0} (p : Parsed A) (f : Reader B) (g : Reader C)
+    → (let d = looked p in let l = behind d (looked (f (placeOf d))) in verdictBehind l (verdictOf (g (placeOf l)))) ≡ verdictOf (onward p (λ x. f >>= (λ y. g)))
+steps {A} {B} {C} (found x at) f g = by (f at)
+  where
+    by : (q : Parsed B) → verdictBehind (looked q) (verdictOf (g (placeOf (looked q)))) ≡ verdictOf (onward q (λ y. g))
+    by (found y a) = refl
+    by (stopped r) = refl
+steps (stopped r) f g = refl
+
+counted : {A B : Type 0} (s : List ℕ) (test limit table at : ℕ) (f : ℕ → Reader A) (g : ℕ → Reader B) → ((n a : ℕ) → verdictOf (f n a) ≡ verdictOf (g n a))
+    → verdictOf (onward (countIn s 0 test limit table at) f) ≡ verdictOf (onward (number s at) (λ n. tested (unless test (leb n limit) then unless 36 (leb n table)) >> g n))
+counted {A} {B} s test limit table at f g h = one (readNumber s at)
   where
     two : (n a : ℕ) (w : Verdict) → verdictOf (onward (onward (tested w a) (λ u. return n)) f) ≡ verdictOf (onward (tested w a) (λ u. g n))
     two n a Passed = h n a
     two n a (NotPassed r) = refl
 
     one : (r : NumberRead) → verdictOf (onward (onward (parsedNumber r) (λ n. tested (unless test (leb (0 + n) limit) then unless 36 (leb (0 + n) table)) >> return n)) f)
-        ≡ verdictOf (onward (parsedNumber r) (λ n. tested (v n) >> g n))
-    one (Value n a) = rw (e n) (two n a (v n))
+        ≡ verdictOf (onward (parsedNumber r) (λ n. tested (unless test (leb n limit) then unless 36 (leb n table)) >> g n))
+    one (Value n a) =
+        let d : 0 + n ≡ n = omega arith in
+        rw d (two n a (unless test (leb n limit) then unless 36 (leb n table)))
     one (NotRead r) = refl
 
-zero-test : (test limit table n : ℕ) → (unless test (leb (0 + n) limit) then unless 36 (leb (0 + n) table)) ≡ (unless test (leb n limit) then unless 36 (leb n table))
-zero-test test limit table n =
-    let d : 0 + n ≡ n = omega arith in
-    rw d
+-- a limit and no table
+limited : {A B : Type 0} (s : List ℕ) (at : ℕ) (f : ℕ → Reader A) (g : ℕ → Reader B) → ((n a : ℕ) → verdictOf (f n a) ≡ verdictOf (g n a))
+    → verdictOf (onward (nodesIn s at) f) ≡ verdictOf (onward (number s at) (λ n. tested (unless 10 (leb n 4096)) >> g n))
+limited {A} {B} s at f g h = one (readNumber s at)
+  where
+    two : (n a : ℕ) (w : Verdict) → verdictOf (onward (onward (tested w a) (λ u. return n)) f) ≡ verdictOf (onward (tested w a) (λ u. g n))
+    two n a Passed = h n a
+    two n a (NotPassed r) = refl
+
+    one : (r : NumberRead) → verdictOf (onward (onward (parsedNumber r) (λ n. tested (unless 10 (leb n 4096)) >> return n)) f) ≡ verdictOf (onward (parsedNumber r) (λ n. tested (unless 10 (leb n 4096)) >> g n))
+    one (Value n a) = two n a (unless 10 (leb n 4096))
+    one (NotRead r) = refl
 
 tail-made : {A : Type 0} (s : List ℕ) (at : ℕ) (f : ℕ → A) → verdictOf (tailIn s at) ≡ verdictOf ((number s >>= (λ t. ended s >> return (f t))) at)
 tail-made {A} s at f = verdict-onward (number s at) (λ t. ended s) (λ t. ended s >> return (f t)) (λ t a. by t (ended s a))
@@ -220,13 +218,17 @@ tail-made {A} s at f = verdict-onward (number s at) (λ t. ended s) (λ t. ended
     by t (found u a) = refl
     by t (stopped r) = refl
 
-pub look-is : (s : List ℕ) (tables : Tables) → verdictOf (deckIn s tables 0) ≡ verdictOf (readDeck s tables)
+pub look-is : (s : List ℕ) (tables : Tables)
+    → (let d = looked (designIn s (tables .edges) 0) in let l = behind d (looked (listIn s (tables .listed) (tables .paths) (placeOf d))) in verdictBehind l (verdictOf (tailIn s (placeOf l)))) ≡ verdictOf (readDeck s tables)
 unfolding readDeck
 look-is s tables =
-    counted s 10 4096 4096 0 (λ n. unless 10 (leb n 4096)) _ _ nodes-test
-    (λ n a. counted s 11 16384 (tables .edges) a (λ m. unless 11 (leb m 16384) then unless 36 (leb m (tables .edges))) _ _ (zero-test 11 16384 (tables .edges))
+    let rest : Reader (Unit {0}) = listIn s (tables .listed) (tables .paths) >>= (λ l. tailIn s) in
+    steps (designIn s (tables .edges) 0) (listIn s (tables .listed) (tables .paths)) (tailIn s)
+    ∙ ap verdictOf (onward-assoc (nodesIn s 0) (λ n. edgesIn s (tables .edges)) (λ rows. rest))
+    ∙ limited s 0 _ _
+    (λ n a. ap verdictOf (onward-assoc (countIn s 0 11 16384 (tables .edges) a) (λ m. repeated m (row s)) (λ rows. rest)) ∙ counted s 11 16384 (tables .edges) a _ _
     (λ m b. verdict-onward (repeated m (row s) b) _ _
-    (λ edges c. counted s 20 1024 (tables .paths) c (λ m. unless 20 (leb m 1024) then unless 36 (leb m (tables .paths))) _ _ (zero-test 20 1024 (tables .paths))
+    (λ edges c. ap verdictOf (onward-assoc (countIn s 0 20 1024 (tables .paths) c) (λ count. paths s (tables .listed) count 0) (λ list. tailIn s)) ∙ counted s 20 1024 (tables .paths) c _ _
     (λ count d. verdict-onward (paths s (tables .listed) count 0 d) _ _
     (λ list e. tail-made s e _)))))
 

@@ -29,7 +29,7 @@ use Rattle.timing.specs.declared.DeckRead.the-variants.{Refused as NoDeck}
 use Rattle.timing.specs.Tests.{sameSizes}
 use Rattle.timing.specs.Calls.{Outcome, made, refused, parsed, filled, deckRead, deckAnswer}
 use Rattle.timing.specs.Looks.{valueOf, nextOf, valueAt, nextAt, rowAt, rowEnd}
-use Rattle.deck_reader.specs.Reading.{verdictOf, numbersFrom, numbersEnd, rowsFrom, rowsEnd, startsFrom, endsFrom, delaysFrom, pathEnd, edgesFrom, lengthsFrom, pathsEnd, edgesPlace, edgeCount, countPlace, pathCount, pathsPlace, deckFrom, Fits}
+use Rattle.deck_reader.specs.Reading.{verdictOf, numbersFrom, numbersEnd, rowsFrom, rowsEnd, startsFrom, endsFrom, delaysFrom, pathEnd, edgesFrom, lengthsFrom, pathsEnd, edgesPlace, edgeCount, designFrom, countPlace, listFrom, listEnd, deckFrom, Fits}
 use Rattle.timing.proofs.Verdicts.{then-passed, unless-passed}
 use Rattle.deck_reader.proofs.Looking.{count-passed}
 use Rattle.packed_lists.proofs.Rooms.{sets-append}
@@ -155,12 +155,12 @@ module _ (s : List ℕ) (tables : Tables) where
       let mi : m ≡ edgeCount s 0 = rw (g .0, h .1) in
       let bi : b ≡ edgesPlace s 0 = rw (g .1, h .1) in
       let ci : c ≡ countPlace s 0 = rw (r .1, mi, bi) in
-      let ki : count ≡ pathCount s 0 = rw (k .0, ci) in
-      let pi : p ≡ pathsPlace s 0 = rw (k .1, ci) in
+      let ki : count ≡ valueAt s (countPlace s 0) = rw (k .0, ci) in
+      let pi : p ≡ nextAt s (countPlace s 0) = rw (k .1, ci) in
       let ri : rows ≡ rowsFrom s (edgeCount s 0) (edgesPlace s 0) = rw (r .0, mi, bi) in
-      let ti : t ≡ pathsEnd s (pathCount s 0) (pathsPlace s 0) = rw (l .1, ki, pi) in
-      let li : list ≡ pathList (edgesFrom s (pathCount s 0) (pathsPlace s 0)) (lengthsFrom s (pathCount s 0) (pathsPlace s 0)) = rw (l .0, ki, pi) in
-      let fi : 0 + length (edgesFrom s (pathCount s 0) (pathsPlace s 0)) ≤ tables .listed = rw (← ki, ← pi) (l .2 (omega arith)) in (
+      let ti : t ≡ pathsEnd s (valueAt s (countPlace s 0)) (nextAt s (countPlace s 0)) = rw (l .1, ki, pi) in
+      let li : list ≡ pathList (edgesFrom s (valueAt s (countPlace s 0)) (nextAt s (countPlace s 0))) (lengthsFrom s (valueAt s (countPlace s 0)) (nextAt s (countPlace s 0))) = rw (l .0, ki, pi) in
+      let fi : 0 + length (edgesFrom s (valueAt s (countPlace s 0)) (nextAt s (countPlace s 0))) ≤ tables .listed = rw (← ki, ← pi) (l .2 (omega arith)) in (
         rw (h .0, ri, li, q, ti),
         record { edges = rw (← mi) ml; paths = rw (← ki) cl; listed = omega arith },
       )
@@ -308,22 +308,19 @@ sets-placed l vs h =
     let d : 0 + length vs ≡ length vs = omega arith in
     sets-eq vs l 0 (omega arith) ∙ ap (λ (n : ℕ). vs ++ drop n l) d
 
--- the deck's tables, placed
+-- the design's tables, placed
 module _ (s : List ℕ) (from m at : ℕ) (mi : m ≡ edgeCount s from) (ai : at ≡ edgesPlace s from) where
-  pub starts-placed : (l l' : List ℕ) → m ≤ length l → l' ≡ sets l 0 (startsFrom s m at) → l' ≡ placed (deckFrom s from .design .starts) l
-  unfolding deckFrom
+  pub starts-placed : (l l' : List ℕ) → m ≤ length l → l' ≡ sets l 0 (startsFrom s m at) → l' ≡ placed (designFrom s from .starts) l
   starts-placed l l' h e =
       let n : length (startsFrom s m at) ≡ m = length-map (rowsFrom s m at) (λ (r : Row). r .first) ∙ length-rows s m at in
       e ∙ sets-placed l (startsFrom s m at) (omega arith) ∙ rw (mi, ai)
 
-  pub ends-placed : (l l' : List ℕ) → m ≤ length l → l' ≡ sets l 0 (endsFrom s m at) → l' ≡ placed (deckFrom s from .design .ends) l
-  unfolding deckFrom
+  pub ends-placed : (l l' : List ℕ) → m ≤ length l → l' ≡ sets l 0 (endsFrom s m at) → l' ≡ placed (designFrom s from .ends) l
   ends-placed l l' h e =
       let n : length (endsFrom s m at) ≡ m = length-map (rowsFrom s m at) (λ (r : Row). r .second) ∙ length-rows s m at in
       e ∙ sets-placed l (endsFrom s m at) (omega arith) ∙ rw (mi, ai)
 
-  pub delays-placed : (l l' : List ℤ) → m ≤ length l → l' ≡ sets l 0 (delaysFrom s m at) → l' ≡ placed (deckFrom s from .design .delays) l
-  unfolding deckFrom
+  pub delays-placed : (l l' : List ℤ) → m ≤ length l → l' ≡ sets l 0 (delaysFrom s m at) → l' ≡ placed (designFrom s from .delays) l
   delays-placed l l' h e =
       let n : length (delaysFrom s m at) ≡ m = length-map (rowsFrom s m at) (λ (r : Row). delayOf (r .third)) ∙ length-rows s m at in
       e ∙ sets-placed l (delaysFrom s m at) (omega arith) ∙ rw (mi, ai)
@@ -332,28 +329,39 @@ module _ (s : List ℕ) (from m at : ℕ) (mi : m ≡ edgeCount s from) (ai : at
   unfolding countPlace
   count-place next e = e ∙ rw (mi, ai)
 
-module _ (s : List ℕ) (from k at : ℕ) (ki : k ≡ pathCount s from) (ai : at ≡ pathsPlace s from) where
-  pub listed-placed : (l l' : List ℕ) → length (edgesFrom s k at) ≤ length l → l' ≡ sets l 0 (edgesFrom s k at) → l' ≡ placed (deckFrom s from .list .edges) l
-  unfolding deckFrom
+-- the list's
+module _ (s : List ℕ) (from k at : ℕ) (ki : k ≡ valueAt s from) (ai : at ≡ nextAt s from) where
+  pub listed-placed : (l l' : List ℕ) → length (edgesFrom s k at) ≤ length l → l' ≡ sets l 0 (edgesFrom s k at) → l' ≡ placed (listFrom s from .edges) l
   listed-placed l l' h e = e ∙ sets-placed l (edgesFrom s k at) h ∙ rw (ki, ai)
 
-  pub lengths-placed : (l l' : List ℕ) → k ≤ length l → l' ≡ sets l 0 (lengthsFrom s k at) → l' ≡ placed (deckFrom s from .list .lengths) l
-  unfolding deckFrom
+  pub lengths-placed : (l l' : List ℕ) → k ≤ length l → l' ≡ sets l 0 (lengthsFrom s k at) → l' ≡ placed (listFrom s from .lengths) l
   lengths-placed l l' h e =
       let n = length-lengths s k at in
       e ∙ sets-placed l (lengthsFrom s k at) (omega arith) ∙ rw (ki, ai)
 
-  -- and the answer
-  pub answer-is : (nodes edges listed t last : ℕ) → nodes ≡ valueAt s from → edges ≡ edgeCount s from → listed ≡ length (edgesFrom s k at) → last ≡ pathsEnd s k at → t ≡ valueAt s last
-      → DeckFound nodes edges listed k t ≡ deckAnswer (made (deckFrom s from))
-  unfolding deckFrom
-  answer-is nodes edges listed t last e f g h i =
-      let n : length (startsFrom s (edgeCount s from) (edgesPlace s from)) ≡ edgeCount s from = length-map (rowsFrom s (edgeCount s from) (edgesPlace s from)) (λ (r : Row). r .first) ∙ length-rows s (edgeCount s from) (edgesPlace s from) in
-      let p : length (lengthsFrom s (pathCount s from) (pathsPlace s from)) ≡ pathCount s from = length-lengths s (pathCount s from) (pathsPlace s from) in
-      rw (e, f, g, i, h, n, p, ki, ai)
+  pub list-end : (next : ℕ) → next ≡ pathsEnd s k at → next ≡ listEnd s from
+  list-end next e = e ∙ rw (ki, ai)
 
-pub fits-paths : (s : List ℕ) (from : ℕ) (tables : Tables) (k at : ℕ) → k ≡ pathCount s from → at ≡ pathsPlace s from → Fits s from tables → (length (edgesFrom s k at) ≤ tables .listed) × (k ≤ tables .paths)
-fits-paths s from tables k at ki ai f = rw (ki, ai) (f .listed, f .paths)
+  pub list-fits : (listed lengths : ℕ) → (length (listFrom s from .edges) ≤ listed) × (valueAt s from ≤ lengths) → (length (edgesFrom s k at) ≤ listed) × (k ≤ lengths)
+  list-fits listed lengths h = rw (ki, ai) h
+
+-- The parts make the deck: the design, the list from the place behind the design, and T from the place behind the list.
+module _ (s : List ℕ) (next : ℕ) (behind : next ≡ countPlace s 0) where
+  pub fits-list : (tables : Tables) → Fits s 0 tables → (length (listFrom s next .edges) ≤ tables .listed) × (valueAt s next ≤ tables .paths)
+  fits-list tables f = rw behind (f .listed, f .paths)
+
+  pub deck-filled : (nodes edges listed paths t last : ℕ) (starts starts' ends ends' : List ℕ) (delays delays' : List ℤ) (table table' lengths lengths' : List ℕ)
+      → (nodes ≡ designFrom s 0 .nodes) × (edges ≡ edgeCount s 0) → (paths ≡ valueAt s next) × (listed ≡ length (listFrom s next .edges)) × (last ≡ listEnd s next) → t ≡ valueAt s last
+      → (starts' ≡ placed (designFrom s 0 .starts) starts) × (ends' ≡ placed (designFrom s 0 .ends) ends) × (delays' ≡ placed (designFrom s 0 .delays) delays)
+      → (table' ≡ placed (listFrom s next .edges) table) × (lengths' ≡ placed (listFrom s next .lengths) lengths)
+      → (let d = deckFrom s 0 in (DeckFound nodes edges listed paths t ≡ deckAnswer (made d)) × (starts' ≡ placed (d .design .starts) starts) × (ends' ≡ placed (d .design .ends) ends) × (delays' ≡ placed (d .design .delays) delays)
+      × (table' ≡ placed (d .list .edges) table) × (lengths' ≡ placed (d .list .lengths) lengths))
+  unfolding deckFrom
+  deck-filled nodes edges listed paths t last starts starts' ends ends' delays delays' table table' lengths lengths' h g q f e =
+      let n : length (startsFrom s (edgeCount s 0) (edgesPlace s 0)) ≡ edgeCount s 0 = length-map (rowsFrom s (edgeCount s 0) (edgesPlace s 0)) (λ (r : Row). r .first) ∙ length-rows s (edgeCount s 0) (edgesPlace s 0) in
+      let p : length (lengthsFrom s (valueAt s (countPlace s 0)) (nextAt s (countPlace s 0))) ≡ valueAt s (countPlace s 0) = length-lengths s (valueAt s (countPlace s 0)) (nextAt s (countPlace s 0)) in
+      let a : DeckFound nodes edges listed paths t ≡ deckAnswer (made (deckFrom s 0)) = rw (h .0, h .1, g .0, g .1, q, g .2, n, p, behind) in
+      (a, f .0, f .1, f .2, rw (← behind) (e .0), rw (← behind) (e .1))
 
 -- The reader as a whole: 30, then a refusal by the look, then the deck.
 module _ (s : List ℕ) (starts ends delays listed lengths : ℕ) where
@@ -378,9 +386,9 @@ module _ (starts ends : List ℕ) (delays : List ℤ) (listed lengths : List ℕ
       × (listed ≡ filled (λ d. d .list .edges) o listed) × (lengths ≡ filled (λ d. d .list .lengths) o lengths)
   tables-kept r e = rw e (refl, refl, refl, refl, refl, refl)
 
-  pub tables-filled : (d : Deck) (answer : DeckRead) (starts' ends' : List ℕ) (delays' : List ℤ) (listed' lengths' : List ℕ) → o ≡ made d → answer ≡ deckAnswer (made d)
-      → (starts' ≡ placed (d .design .starts) starts) × (ends' ≡ placed (d .design .ends) ends) × (delays' ≡ placed (d .design .delays) delays)
-      → (listed' ≡ placed (d .list .edges) listed) × (lengths' ≡ placed (d .list .lengths) lengths)
+  pub tables-filled : (d : Deck) (answer : DeckRead) (starts' ends' : List ℕ) (delays' : List ℤ) (listed' lengths' : List ℕ) → o ≡ made d
+      → (answer ≡ deckAnswer (made d)) × (starts' ≡ placed (d .design .starts) starts) × (ends' ≡ placed (d .design .ends) ends) × (delays' ≡ placed (d .design .delays) delays)
+      × (listed' ≡ placed (d .list .edges) listed) × (lengths' ≡ placed (d .list .lengths) lengths)
       → (answer ≡ deckAnswer o) × (starts' ≡ filled (λ d. d .design .starts) o starts) × (ends' ≡ filled (λ d. d .design .ends) o ends) × (delays' ≡ filled (λ d. d .design .delays) o delays)
       × (listed' ≡ filled (λ d. d .list .edges) o listed) × (lengths' ≡ filled (λ d. d .list .lengths) o lengths)
-  tables-filled d answer starts' ends' delays' listed' lengths' e a f g = rw e (a, f .0, f .1, f .2, g .0, g .1)
+  tables-filled d answer starts' ends' delays' listed' lengths' e f = rw e f

@@ -1,6 +1,5 @@
 -- Reading in two goes, a look and a fill (`Looks` of `timing`).
 use Prim.Native.Nat.{ℕ, zero, suc, _+_, _≤_}
-use mathlib.Core.Path.{_≡_}
 use mathlib.Core.List.{List, [], _∷_, _++_, map}
 use lib.Dec.{leb}
 use lib.IntN.{ℤ}
@@ -8,21 +7,27 @@ use lib.ListN.{length}
 use Rattle.timing.specs.declared.Verdict.{Verdict}
 use Rattle.timing.specs.declared.Verdict.the-variants.{Passed}
 use Rattle.timing.specs.declared.Verdict.the-variants.{Refused as NotPassed}
-use Rattle.timing.specs.Graphs.{design}
+use Rattle.timing.specs.declared.Looked.{Looked}
+use Rattle.timing.specs.declared.Looked.the-variants.{At, Refused}
+use Rattle.timing.specs.Graphs.{Design, design}
 use Rattle.timing.specs.Marks.{PathList, pathList}
 use Rattle.timing.specs.Delays.{delayOf}
 use Rattle.timing.specs.Refusals.{unless, _then_}
 use Rattle.timing.specs.Parsing.{Parsed, found, stopped, Reader, onward, _>>=_, _>>_, return, tested, number, repeated, Row, row, ended}
 use Rattle.timing.specs.Looks.{valueAt, nextAt, rowAt, rowEnd}
 use Rattle.timing.specs.Decks.{Deck, Tables, paths}
-use Rattle.timing.specs.Lists.{placed}
-use Rattle.timing.specs.Calls.{deckAnswer, made}
-use Rattle.timing.specs.declared.DeckRead.{DeckRead}
 
 -- whether a reader stopped
 abbrev pub verdictOf : {A : Type 0} → Parsed A → Verdict
 verdictOf (found x at) = Passed
 verdictOf (stopped r) = NotPassed r
+
+-- n, which has a limit and no table
+abbrev pub nodesIn : List ℕ → Reader ℕ
+nodesIn s = do
+  n ← number s
+  tested (unless 10 (leb n 4096))
+  return n
 
 -- a count: a number whose sum with what was counted before is at most a limit, and then at most a table
 abbrev pub countIn : List ℕ → ℕ → ℕ → ℕ → ℕ → Reader ℕ
@@ -38,28 +43,39 @@ pathIn s table sum = do
   p ← repeated n (number s)
   return n
 
--- the deck from T on, from the list on, from the edges on, and the whole
+-- the count of edges and the edges; the design; the list; T and the end
+abbrev pub edgesIn : List ℕ → ℕ → Reader (List Row)
+edgesIn s table = do
+  m ← countIn s 0 11 16384 table
+  repeated m (row s)
+
+abbrev pub designIn : List ℕ → ℕ → Reader (List Row)
+designIn s table = do
+  n ← nodesIn s
+  edgesIn s table
+
+abbrev pub listIn : List ℕ → ℕ → ℕ → Reader PathList
+listIn s listed table = do
+  count ← countIn s 0 20 1024 table
+  paths s listed count 0
+
 abbrev pub tailIn : List ℕ → Reader (Unit {0})
 tailIn s = do
   t ← number s
   ended s
 
-abbrev pub listIn : List ℕ → Tables → Reader (Unit {0})
-listIn s tables = do
-  count ← countIn s 0 20 1024 (tables .paths)
-  list ← paths s (tables .listed) count 0
-  tailIn s
+-- the place that a look got to, and what stands behind one: nothing is looked at behind a refusal
+abbrev pub placeOf : Looked → ℕ
+placeOf (At at) = at
+placeOf (Refused r) = 0
 
-abbrev pub edgesIn : List ℕ → Tables → Reader (Unit {0})
-edgesIn s tables = do
-  m ← countIn s 0 11 16384 (tables .edges)
-  edges ← repeated m (row s)
-  listIn s tables
+abbrev pub behind : Looked → Looked → Looked
+behind (At at) next = next
+behind (Refused r) next = Refused r
 
-abbrev pub deckIn : List ℕ → Tables → Reader (Unit {0})
-deckIn s tables = do
-  n ← countIn s 0 10 4096 4096
-  edgesIn s tables
+abbrev pub verdictBehind : Looked → Verdict → Verdict
+verdictBehind (At at) v = v
+verdictBehind (Refused r) v = NotPassed r
 
 -- k numbers from a place on, and the place behind them
 abbrev pub numbersFrom : List ℕ → ℕ → ℕ → List ℕ
@@ -103,41 +119,35 @@ abbrev pub pathsEnd : List ℕ → ℕ → ℕ → ℕ
 pathsEnd s zero at = at
 pathsEnd s (suc k) at = pathsEnd s k (pathEnd s at)
 
--- where each part of the deck at a place begins, and the deck
+-- the design at a place, with the place behind it; the list, likewise; and the deck
 abbrev pub edgesPlace : List ℕ → ℕ → ℕ
 edgesPlace s at = nextAt s (nextAt s at)
 
 abbrev pub edgeCount : List ℕ → ℕ → ℕ
 edgeCount s at = valueAt s (nextAt s at)
 
+abbrev pub designFrom : List ℕ → ℕ → Design
+designFrom s at =
+    design (valueAt s at) (startsFrom s (edgeCount s at) (edgesPlace s at)) (endsFrom s (edgeCount s at) (edgesPlace s at)) (delaysFrom s (edgeCount s at) (edgesPlace s at))
+
 unfoldable pub countPlace : List ℕ → ℕ → ℕ
 countPlace s at = rowsEnd s (edgeCount s at) (edgesPlace s at)
 
-abbrev pub pathCount : List ℕ → ℕ → ℕ
-pathCount s at = valueAt s (countPlace s at)
+abbrev pub listFrom : List ℕ → ℕ → PathList
+listFrom s at = pathList (edgesFrom s (valueAt s at) (nextAt s at)) (lengthsFrom s (valueAt s at) (nextAt s at))
 
-abbrev pub pathsPlace : List ℕ → ℕ → ℕ
-pathsPlace s at = nextAt s (countPlace s at)
+abbrev pub listEnd : List ℕ → ℕ → ℕ
+listEnd s at = pathsEnd s (valueAt s at) (nextAt s at)
 
 unfoldable pub deckFrom : List ℕ → ℕ → Deck
 deckFrom s at = record {
-  design = design (valueAt s at) (startsFrom s (edgeCount s at) (edgesPlace s at)) (endsFrom s (edgeCount s at) (edgesPlace s at)) (delaysFrom s (edgeCount s at) (edgesPlace s at));
-  list = pathList (edgesFrom s (pathCount s at) (pathsPlace s at)) (lengthsFrom s (pathCount s at) (pathsPlace s at));
-  allowed = valueAt s (pathsEnd s (pathCount s at) (pathsPlace s at));
+  design = designFrom s at;
+  list = listFrom s (countPlace s at);
+  allowed = valueAt s (listEnd s (countPlace s at));
 }
 
 -- the deck fits the tables
 pub record Fits (s : List ℕ) (at : ℕ) (tables : Tables) : Type 0 where
   pub edges : edgeCount s at ≤ tables .edges
-  pub paths : pathCount s at ≤ tables .paths
-  pub listed : length (edgesFrom s (pathCount s at) (pathsPlace s at)) ≤ tables .listed
-
--- tables that a deck at a place can be put into, and what is left in them
-abbrev pub CanFill : List ℕ → ℕ → List ℕ → List ℕ → List ℤ → List ℕ → List ℕ → Type 0
-CanFill s at starts ends delays listed lengths = Fits s at (record { edges = length starts; listed = length listed; paths = length lengths }) × ((length ends ≡ length starts) × (length delays ≡ length starts))
-
-abbrev pub HasFilled : Deck → DeckRead → List ℕ → List ℕ → List ℤ → List ℕ → List ℕ → List ℕ → List ℕ → List ℤ → List ℕ → List ℕ → Type 0
-HasFilled d r starts ends delays listed lengths starts' ends' delays' listed' lengths' =
-    (r ≡ deckAnswer (made d))
-    × (((starts' ≡ placed (d .design .starts) starts) × (ends' ≡ placed (d .design .ends) ends) × (delays' ≡ placed (d .design .delays) delays))
-    × ((listed' ≡ placed (d .list .edges) listed) × (lengths' ≡ placed (d .list .lengths) lengths)))
+  pub paths : valueAt s (countPlace s at) ≤ tables .paths
+  pub listed : length (listFrom s (countPlace s at) .edges) ≤ tables .listed

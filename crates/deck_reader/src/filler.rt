@@ -1,4 +1,5 @@
-// The second go of the reader: the tables are filled. The look has passed, so that every number is there.
+// The second go of the reader: the tables are filled. The look has passed, so that every number is there. Each
+// function works on a plain slice and place.
 ghost use mathlib.Core.Path.{_≡_};
 ghost use Prim.Native.Nat.{_+_, _≤_, _<_};
 ghost use lib.ListN.{length, set};
@@ -6,9 +7,12 @@ ghost use lib.Seq.{sets};
 ghost use Rattle.timing.specs.Lists.{placed};
 ghost use Rattle.timing.specs.Delays.{delayOf};
 ghost use Rattle.timing.specs.Looks.{valueAt, nextAt, rowAt, rowEnd};
-ghost use Rattle.deck_reader.specs.Reading.{numbersFrom, numbersEnd, startsFrom, endsFrom, delaysFrom, rowsEnd, pathEnd, edgesFrom, lengthsFrom, pathsEnd, edgeCount, countPlace, deckFrom, CanFill, HasFilled};
-use super::Edges;
-use super::Listed;
+ghost use Rattle.timing.specs.declared.DeckRead.the-variants.{Deck as DeckFound};
+ghost use Rattle.deck_reader.specs.Reading.{numbersFrom, numbersEnd, pathEnd, edgesFrom, lengthsFrom, pathsEnd};
+ghost use Rattle.deck_reader.specs.Reading.{startsFrom, endsFrom, delaysFrom, rowsEnd};
+ghost use Rattle.deck_reader.specs.Reading.{edgeCount, countPlace, designFrom, listFrom, listEnd};
+use super::DesignRead;
+use super::ListRead;
 use entries::wide;
 use packed_lists::take_number;
 use timing::DeckRead;
@@ -31,7 +35,12 @@ fn fill_row(
     delays: &mut [i32],
 ) -> usize
     requires { ⌜ (i < length (now starts)) × (i < length (now ends)) × (i < length (now delays)) ⌝ }
-    ensures { λ r. ⌜ (r ≡ rowEnd (now (s .entry)) at) × (now (starts .exit) ≡ set (now (starts .entry)) i (rowAt (now (s .entry)) at .first)) × (now (ends .exit) ≡ set (now (ends .entry)) i (rowAt (now (s .entry)) at .second)) × (now (delays .exit) ≡ set (now (delays .entry)) i (delayOf (rowAt (now (s .entry)) at .third))) ⌝ }
+    ensures { λ r.
+        let row = rowAt (now (s .entry)) at in
+        ⌜ (r ≡ rowEnd (now (s .entry)) at)
+        × (now (starts .exit) ≡ set (now (starts .entry)) i (row .first))
+        × (now (ends .exit) ≡ set (now (ends .entry)) i (row .second))
+        × (now (delays .exit) ≡ set (now (delays .entry)) i (delayOf (row .third))) ⌝ }
 {
     let a = take_number(s, at);
     let second = a.next;
@@ -53,7 +62,10 @@ fn fill_rows(
     delays: &mut [i32],
 ) -> usize
     requires { ⌜ (m ≤ length (now starts)) × (m ≤ length (now ends)) × (m ≤ length (now delays)) ⌝ }
-    ensures { λ r. ⌜ (r ≡ rowsEnd (now (s .entry)) m at) × (now (starts .exit) ≡ sets (now (starts .entry)) 0 (startsFrom (now (s .entry)) m at)) × (now (ends .exit) ≡ sets (now (ends .entry)) 0 (endsFrom (now (s .entry)) m at)) × (now (delays .exit) ≡ sets (now (delays .entry)) 0 (delaysFrom (now (s .entry)) m at)) ⌝ }
+    ensures { λ r. ⌜ (r ≡ rowsEnd (now (s .entry)) m at)
+        × (now (starts .exit) ≡ sets (now (starts .entry)) 0 (startsFrom (now (s .entry)) m at))
+        × (now (ends .exit) ≡ sets (now (ends .entry)) 0 (endsFrom (now (s .entry)) m at))
+        × (now (delays .exit) ≡ sets (now (delays .entry)) 0 (delaysFrom (now (s .entry)) m at)) ⌝ }
 {
     let mut at = at;
     let mut i = 0;
@@ -64,112 +76,140 @@ fn fill_rows(
     at
 }
 
-// Numbers, to a table from an index on.
-fn fill_numbers(s: &[u8], at: usize, count: usize, listed: &mut [u32], from: usize) -> usize
-    requires { ⌜ from + count ≤ length (now listed) ⌝ }
-    ensures { λ r. ⌜ (r ≡ numbersEnd (now (s .entry)) count at) × (now (listed .exit) ≡ sets (now (listed .entry)) from (numbersFrom (now (s .entry)) count at)) ⌝ }
+// Numbers, to a table behind those that fill it so far.
+fn fill_numbers(s: &[u8], at: usize, count: usize, listed: &mut [u32], filled: usize) -> usize
+    requires { ⌜ filled + count ≤ length (now listed) ⌝ }
+    ensures { λ r. ⌜ (r ≡ numbersEnd (now (s .entry)) count at)
+        × (now (listed .exit) ≡ sets (now (listed .entry)) filled (numbersFrom (now (s .entry)) count at)) ⌝ }
 {
     let mut at = at;
     let mut i = 0;
     while i < count {
         let a = take_number(s, at);
-        listed[from + i] = a.value;
+        listed[filled + i] = a.value;
         at = a.next;
         i += 1;
     }
     at
 }
 
-// A path: its length to index k, its edges from an index on.
+// A path: its length to index k, its edges behind those that are there.
 fn fill_path(
     s: &[u8],
     at: usize,
     listed: &mut [u32],
-    from: usize,
+    filled: usize,
     lengths: &mut [u32],
     k: usize,
 ) -> Taken
-    requires { ⌜ (from + valueAt (now s) at ≤ length (now listed)) × (k < length (now lengths)) ⌝ }
-    ensures { λ r. ⌜ (r .value ≡ valueAt (now (s .entry)) at) × (r .next ≡ pathEnd (now (s .entry)) at) × (now (listed .exit) ≡ sets (now (listed .entry)) from (numbersFrom (now (s .entry)) (valueAt (now (s .entry)) at) (nextAt (now (s .entry)) at))) × (now (lengths .exit) ≡ set (now (lengths .entry)) k (valueAt (now (s .entry)) at)) ⌝ }
+    requires { ⌜ (filled + valueAt (now s) at ≤ length (now listed)) × (k < length (now lengths)) ⌝ }
+    ensures { λ r.
+        let n = valueAt (now (s .entry)) at in
+        let edges = numbersFrom (now (s .entry)) n (nextAt (now (s .entry)) at) in
+        ⌜ (r .value ≡ n)
+        × (r .next ≡ pathEnd (now (s .entry)) at)
+        × (now (listed .exit) ≡ sets (now (listed .entry)) filled edges)
+        × (now (lengths .exit) ≡ set (now (lengths .entry)) k n) ⌝ }
 {
     let a = take_number(s, at);
     let value = a.value;
     let edges = a.next;
     lengths[k] = value;
-    let next = fill_numbers(s, edges, wide(value), listed, from);
+    let next = fill_numbers(s, edges, wide(value), listed, filled);
     Taken { value, next }
 }
 
-fn fill_paths(s: &[u8], at: usize, count: usize, listed: &mut [u32], lengths: &mut [u32]) -> Listed
+fn fill_paths(
+    s: &[u8],
+    at: usize,
+    count: usize,
+    listed: &mut [u32],
+    lengths: &mut [u32],
+) -> ListRead
     requires { ⌜ (length (edgesFrom (now s) count at) ≤ length (now listed)) × (count ≤ length (now lengths)) ⌝ }
-    ensures { λ r. ⌜ (r .next ≡ pathsEnd (now (s .entry)) count at) × (r .edges ≡ length (edgesFrom (now (s .entry)) count at)) × (now (listed .exit) ≡ sets (now (listed .entry)) 0 (edgesFrom (now (s .entry)) count at)) × (now (lengths .exit) ≡ sets (now (lengths .entry)) 0 (lengthsFrom (now (s .entry)) count at)) ⌝ }
+    ensures { λ r.
+        let edges = edgesFrom (now (s .entry)) count at in
+        ⌜ (r .paths ≡ count)
+        × (r .listed ≡ length edges)
+        × (r .next ≡ pathsEnd (now (s .entry)) count at)
+        × (now (listed .exit) ≡ sets (now (listed .entry)) 0 edges)
+        × (now (lengths .exit) ≡ sets (now (lengths .entry)) 0 (lengthsFrom (now (s .entry)) count at)) ⌝ }
 {
     let mut at = at;
-    let mut from = 0;
+    let mut filled = 0;
     let mut k = 0;
     while k < count {
-        let a = fill_path(s, at, listed, from, lengths, k);
+        let a = fill_path(s, at, listed, filled, lengths, k);
         at = a.next;
-        from += wide(a.value);
+        filled += wide(a.value);
         k += 1;
     }
-    Listed {
+    ListRead {
+        paths: count,
+        listed: filled,
         next: at,
-        edges: from,
     }
 }
 
-// n, and the edges, of the deck at a place.
-fn fill_design(
+// The design at a place.
+pub(crate) fn fill_design(
     s: &[u8],
     at: usize,
     starts: &mut [u32],
     ends: &mut [u32],
     delays: &mut [i32],
-) -> Edges
-    requires { ⌜ (edgeCount (now s) at ≤ length (now starts)) × (length (now ends) ≡ length (now starts)) × (length (now delays) ≡ length (now starts)) ⌝ }
-    ensures { λ r. ⌜ (r .nodes ≡ valueAt (now (s .entry)) at) × (r .count ≡ edgeCount (now (s .entry)) at) × (r .next ≡ countPlace (now (s .entry)) at) ⌝ }
-    ensures { λ r. ⌜ (now (starts .exit) ≡ placed (deckFrom (now (s .entry)) at .design .starts) (now (starts .entry))) × (now (ends .exit) ≡ placed (deckFrom (now (s .entry)) at .design .ends) (now (ends .entry))) × (now (delays .exit) ≡ placed (deckFrom (now (s .entry)) at .design .delays) (now (delays .entry))) ⌝ }
+) -> DesignRead
+    requires { ⌜ (edgeCount (now s) at ≤ length (now starts))
+        × (length (now ends) ≡ length (now starts))
+        × (length (now delays) ≡ length (now starts)) ⌝ }
+    ensures { λ r.
+        let d = designFrom (now (s .entry)) at in
+        ⌜ (r .nodes ≡ d .nodes)
+        × (r .edges ≡ edgeCount (now (s .entry)) at)
+        × (r .next ≡ countPlace (now (s .entry)) at)
+        × (now (starts .exit) ≡ placed (d .starts) (now (starts .entry)))
+        × (now (ends .exit) ≡ placed (d .ends) (now (ends .entry)))
+        × (now (delays .exit) ≡ placed (d .delays) (now (delays .entry))) ⌝ }
 {
     let n = take_number(s, at);
     let second = n.next;
     let m = take_number(s, second);
     let rows = m.next;
-    let count = m.value;
-    let next = fill_rows(s, rows, wide(count), starts, ends, delays);
-    Edges {
+    let edges = wide(m.value);
+    let next = fill_rows(s, rows, edges, starts, ends, delays);
+    DesignRead {
         nodes: n.value,
-        count,
+        edges,
         next,
     }
 }
 
-// The deck at a place.
-pub(crate) fn fill(
-    s: &[u8],
-    at: usize,
-    starts: &mut [u32],
-    ends: &mut [u32],
-    delays: &mut [i32],
-    listed: &mut [u32],
-    lengths: &mut [u32],
-) -> DeckRead
-    requires { ⌜ CanFill (now s) at (now starts) (now ends) (now delays) (now listed) (now lengths) ⌝ }
-    ensures { λ r. ⌜ HasFilled (deckFrom (now (s .entry)) at) r (now (starts .entry)) (now (ends .entry)) (now (delays .entry)) (now (listed .entry)) (now (lengths .entry)) (now (starts .exit)) (now (ends .exit)) (now (delays .exit)) (now (listed .exit)) (now (lengths .exit)) ⌝ }
+// The list at a place.
+pub(crate) fn fill_list(s: &[u8], at: usize, listed: &mut [u32], lengths: &mut [u32]) -> ListRead
+    requires { ⌜ (length (listFrom (now s) at .edges) ≤ length (now listed))
+        × (valueAt (now s) at ≤ length (now lengths)) ⌝ }
+    ensures { λ r.
+        let list = listFrom (now (s .entry)) at in
+        ⌜ (r .paths ≡ valueAt (now (s .entry)) at)
+        × (r .listed ≡ length (list .edges))
+        × (r .next ≡ listEnd (now (s .entry)) at)
+        × (now (listed .exit) ≡ placed (list .edges) (now (listed .entry)))
+        × (now (lengths .exit) ≡ placed (list .lengths) (now (lengths .entry))) ⌝ }
 {
-    let d = fill_design(s, at, starts, ends, delays);
-    let second = d.next;
-    let c = take_number(s, second);
-    let first = c.next;
-    let count = wide(c.value);
-    let l = fill_paths(s, first, count, listed, lengths);
-    let last = l.next;
-    let t = take_number(s, last);
+    let count = take_number(s, at);
+    let first = count.next;
+    fill_paths(s, first, wide(count.value), listed, lengths)
+}
+
+// What the reader answers of the parts that it filled, and of T.
+pub(crate) fn answer(d: DesignRead, l: ListRead, t: Taken) -> DeckRead
+    ensures { λ r. ⌜ r ≡ DeckFound (d .nodes) (d .edges) (l .listed) (l .paths) (t .value) ⌝ }
+{
     DeckRead::Deck {
         nodes: d.nodes,
-        edges: wide(d.count),
-        listed: l.edges,
-        paths: count,
+        edges: d.edges,
+        listed: l.listed,
+        paths: l.paths,
         allowed: t.value,
     }
 }

@@ -9,16 +9,17 @@ mod filler;
 mod looker;
 mod reader;
 
-// The place behind the paths, and how many edges they list.
-struct Listed {
-    next: usize,
+// n, the count of edges, and the place behind the design.
+struct DesignRead {
+    nodes: u32,
     edges: usize,
+    next: usize,
 }
 
-// n, the count of edges, and the place behind the edges.
-struct Edges {
-    nodes: u32,
-    count: u32,
+// The count of paths, how many edges they list, and the place behind the list.
+struct ListRead {
+    paths: usize,
+    listed: usize,
     next: usize,
 }
 

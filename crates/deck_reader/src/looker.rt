@@ -1,9 +1,12 @@
-// The first go of the reader: everything is parsed and tested, and nothing is written.
+// The first go of the reader: everything is parsed and tested, and nothing is written. Each function works on a
+// plain slice and place.
 ghost use mathlib.Core.Path.{_≡_};
 ghost use Prim.Native.Nat.{_+_, _≤_};
 ghost use Rattle.timing.specs.Decks.{paths as pathsOf};
 ghost use Rattle.timing.specs.Looks.{looked, numberOf};
-ghost use Rattle.deck_reader.specs.Reading.{verdictOf, countIn, pathIn, tailIn, listIn, edgesIn, deckIn};
+ghost use Rattle.timing.specs.Parsing.{onward, return, tested};
+ghost use Rattle.deck_reader.specs.Reading.{verdictOf, nodesIn, countIn, pathIn, edgesIn, designIn, listIn, tailIn};
+ghost use Rattle.deck_reader.specs.Reading.{placeOf, behind, verdictBehind};
 use entries::wide;
 use packed_lists::look_numbers;
 use packed_lists::look_rows;
@@ -11,12 +14,37 @@ use timing::Looked;
 use timing::NumberRead;
 use timing::Verdict;
 use verdicts::and_unless;
+use verdicts::unless;
 
 fn added(sum: usize, n: u32) -> usize
     requires { ⌜ sum ≤ 8192 ⌝ }
     ensures { λ r. ⌜ r ≡ sum + n ⌝ }
 {
     sum + wide(n)
+}
+
+// A number whose tests answered v.
+fn judged(v: Verdict, value: u32, next: usize) -> NumberRead
+    ensures { λ r. ⌜ r ≡ numberOf (onward (tested v next) (λ u. return value)) ⌝ }
+{
+    match v {
+        Verdict::Passed => NumberRead::Value { value, next },
+        Verdict::Refused(e) => NumberRead::Refused(e),
+    }
+}
+
+// n and its limit. The nodes have no table.
+fn look_nodes(s: &[u8], at: usize) -> NumberRead
+    ensures { λ r. ⌜ r ≡ numberOf (nodesIn (now (s .entry)) at) ⌝ }
+{
+    let r = packed::read_number(s, at);
+    match r {
+        NumberRead::Value { value, next } => {
+            let v = unless(10, value <= timing::MAX_NODES);
+            judged(v, value, next)
+        }
+        NumberRead::Refused(e) => NumberRead::Refused(e),
+    }
 }
 
 // A count and its tests: the limit of document 01, then the lent table.
@@ -28,12 +56,9 @@ fn look_count(s: &[u8], at: usize, sum: usize, test: u32, limit: usize, table: u
     match r {
         NumberRead::Value { value, next } => {
             let total = added(sum, value);
-            let v = verdicts::unless(test, total <= limit);
+            let v = unless(test, total <= limit);
             let v = and_unless(v, 36, total <= table);
-            match v {
-                Verdict::Passed => NumberRead::Value { value, next },
-                Verdict::Refused(e) => NumberRead::Refused(e),
-            }
+            judged(v, value, next)
         }
         NumberRead::Refused(e) => NumberRead::Refused(e),
     }
@@ -80,6 +105,39 @@ fn look_paths(s: &[u8], at: usize, count: usize, table: usize) -> Looked
     Looked::At(at)
 }
 
+// The count of edges, and the edges.
+fn look_edges(s: &[u8], at: usize, edges: usize) -> Looked
+    ensures { λ r. ⌜ r ≡ looked (edgesIn (now (s .entry)) edges at) ⌝ }
+{
+    let r = look_count(s, at, 0, 11, timing::MAX_EDGES, edges);
+    match r {
+        NumberRead::Value { value, next } => look_rows(s, next, value),
+        NumberRead::Refused(e) => Looked::Refused(e),
+    }
+}
+
+// The design: n, and the edges.
+pub(crate) fn look_design(s: &[u8], at: usize, edges: usize) -> Looked
+    ensures { λ r. ⌜ r ≡ looked (designIn (now (s .entry)) edges at) ⌝ }
+{
+    let r = look_nodes(s, at);
+    match r {
+        NumberRead::Value { value: _, next } => look_edges(s, next, edges),
+        NumberRead::Refused(e) => Looked::Refused(e),
+    }
+}
+
+// The list: the count of paths, and the paths.
+fn look_list(s: &[u8], at: usize, listed: usize, paths: usize) -> Looked
+    ensures { λ r. ⌜ r ≡ looked (listIn (now (s .entry)) listed paths at) ⌝ }
+{
+    let r = look_count(s, at, 0, 20, timing::MAX_PATHS, paths);
+    match r {
+        NumberRead::Value { value, next } => look_paths(s, next, wide(value), listed),
+        NumberRead::Refused(e) => Looked::Refused(e),
+    }
+}
+
 // T, and 3.
 fn look_tail(s: &[u8], at: usize) -> Verdict
     ensures { λ r. ⌜ r ≡ verdictOf (tailIn (now (s .entry)) at) ⌝ }
@@ -96,47 +154,38 @@ fn look_tail(s: &[u8], at: usize) -> Verdict
     }
 }
 
-// From the count of paths on.
-fn look_list(s: &[u8], at: usize, listed: usize, paths: usize) -> Verdict
-    ensures { λ r. ⌜ r ≡ verdictOf (listIn (now (s .entry)) (record { edges = 0; listed = listed; paths = paths }) at) ⌝ }
+// The place that a look got to; 0 where it was refused, and nothing is looked at from there.
+pub(crate) fn place_of(l: Looked) -> usize
+    ensures { λ r. ⌜ r ≡ placeOf l ⌝ }
 {
-    let r = look_count(s, at, 0, 20, timing::MAX_PATHS, paths);
-    match r {
-        NumberRead::Value { value, next } => {
-            let q = look_paths(s, next, wide(value), listed);
-            match q {
-                Looked::At(after) => look_tail(s, after),
-                Looked::Refused(e) => Verdict::Refused(e),
-            }
-        }
-        NumberRead::Refused(e) => Verdict::Refused(e),
+    match l {
+        Looked::At(at) => at,
+        Looked::Refused(_) => 0,
     }
 }
 
-// From the count of edges on.
-fn look_edges(s: &[u8], at: usize, edges: usize, listed: usize, paths: usize) -> Verdict
-    ensures { λ r. ⌜ r ≡ verdictOf (edgesIn (now (s .entry)) (record { edges = edges; listed = listed; paths = paths }) at) ⌝ }
+// The list behind a design that was looked at.
+pub(crate) fn list_behind(
+    s: &[u8],
+    at: usize,
+    design: Looked,
+    listed: usize,
+    paths: usize,
+) -> Looked
+    ensures { λ r. ⌜ r ≡ behind design (looked (listIn (now (s .entry)) listed paths at)) ⌝ }
 {
-    let r = look_count(s, at, 0, 11, timing::MAX_EDGES, edges);
-    match r {
-        NumberRead::Value { value, next } => {
-            let q = look_rows(s, next, value);
-            match q {
-                Looked::At(after) => look_list(s, after, listed, paths),
-                Looked::Refused(e) => Verdict::Refused(e),
-            }
-        }
-        NumberRead::Refused(e) => Verdict::Refused(e),
+    match design {
+        Looked::At(_) => look_list(s, at, listed, paths),
+        Looked::Refused(e) => Looked::Refused(e),
     }
 }
 
-// The deck from a place on. The nodes have no table.
-pub(crate) fn look(s: &[u8], at: usize, edges: usize, listed: usize, paths: usize) -> Verdict
-    ensures { λ r. ⌜ r ≡ verdictOf (deckIn (now (s .entry)) (record { edges = edges; listed = listed; paths = paths }) at) ⌝ }
+// The tail behind a list that was looked at.
+pub(crate) fn tail_behind(s: &[u8], at: usize, list: Looked) -> Verdict
+    ensures { λ r. ⌜ r ≡ verdictBehind list (verdictOf (tailIn (now (s .entry)) at)) ⌝ }
 {
-    let r = look_count(s, at, 0, 10, 4096, 4096);
-    match r {
-        NumberRead::Value { value: _, next } => look_edges(s, next, edges, listed, paths),
-        NumberRead::Refused(e) => Verdict::Refused(e),
+    match list {
+        Looked::At(_) => look_tail(s, at),
+        Looked::Refused(e) => Verdict::Refused(e),
     }
 }

@@ -1,11 +1,16 @@
-// Document 01's form: a reader that carries the lent bytes and its place. Each function over it is thin
-// and proved by hand; the work is in `looker` and `filler`, on a plain slice and place. Callers use `look_deck` and
-// `fill_deck`, whose parameters are plain.
+// Document 01's form: a reader that carries the lent bytes and its place. It starts at the front, reads the part that
+// stands at its place, and goes on to the place behind it: the design, the list, T and the end. The functions here hold
+// such a reader and are proved by hand; they are thin, and the work is in `looker` and `filler`, on a plain slice and
+// place. `read_deck` calls `look_deck` and `fill_deck`, whose parameters are plain.
 ghost use mathlib.Core.Path.{_≡_};
-ghost use Rattle.timing.specs.Decks.{readDeck};
-ghost use Rattle.deck_reader.specs.Reading.{verdictOf, deckIn, deckFrom, CanFill, HasFilled};
+ghost use lib.ListN.{length};
+ghost use Rattle.timing.specs.Lists.{placed};
+ghost use Rattle.timing.specs.Decks.{Tables, readDeck};
+ghost use Rattle.timing.specs.Calls.{deckAnswer, made};
+ghost use Rattle.deck_reader.specs.Reading.{verdictOf, deckFrom, Fits};
 use super::filler;
 use super::looker;
+use packed_lists::take_number;
 use timing::DeckRead;
 use timing::Verdict;
 
@@ -14,42 +19,35 @@ pub(crate) struct DeckReader<'a> {
     pub(crate) at: usize,
 }
 
+// The reader of all the bytes.
 pub(crate) fn at_front<'a>(bytes: &'a [u8]) -> DeckReader<'a>
     ensures { λ r. ⌜ (r .bytes ≡ bytes .entry) × (r .at ≡ 0) ⌝ }
 {
     DeckReader { bytes, at: 0 }
 }
 
-// The deck from the reader's place on.
-pub(crate) fn look_on<'a>(r: DeckReader<'a>, edges: usize, listed: usize, paths: usize) -> Verdict
-    ensures { λ v. ⌜ v ≡ verdictOf (deckIn (now (r .entry .bytes)) (record { edges = edges; listed = listed; paths = paths }) (r .entry .at)) ⌝ }
+// The reader of the same bytes, moved to another place.
+pub(crate) fn onward<'a>(r: DeckReader<'a>, at: usize) -> DeckReader<'a>
+    ensures { λ q. ⌜ (q .bytes ≡ r .entry .bytes) × (q .at ≡ at) ⌝ }
 {
-    looker::look(r.bytes, r.at, edges, listed, paths)
+    DeckReader { bytes: r.bytes, at }
 }
 
-// The whole deck.
+// The first go. A part behind one that was refused is not looked at.
 pub(crate) fn look_deck(s: &[u8], edges: usize, listed: usize, paths: usize) -> Verdict
-    ensures { λ v. ⌜ v ≡ verdictOf (readDeck (now (s .entry)) (record { edges = edges; listed = listed; paths = paths })) ⌝ }
+    ensures { λ v.
+        let tables : Tables = record { edges = edges; listed = listed; paths = paths } in
+        ⌜ v ≡ verdictOf (readDeck (now (s .entry)) tables) ⌝ }
 {
-    look_on(at_front(s), edges, listed, paths)
+    let r = at_front(s);
+    let design = looker::look_design(r.bytes, r.at, edges);
+    let r = onward(r, looker::place_of(design));
+    let list = looker::list_behind(r.bytes, r.at, design, listed, paths);
+    let r = onward(r, looker::place_of(list));
+    looker::tail_behind(r.bytes, r.at, list)
 }
 
-// The deck at the reader's place, to the tables.
-pub(crate) fn fill_on<'a>(
-    r: DeckReader<'a>,
-    starts: &mut [u32],
-    ends: &mut [u32],
-    delays: &mut [i32],
-    listed: &mut [u32],
-    lengths: &mut [u32],
-) -> DeckRead
-    requires { ⌜ CanFill (now (r .bytes)) (r .at) (now starts) (now ends) (now delays) (now listed) (now lengths) ⌝ }
-    ensures { λ a. ⌜ HasFilled (deckFrom (now (r .entry .bytes)) (r .entry .at)) a (now (starts .entry)) (now (ends .entry)) (now (delays .entry)) (now (listed .entry)) (now (lengths .entry)) (now (starts .exit)) (now (ends .exit)) (now (delays .exit)) (now (listed .exit)) (now (lengths .exit)) ⌝ }
-{
-    filler::fill(r.bytes, r.at, starts, ends, delays, listed, lengths)
-}
-
-// The deck at the front.
+// The second go, when the first has passed.
 pub(crate) fn fill_deck(
     s: &[u8],
     starts: &mut [u32],
@@ -58,8 +56,24 @@ pub(crate) fn fill_deck(
     listed: &mut [u32],
     lengths: &mut [u32],
 ) -> DeckRead
-    requires { ⌜ CanFill (now s) 0 (now starts) (now ends) (now delays) (now listed) (now lengths) ⌝ }
-    ensures { λ a. ⌜ HasFilled (deckFrom (now (s .entry)) 0) a (now (starts .entry)) (now (ends .entry)) (now (delays .entry)) (now (listed .entry)) (now (lengths .entry)) (now (starts .exit)) (now (ends .exit)) (now (delays .exit)) (now (listed .exit)) (now (lengths .exit)) ⌝ }
+    requires { ⌜ Fits (now s) 0
+        (record { edges = length (now starts); listed = length (now listed); paths = length (now lengths) })
+        × (length (now ends) ≡ length (now starts))
+        × (length (now delays) ≡ length (now starts)) ⌝ }
+    ensures { λ a.
+        let d = deckFrom (now (s .entry)) 0 in
+        ⌜ (a ≡ deckAnswer (made d))
+        × (now (starts .exit) ≡ placed (d .design .starts) (now (starts .entry)))
+        × (now (ends .exit) ≡ placed (d .design .ends) (now (ends .entry)))
+        × (now (delays .exit) ≡ placed (d .design .delays) (now (delays .entry)))
+        × (now (listed .exit) ≡ placed (d .list .edges) (now (listed .entry)))
+        × (now (lengths .exit) ≡ placed (d .list .lengths) (now (lengths .entry))) ⌝ }
 {
-    fill_on(at_front(s), starts, ends, delays, listed, lengths)
+    let r = at_front(s);
+    let d = filler::fill_design(r.bytes, r.at, starts, ends, delays);
+    let r = onward(r, d.next);
+    let l = filler::fill_list(r.bytes, r.at, listed, lengths);
+    let r = onward(r, l.next);
+    let t = take_number(r.bytes, r.at);
+    filler::answer(d, l, t)
 }

@@ -61,7 +61,7 @@ fill-deck-requires c κs =
     let st = z .before .before .before .before .before .before in
     let a = st .args in
     let q = same-passed (length (a .starts .now)) (length (a .ends .now)) (length (a .delays .now)) (sym (z .same-sizes .ensures) ∙ k .before .enum-told .given .1) in
-    (read-passed (a .s .now) (tablesAt st) (sym (k .look-deck .ensures) ∙ t .enum-told2 .given .1) .1, (q .0, q .1))
+    (read-passed (a .s .now) (tablesAt st) (sym (k .look-deck .ensures) ∙ t .enum-told2 .given .1) .1, q .0, q .1)
 
 same-length : tie.Need-same-length
 same-length c = search needs
@@ -86,10 +86,9 @@ returns-3 c =
     let z = k .before .before .before in
     let st = z .before .before .before .before .before .before in
     let a = st .args in
-    let e = f .fill-deck .ensures in
     tables-filled (a .starts .now) (a .ends .now) (a .delays .now) (a .listed .now) (a .lengths .now) (outcomeAt st) (deckFrom (a .s .now) 0) _ _ _ _ _ _
     (read-made (a .s .now) (length (a .starts .now)) (length (a .ends .now)) (length (a .delays .now)) (length (a .listed .now)) (length (a .lengths .now))
-    (sym (z .same-sizes .ensures) ∙ k .before .enum-told .given .1) (sym (k .look-deck .ensures) ∙ t .enum-told2 .given .1)) (e .0) (e .1 .0) (e .1 .1)
+    (sym (z .same-sizes .ensures) ∙ k .before .enum-told .given .1) (sym (k .look-deck .ensures) ∙ t .enum-told2 .given .1)) (f .fill-deck .ensures)
 
 pub read-deck-spec : {M : Type 1} → statement M
 read-deck-spec =

@@ -1,7 +1,7 @@
 -- n, m, then the rows, which are the deck's first three tables.
 use Prim.Native.Nat.{ℕ}
 use native.Mathlib.Omega.{arith}
-use mathlib.Core.Path.{_≡_, sym, _∙_, ap}
+use mathlib.Core.Path.{_≡_, _∙_, ap}
 use Rattle.timing.specs.Looks.{valueAt, nextAt}
 use Rattle.deck_reader.specs.Reading.{edgeCount, edgesPlace}
 use Rattle.deck_reader.proofs.Reading.{starts-placed, ends-placed, delays-placed, count-place}
@@ -56,12 +56,12 @@ returns c =
     let mi = count-is w in
     let ai = place-is w in
     let s = a .s .now in (
-      (w .before .before .take-number .ensures .0, sym (w .wide .ensures) ∙ mi, count-place s _ _ _ mi ai _ (e .0)),
-      (
-        starts-placed s _ _ _ mi ai (a .starts .now) _ (omega (arith, p)) (e .1),
-        ends-placed s _ _ _ mi ai (a .ends .now) _ (omega (arith, p)) (e .2),
-        delays-placed s _ _ _ mi ai (a .delays .now) _ (omega (arith, p)) (e .3),
-      ),
+      w .before .before .take-number .ensures .0,
+      mi,
+      count-place s _ _ _ mi ai _ (e .0),
+      starts-placed s _ _ _ mi ai (a .starts .now) _ (omega (arith, p)) (e .1),
+      ends-placed s _ _ _ mi ai (a .ends .now) _ (omega (arith, p)) (e .2),
+      delays-placed s _ _ _ mi ai (a .delays .now) _ (omega (arith, p)) (e .3),
     )
 
 pub fill-design-spec : {M : Type 1} → statement M

@@ -1,4 +1,4 @@
--- The numbers from i on, stored from `from + i` on, give the table that storing all gives.
+-- The numbers from i on, stored from `filled + i` on, give the table that storing all gives.
 use Prim.Native.Nat.{_+_, _-_, _≤_}
 use native.Mathlib.Omega.{arith}
 use mathlib.Core.Path.{_≡_, refl, sym, _∙_}
@@ -11,15 +11,15 @@ use Rattle.deck_reader.proofs.filler.fill_numbers.Statement.{statement}
 use Rattle.deck_reader.proofs.filler.fill_numbers.Tie as tie
 
 abbrev Inv-loop : tie.InvT-loop
-Inv-loop s at count listed₀ from at₀ i₀ listed at' i = (i ≤ count) × (length listed ≡ length listed₀) × (numbersEnd s (count - i) at' ≡ numbersEnd s count at₀) × (sets listed (from + i) (numbersFrom s (count - i) at') ≡ sets listed₀ from (numbersFrom s count at₀))
+Inv-loop s at count listed₀ filled at₀ i₀ listed at' i = (i ≤ count) × (length listed ≡ length listed₀) × (numbersEnd s (count - i) at' ≡ numbersEnd s count at₀) × (sets listed (filled + i) (numbersFrom s (count - i) at') ≡ sets listed₀ filled (numbersFrom s count at₀))
 
 abbrev μ-loop : tie.MeasureT-loop
-μ-loop s at count listed₀ from at₀ i₀ listed at' i = count - i
+μ-loop s at count listed₀ filled at₀ i₀ listed at' i = count - i
 
 loop-holds : tie.Need-loop-holds Inv-loop μ-loop
 loop-holds c =
     let a = c .before .before .args in
-    let w = numbers-whole (a .s .now) (a .count) (a .at) (a .listed .now) (a .from) in
+    let w = numbers-whole (a .s .now) (a .count) (a .at) (a .listed .now) (a .filled) in
     (omega arith, refl, w .0, w .1)
 
 take-number-requires : tie.Need-take-number-requires Inv-loop μ-loop
@@ -44,7 +44,7 @@ loop-again : tie.Need-loop-again Inv-loop μ-loop
 loop-again c =
     let l = c .before .before in
     let a = l .before .before .before .args in
-    let w = numbers-step (a .s .now) (a .count) (l .loop .i) (l .loop .at) (l .loop .listed) (a .from) (c .take-number .result .value) (c .take-number .result .next) (omega arith) (c .take-number .ensures) in
+    let w = numbers-step (a .s .now) (a .count) (l .loop .i) (l .loop .at) (l .loop .listed) (a .filled) (c .take-number .result .value) (c .take-number .result .next) (omega arith) (c .take-number .ensures) in
     (omega arith, simp length-set (l .loop .inv .1), w .0 ∙ l .loop .inv .2, w .1 ∙ l .loop .inv .3)
 
 same-length : tie.Need-same-length Inv-loop μ-loop
@@ -54,7 +54,7 @@ returns : tie.Need-returns Inv-loop μ-loop
 returns c =
     let l = c .before in
     let a = l .before .before .before .args in
-    let w = numbers-none (a .s .now) (a .count) (l .loop .i) (l .loop .at) (l .loop .listed) (a .from) (omega arith) in
+    let w = numbers-none (a .s .now) (a .count) (l .loop .i) (l .loop .at) (l .loop .listed) (a .filled) (omega arith) in
     (sym (w .0) ∙ l .loop .inv .2, sym (w .1) ∙ l .loop .inv .3)
 
 pub fill-numbers-spec : {M : Type 1} → statement M

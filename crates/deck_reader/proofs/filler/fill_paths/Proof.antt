@@ -1,4 +1,4 @@
--- The paths from k on, stored from k and `from` on, give the tables that storing all gives.
+-- The paths from k on, stored from k and `filled` on, give the tables that storing all gives.
 use Prim.Native.Nat.{ℕ, _+_, _-_, _≤_, _<_}
 use native.Mathlib.Omega.{arith}
 use mathlib.Core.Path.{_≡_, refl, sym, _∙_, ap}
@@ -12,13 +12,13 @@ use Rattle.deck_reader.proofs.filler.fill_paths.Statement.{statement}
 use Rattle.deck_reader.proofs.filler.fill_paths.Tie as tie
 
 abbrev Inv-loop : tie.InvT-loop
-Inv-loop s at count listed₀ lengths₀ at₀ from₀ k₀ listed lengths at' from k =
-    (k ≤ count) × ((length listed ≡ length listed₀) × (length lengths ≡ length lengths₀)) × (from + length (edgesFrom s (count - k) at') ≡ length (edgesFrom s count at₀))
-    × (pathsEnd s (count - k) at' ≡ pathsEnd s count at₀) × (sets listed from (edgesFrom s (count - k) at') ≡ sets listed₀ 0 (edgesFrom s count at₀))
+Inv-loop s at count listed₀ lengths₀ at₀ filled₀ k₀ listed lengths at' filled k =
+    (k ≤ count) × ((length listed ≡ length listed₀) × (length lengths ≡ length lengths₀)) × (filled + length (edgesFrom s (count - k) at') ≡ length (edgesFrom s count at₀))
+    × (pathsEnd s (count - k) at' ≡ pathsEnd s count at₀) × (sets listed filled (edgesFrom s (count - k) at') ≡ sets listed₀ 0 (edgesFrom s count at₀))
     × (sets lengths k (lengthsFrom s (count - k) at') ≡ sets lengths₀ 0 (lengthsFrom s count at₀))
 
 abbrev μ-loop : tie.MeasureT-loop
-μ-loop s at count listed₀ lengths₀ at₀ from₀ k₀ listed lengths at' from k = count - k
+μ-loop s at count listed₀ lengths₀ at₀ filled₀ k₀ listed lengths at' filled k = count - k
 
 loop-holds : tie.Need-loop-holds Inv-loop μ-loop
 loop-holds c =
@@ -39,8 +39,8 @@ fill-path-requires c κs =
 wide-requires : tie.Need-wide-requires Inv-loop μ-loop
 wide-requires c κs = search needs
 
-add-from : tie.Need-add-from Inv-loop μ-loop
-add-from c =
+add-filled : tie.Need-add-filled Inv-loop μ-loop
+add-filled c =
     let f = c .before .before .before .before .before in
     let l = f .before .before .before .before in
     let a = l .before .before .before .before .args in
@@ -67,10 +67,10 @@ loop-again c =
     let w = c .wide .ensures ∙ e .0 in
     let q = ap (λ (n : ℕ). length (edgesFrom (a .s .now) (a .count - (l .loop .k + 1)) n)) (e .1) in (
       omega arith,
-      (ap length (e .2) ∙ length-sets (l .loop .listed) (l .loop .from) (numbersFrom (a .s .now) (valueAt (a .s .now) (l .loop .at)) (nextAt (a .s .now) (l .loop .at))) ∙ i .1 .0, ap length (e .3) ∙ length-set (l .loop .lengths) (l .loop .k) _ ∙ i .1 .1),
+      (ap length (e .2) ∙ length-sets (l .loop .listed) (l .loop .filled) (numbersFrom (a .s .now) (valueAt (a .s .now) (l .loop .at)) (nextAt (a .s .now) (l .loop .at))) ∙ i .1 .0, ap length (e .3) ∙ length-set (l .loop .lengths) (l .loop .k) _ ∙ i .1 .1),
       omega (arith, i .2),
       paths-next (a .s .now) (a .count) (l .loop .k) (l .loop .at) h _ (e .1) ∙ i .3,
-      edges-step (a .s .now) (a .count) (l .loop .k) (l .loop .at) h (l .loop .listed) _ (l .loop .from) _ _ w (e .1) (e .2) ∙ i .4,
+      edges-step (a .s .now) (a .count) (l .loop .k) (l .loop .at) h (l .loop .listed) _ (l .loop .filled) _ _ w (e .1) (e .2) ∙ i .4,
       lengths-step (a .s .now) (a .count) (l .loop .k) (l .loop .at) h (l .loop .lengths) _ _ (e .1) (e .3) ∙ i .5,
     )
 
@@ -85,8 +85,8 @@ returns c =
     let l = c .before in
     let a = l .before .before .before .before .args in
     let i = l .loop .inv in
-    let w = paths-none (a .s .now) (a .count) (l .loop .k) (l .loop .at) (l .loop .listed) (l .loop .lengths) (l .loop .from) (omega (arith, c .loop-test .left)) in
-    (sym (w .1) ∙ i .3, omega (arith, i .2, w .0), sym (w .2) ∙ i .4, sym (w .3) ∙ i .5)
+    let w = paths-none (a .s .now) (a .count) (l .loop .k) (l .loop .at) (l .loop .listed) (l .loop .lengths) (l .loop .filled) (omega (arith, c .loop-test .left)) in
+    (refl, omega (arith, i .2, w .0), sym (w .1) ∙ i .3, sym (w .2) ∙ i .4, sym (w .3) ∙ i .5)
 
 pub fill-paths-spec : {M : Type 1} → statement M
 fill-paths-spec =
@@ -97,7 +97,7 @@ fill-paths-spec =
     loop-holds
     fill-path-requires
     wide-requires
-    add-from
+    add-filled
     add-k
     loop-less
     loop-again
