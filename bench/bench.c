@@ -48,9 +48,9 @@ static path_list list, lists[SERIES];
 static graph earlier, rooms[2][2];                  /* of each library, two to take turns in a series */
 static size_t words[SERIES];
 static uint32_t *scratch;
-static uint8_t deck[JAQHWENI_MAX_DECK_BYTES], packed[2][MOST_GRAPH_BYTES];
+static uint8_t deck[JAQHWENI_MAX_DECK_BYTES], packed[2][ROOM_BYTES];
 static size_t deck_length;
-static int64_t times[2][3][JAQHWENI_MAX_COPIES];
+static int64_t times[2][3][ROOM_COPIES];
 
 static int64_t remove_list(const calls *by, const path_list *l, const graph *old, graph *room, size_t scratch_length)
 {
@@ -58,11 +58,11 @@ static int64_t remove_list(const calls *by, const path_list *l, const graph *old
     if (old)
         made = by->remove_from_graph(d.n, d.starts, d.m, d.ends, d.m, d.delays, d.m, l->edges, l->listed, l->lengths, l->paths, old->nodes,
                                      old->copies, old->from, old->edges, old->to, old->edges, old->via, old->edges, room->nodes,
-                                     JAQHWENI_MAX_COPIES, room->from, JAQHWENI_MAX_COPY_EDGES, room->to, JAQHWENI_MAX_COPY_EDGES, room->via, JAQHWENI_MAX_COPY_EDGES, scratch,
+                                     ROOM_COPIES, room->from, ROOM_EDGES, room->to, ROOM_EDGES, room->via, ROOM_EDGES, scratch,
                                      scratch_length);
     else
         made = by->remove_from_design(d.n, d.starts, d.m, d.ends, d.m, d.delays, d.m, l->edges, l->listed, l->lengths, l->paths,
-                                      room->nodes, JAQHWENI_MAX_COPIES, room->from, JAQHWENI_MAX_COPY_EDGES, room->to, JAQHWENI_MAX_COPY_EDGES, room->via, JAQHWENI_MAX_COPY_EDGES,
+                                      room->nodes, ROOM_COPIES, room->from, ROOM_EDGES, room->to, ROOM_EDGES, room->via, ROOM_EDGES,
                                       scratch, scratch_length);
     if (made >= 0) {
         room->copies = (uint32_t)made;
@@ -101,7 +101,7 @@ static int64_t do_series(int which)
 
 static int64_t do_times(int which)
 {
-    int64_t (*t)[JAQHWENI_MAX_COPIES] = times[which];
+    int64_t (*t)[ROOM_COPIES] = times[which];
     return (which ? LIBRARY : REFERENCE).times(d.n, d.starts, d.m, d.ends, d.m, d.delays, d.m, 1000000, earlier.nodes, earlier.copies,
                                                earlier.from, earlier.edges, earlier.to, earlier.edges, earlier.via, earlier.edges, t[0],
                                                earlier.copies, t[1], earlier.copies, t[2], earlier.copies);

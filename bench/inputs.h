@@ -6,7 +6,10 @@
 
 #include <string.h>
 
-enum { MOST_GRAPH_BYTES = 2 * JAQHWENI_MAX_COPIES + 6 * JAQHWENI_MAX_COPY_EDGES + 6 };      /* of a well-formed graph */
+enum {
+    ROOM_COPIES = JAQHWENI_MAX_COPIES, ROOM_EDGES = JAQHWENI_MAX_COPY_EDGES,
+    ROOM_BYTES = 2 * ROOM_COPIES + 6 * ROOM_EDGES + 6           /* the most that a well-formed graph takes packed */
+};
 
 typedef struct {
     uint32_t n;
@@ -22,7 +25,7 @@ typedef struct {
 
 typedef struct {
     size_t copies, edges;
-    uint32_t nodes[JAQHWENI_MAX_COPIES], from[JAQHWENI_MAX_COPY_EDGES], to[JAQHWENI_MAX_COPY_EDGES], via[JAQHWENI_MAX_COPY_EDGES];
+    uint32_t nodes[ROOM_COPIES], from[ROOM_EDGES], to[ROOM_EDGES], via[ROOM_EDGES];
 } graph;
 
 static uint64_t state = 88172645463325252u;

@@ -61,8 +61,7 @@ extern "C" {
 #define JAQHWENI_MAX_DECK_BYTES 65536
 #define JAQHWENI_WORDS_PER_UNIT 16
 
-/* The most stack that a call takes, in bytes, whatever it is given. The library is compiled, so that this holds for every caller; it was
- * measured at the limits and rounded up, and tests/stack.c measures it again. */
+/* The most stack that a call takes, in bytes, whatever it is given: as measured at the limits (tests/stack.c), rounded up. */
 #define JAQHWENI_STACK_TRUE_GRAPH 393216
 #define JAQHWENI_STACK_REMOVE_FROM_DESIGN 262144
 #define JAQHWENI_STACK_REMOVE_FROM_GRAPH 196608
@@ -105,10 +104,10 @@ int64_t jaqhweni_remove_from_design(
     uint32_t *room_via, size_t room_via_length,
     uint32_t *scratch, size_t scratch_length);
 
-/* What is left of an earlier true graph of the design (`nodes`, `from`, `to`, `via`) after a further list: the graph of its paths that
- * contain no listed path. Where the earlier graph came from such removals of the same design, this is the true graph of the design and of
- * all lists so far, up to the numbering of copies within a node. Of a well-formed graph from elsewhere the call knows its paths alone. The
- * earlier graph stands in other slices than the room.
+/* What is left of an earlier graph (`nodes`, `from`, `to`, `via`) after a further list: the graph of those of its paths that contain no
+ * listed path. Only where the earlier graph came from such removals of the same design is this the true graph of the design and of all
+ * lists so far (up to the numbering of copies within a node). A graph from elsewhere need only be well formed, and what comes out says
+ * nothing of the design's other paths. The earlier graph stands in other slices than the room.
  *
  * The scratch has at least 16 words for each of: the copies; for each copy, the listed edges, not first in their path, that start at its
  * node; the listed edges; the earlier graph's edges. All else is as above. */
@@ -132,9 +131,9 @@ int64_t jaqhweni_remove_from_graph(
 /* Arrival, required time and slack of each copy of a true graph, in picoseconds. `arrivals`, `requireds` and `slacks` have one place for
  * each copy.
  *
- * There is no call yet for the times of a node. The caller takes them from its copies: the largest arrival, the smallest required time and
- * the smallest slack (which may be more than required time less arrival: the two may belong to different copies). A node without a copy
- * has none.
+ * The times of a node are taken by the caller from those of its copies, as there is no call for them yet: the largest arrival, the
+ * smallest required time, and the smallest slack (and not required time less arrival, which may belong to different copies). A node
+ * without a copy has none.
  *
  * Returns 0. */
 int64_t jaqhweni_times(
@@ -151,8 +150,8 @@ int64_t jaqhweni_times(
     int64_t *requireds, size_t requireds_length,
     int64_t *slacks, size_t slacks_length);
 
-/* A true graph as jaqhweni_true_graph packs it. Only 30, the counts (32) and 35 are tested: numbers of any size are packed, and that the
- * graph is well formed is left to the other calls. A well-formed graph takes at most 2 bytes for each copy, 6 for each edge and 6 more.
+/* A true graph as jaqhweni_true_graph packs it. Tested are 30, 32 for the counts alone (16,384 copies, 65,536 edges), and 35: numbers of
+ * any size are packed. A well-formed graph takes at most 2 bytes for each copy, 6 for each edge and 6 more.
  *
  * Returns the length, at least 2, of which `room` then holds the bytes; what follows them is unchanged. */
 int64_t jaqhweni_write_graph(

@@ -1,8 +1,8 @@
 #!/usr/bin/env python3
 """The deck program and the C calls against tests/walker.py, byte for byte, on generated decks, designs and series.
 
-    python3 tests/against_walker.py              target/bin/deck_program and target/staticlib/libjaqhweni.a; about a minute, at most two on a
-                                                 machine that makes the least count of random cases (LEAST) in that time
+    python3 tests/against_walker.py              target/bin/deck_program and target/staticlib/libjaqhweni.a; about a minute, and at most
+                                                 two unless the least count of random cases (LEAST) takes longer
     python3 tests/against_walker.py --long       ten times as many random cases, from other seeds, and no bound on time
     python3 tests/against_walker.py --stand-in   the reference program of bench/ in place of the library and the deck program
     python3 tests/against_walker.py --try-faults stand-ins with an error put in on purpose, one by one: each must be found

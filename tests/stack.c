@@ -21,8 +21,8 @@ static path_list list;
 static graph earlier, room;
 static size_t words;
 static uint32_t *scratch;
-static int64_t times[3][JAQHWENI_MAX_COPIES];
-static uint8_t deck[JAQHWENI_MAX_DECK_BYTES], packed[MOST_GRAPH_BYTES];
+static int64_t times[3][ROOM_COPIES];
+static uint8_t deck[JAQHWENI_MAX_DECK_BYTES], packed[ROOM_BYTES];
 static size_t deck_length;
 
 /* ---- Calls ------------------------------------------------------------------------------------------------------------------- */
@@ -35,16 +35,16 @@ static int64_t of_deck(void)
 static int64_t from_design(void)
 {
     return jaqhweni_remove_from_design(d.n, d.starts, d.m, d.ends, d.m, d.delays, d.m, list.edges, list.listed, list.lengths, list.paths,
-                                       room.nodes, JAQHWENI_MAX_COPIES, room.from, JAQHWENI_MAX_COPY_EDGES, room.to,
-                                       JAQHWENI_MAX_COPY_EDGES, room.via, JAQHWENI_MAX_COPY_EDGES, scratch, words);
+                                       room.nodes, ROOM_COPIES, room.from, ROOM_EDGES, room.to, ROOM_EDGES, room.via, ROOM_EDGES,
+                                       scratch, words);
 }
 
 static int64_t from_graph(void)
 {
     return jaqhweni_remove_from_graph(d.n, d.starts, d.m, d.ends, d.m, d.delays, d.m, list.edges, list.listed, list.lengths, list.paths,
                                       earlier.nodes, earlier.copies, earlier.from, earlier.edges, earlier.to, earlier.edges, earlier.via,
-                                      earlier.edges, room.nodes, JAQHWENI_MAX_COPIES, room.from, JAQHWENI_MAX_COPY_EDGES, room.to,
-                                      JAQHWENI_MAX_COPY_EDGES, room.via, JAQHWENI_MAX_COPY_EDGES, scratch, words);
+                                      earlier.edges, room.nodes, ROOM_COPIES, room.from, ROOM_EDGES, room.to, ROOM_EDGES, room.via,
+                                      ROOM_EDGES, scratch, words);
 }
 
 static int64_t of_times(void)
