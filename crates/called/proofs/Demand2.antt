@@ -22,7 +22,7 @@ use Rattle.called.specs.Removals.{Call, designOf, earlierOf, calledOf, g
 use Rattle.called.proofs.Series.{meets, ran}
 
 -- ---- a call that answered counts
-isCounts : GraphMade → Type 0
+abbrev isCounts : GraphMade → Type 0
 isCounts (Counts k e) = Unit {0}
 isCounts (NoGraph r) = ⊥
 
@@ -37,7 +37,7 @@ slicesOr S (some F) = F
 abbrev outcomeOf : Call → Outcome Graph
 outcomeOf c = removeOn (designOf c) (earlierOf c) (removalOf (calledOf c))
 
-copiesIn : GraphMade → ℕ
+abbrev copiesIn : GraphMade → ℕ
 copiesIn (Counts k e) = k
 copiesIn (NoGraph r) = 0
 
