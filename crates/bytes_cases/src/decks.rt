@@ -68,11 +68,6 @@ fn say_deck(
     );
 }
 
-fn say_number(x: u64) {
-    text(b" ");
-    print::number(x);
-}
-
 // What the reader answered: n, the counts and T.
 fn say_answer(answer: DeckRead) -> Counts {
     match answer {
@@ -84,11 +79,11 @@ fn say_answer(answer: DeckRead) -> Counts {
             allowed,
         } => {
             text(b"deck");
-            say_number(nodes as u64);
-            say_number(edges as u64);
-            say_number(listed as u64);
-            say_number(paths as u64);
-            say_number(allowed as u64);
+            print::spaced(nodes as u64);
+            print::spaced(edges as u64);
+            print::spaced(listed as u64);
+            print::spaced(paths as u64);
+            print::spaced(allowed as u64);
             Counts {
                 edges,
                 listed,
@@ -109,7 +104,7 @@ fn say_answer(answer: DeckRead) -> Counts {
 // Writes a deck, and prints the answer.
 fn write(
     n: u32,
-    t: u32,
+    allowed: u32,
     starts: &[u32],
     ends: &[u32],
     delays: &[i32],
@@ -117,7 +112,7 @@ fn write(
     lengths: &[u32],
     room: &mut [u8],
 ) -> Written {
-    let w = deck_writer::write_deck(n, starts, ends, delays, listed, lengths, t, room);
+    let w = deck_writer::write_deck(n, starts, ends, delays, listed, lengths, allowed, room);
     text(b"write ");
     say::written(w, room);
     w
@@ -126,7 +121,7 @@ fn write(
 // Writes what was read to a room as long as the bytes that were read.
 fn write_again(
     n: u32,
-    t: u32,
+    allowed: u32,
     starts: &[u32],
     ends: &[u32],
     delays: &[i32],
@@ -138,7 +133,7 @@ fn write_again(
     let len = least(size, 65536);
     write(
         n,
-        t,
+        allowed,
         starts,
         ends,
         delays,
@@ -265,20 +260,20 @@ fn read_sized(s: &[u8], again: bool, q: Sizes) {
 
 pub(crate) fn read_case(s: &[u8], at: usize) -> usize {
     let q = read_sizes(s, at);
-    let from = least(q.next, s.len());
-    let len = least(q.bytes, s.len() - from);
-    let to = from + len;
-    read_sized(&s[from..to], true, q);
-    to
+    let start = least(q.next, s.len());
+    let len = least(q.bytes, s.len() - start);
+    let end = start + len;
+    read_sized(&s[start..end], true, q);
+    end
 }
 
 // Reads what was written, into tables as long as the deck.
-fn read_back(s: &[u8], edges: usize, count: usize, paths: usize) {
+fn read_back(s: &[u8], edges: usize, listed: usize, paths: usize) {
     let q = Sizes {
         starts: edges,
         ends: edges,
         delays: edges,
-        listed: count,
+        listed,
         lengths: paths,
         bytes: s.len(),
         next: 0,
@@ -288,7 +283,7 @@ fn read_back(s: &[u8], edges: usize, count: usize, paths: usize) {
 
 fn write_and_read(
     n: u32,
-    t: u32,
+    allowed: u32,
     starts: &[u32],
     ends: &[u32],
     delays: &[i32],
@@ -296,7 +291,7 @@ fn write_and_read(
     lengths: &[u32],
     room: &mut [u8],
 ) {
-    let w = write(n, t, starts, ends, delays, listed, lengths, room);
+    let w = write(n, allowed, starts, ends, delays, listed, lengths, room);
     match w {
         Written::End(end) => {
             let len = least(end, room.len());
@@ -308,7 +303,7 @@ fn write_and_read(
 
 // n, T and the length of the room, and the place behind them.
 struct Asked {
-    nodes: u32,
+    n: u32,
     allowed: u32,
     room: u32,
     next: usize,
@@ -316,13 +311,13 @@ struct Asked {
 
 fn read_asked(s: &[u8], at: usize) -> Asked {
     let n = take_number(s, at);
-    let t = take_number(s, n.next);
-    let r = take_number(s, t.next);
+    let allowed = take_number(s, n.next);
+    let room = take_number(s, allowed.next);
     Asked {
-        nodes: n.value,
-        allowed: t.value,
-        room: r.value,
-        next: r.next,
+        n: n.value,
+        allowed: allowed.value,
+        room: room.value,
+        next: room.next,
     }
 }
 
@@ -337,7 +332,7 @@ fn write_sized(
     let mut room = say::deck_room();
     let len = least(q.room as usize, 131072);
     write_and_read(
-        q.nodes,
+        q.n,
         q.allowed,
         starts,
         ends,

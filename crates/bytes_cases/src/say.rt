@@ -3,6 +3,8 @@
 ghost use Prim.Native.Nat.{_<_};
 ghost use mathlib.Core.Path.{_≡_};
 ghost use lib.ListN.{length};
+use entries::front;
+use entries::least;
 use print::refused;
 use print::text;
 use std::num::wrapping_add_u32;
@@ -42,18 +44,12 @@ pub(crate) fn graph_room() -> [u8; 393216]
     [BYTE; 393216]
 }
 
-fn wide(x: u32) -> u64
-    ensures { λ r. ⌜ r < 4294967296 ⌝ }
-{
-    x as u64
-}
-
 // A checksum and one number more: the digits of a number to base 257, by its remainder.
 fn mixed(h: u64, x: u32) -> u64
     requires { ⌜ h < 4294967291 ⌝ }
     ensures { λ r. ⌜ r < 4294967291 ⌝ }
 {
-    (257 * h + wide(x) + 1) % 4294967291
+    (257 * h + x as u64 + 1) % 4294967291
 }
 
 fn words_sum(s: &[u32]) -> u64 {
@@ -80,11 +76,6 @@ fn bytes_sum(s: &[u8]) -> u64 {
     h
 }
 
-fn say_word(x: u32) {
-    text(b" ");
-    print::number(x as u64);
-}
-
 fn say_sum(h: u64) {
     text(b" checksum ");
     print::number(h);
@@ -95,26 +86,26 @@ fn say_words(s: &[u32]) {
         say_sum(words_sum(s));
         return;
     }
-    let mut k = 0;
-    while k < s.len() {
-        say_word(s[k]);
-        k += 1;
+    print::words(s);
+}
+
+// The words of a table, if there are any.
+fn say_some(s: &[u32]) {
+    if 0 < s.len() {
+        text(b";");
+        say_words(s);
     }
 }
 
 // The first k words of a table.
 pub(crate) fn table(s: &[u32], k: usize) {
-    let len = entries::least(k, s.len());
-    if 0 < len {
-        text(b";");
-        say_words(&s[..len]);
-    }
+    say_some(front(s, k));
 }
 
 // Adds how many words have the pattern from a place on.
-pub(crate) fn words_kept(before: u32, s: &[u32], from: usize) -> u32 {
+pub(crate) fn words_kept(before: u32, s: &[u32], place: usize) -> u32 {
     let mut kept = before;
-    let mut k = from;
+    let mut k = place;
     while k < s.len() {
         if s[k] == WORD {
             kept = wrapping_add_u32(kept, 1);
@@ -124,9 +115,9 @@ pub(crate) fn words_kept(before: u32, s: &[u32], from: usize) -> u32 {
     kept
 }
 
-fn bytes_kept(s: &[u8], from: usize) -> u32 {
+fn bytes_kept(s: &[u8], place: usize) -> u32 {
     let mut kept: u32 = 0;
-    let mut k = from;
+    let mut k = place;
     while k < s.len() {
         if s[k] == BYTE {
             kept = wrapping_add_u32(kept, 1);
@@ -138,7 +129,7 @@ fn bytes_kept(s: &[u8], from: usize) -> u32 {
 
 pub(crate) fn kept(count: u32) {
     text(b"; kept");
-    say_word(count);
+    print::spaced(count as u64);
     text(b"\n");
 }
 
@@ -151,7 +142,7 @@ fn say_bytes(s: &[u8]) {
 }
 
 fn first_bytes(s: &[u8], k: usize) {
-    let len = entries::least(k, s.len());
+    let len = least(k, s.len());
     say_bytes(&s[..len]);
 }
 
@@ -173,8 +164,8 @@ pub(crate) fn written(w: Written, room: &[u8]) {
 }
 
 // How many words hold the pattern from a place on, in three slices.
-pub(crate) fn three_kept(a: &[u32], b: &[u32], c: &[u32], from: usize) -> u32 {
-    let k = words_kept(0, a, from);
-    let k = words_kept(k, b, from);
-    words_kept(k, c, from)
+pub(crate) fn three_kept(a: &[u32], b: &[u32], c: &[u32], place: usize) -> u32 {
+    let k = words_kept(0, a, place);
+    let k = words_kept(k, b, place);
+    words_kept(k, c, place)
 }

@@ -9,10 +9,12 @@ use lib.ListN.{length, getD, take, drop, set}
 use lib.Seq.{sets, drop-cons}
 use Rattle.timing.specs.Delays.{delayOf}
 use Rattle.timing.specs.Looks.{valueAt, nextAt}
-use Rattle.cases.specs.Slices.{stepValue, stepNext, values, valuesEnd, sliceLen, sliceValues, sliceEnd}
+use Rattle.cases.specs.declared.Slice.{Slice}
+use Rattle.cases.specs.Slices.{stepValue, stepNext, values, valuesEnd, Filled, IsSlice, IsRising}
 
-module _ (s : List ℕ) (len k left value at v a l : ℕ) (h : k < len) (vi : v ≡ stepValue s left value at) (ai : a ≡ stepNext s left at) (li : l ≡ left - 1) where
-  pub values-turn : (t : List ℕ) → sets (set t k v) (k + 1) (values s (len - (k + 1)) l v a) ≡ sets t k (values s (len - k) left value at)
+module _ (s : List ℕ) (rise len k left value at v a l : ℕ) (h : k < len) (vi : v ≡ stepValue s rise left value at) (ai : a ≡ stepNext s left at) (li : l ≡ left - 1) where
+  pub values-turn : (t : List ℕ)
+      → sets (set t k v) (k + 1) (values s rise (len - (k + 1)) l v a) ≡ sets t k (values s rise (len - k) left value at)
   values-turn t =
       let d : len - k ≡ suc (len - (k + 1)) = omega arith in
       rw (d, vi, ai, li, add-one k)
@@ -22,8 +24,9 @@ module _ (s : List ℕ) (len k left value at v a l : ℕ) (h : k < len) (vi : v 
       let d : len - k ≡ suc (len - (k + 1)) = omega arith in
       rw (d, ai, li)
 
-pub values-all : (s : List ℕ) (len left value at : ℕ) (t : List ℕ) → sets t 0 (values s (len - 0) left value at) ≡ sets t 0 (values s len left value at)
-values-all s len left value at t =
+pub values-all : (s : List ℕ) (rise len left value at : ℕ) (t : List ℕ)
+    → sets t 0 (values s rise (len - 0) left value at) ≡ sets t 0 (values s rise len left value at)
+values-all s rise len left value at t =
     let d : len - 0 ≡ len = omega arith in
     rw d
 
@@ -32,8 +35,9 @@ end-all s len left at =
     let d : len - 0 ≡ len = omega arith in
     rw d
 
-pub values-done : (s : List ℕ) (len k left value at : ℕ) (t : List ℕ) → len ≤ k → sets t k (values s (len - k) left value at) ≡ t
-values-done s len k left value at t h =
+pub values-done : (s : List ℕ) (rise len k left value at : ℕ) (t : List ℕ) → len ≤ k
+    → sets t k (values s rise (len - k) left value at) ≡ t
+values-done s rise len k left value at t h =
     let d : len - k ≡ 0 = omega arith in
     rw d
 
@@ -59,18 +63,22 @@ delays-done codes len k t h =
     let d : len - k ≡ 0 = omega arith in
     rw d
 
--- a step while stored numbers are left
-pub step-some : (s : List ℕ) (left value at : ℕ) → 0 < left → (valueAt s at ≡ stepValue s left value at) × (nextAt s at ≡ stepNext s left at)
-step-some s zero value at h = absurd (omega arith)
-step-some s (suc left) value at h = (refl, refl)
+-- a step where no stored number is left, and where one is
+pub step-none : (s : List ℕ) (rise left value at : ℕ) → left ≡ 0
+    → (min (value + rise) 4294967295 ≡ stepValue s rise left value at) × (at ≡ stepNext s left at)
+step-none s rise zero value at h = (refl, refl)
+step-none s rise (suc left) value at h = absurd (omega arith)
 
--- the slice, by its two counts and the place behind them
-module _ (s : List ℕ) (at table count a repeats n len : ℕ) (ci : count ≡ valueAt s at) (ai : a ≡ nextAt s at) (ri : repeats ≡ valueAt s a) (ni : n ≡ nextAt s a) (li : len ≡ min (count + repeats) table) where
-  pub len-is : len ≡ sliceLen s at table
-  len-is = rw (li, ri, ci, ai)
+pub step-some : (s : List ℕ) (rise left value at : ℕ) → 0 < left
+    → (valueAt s at ≡ stepValue s rise left value at) × (nextAt s at ≡ stepNext s left at)
+step-some s rise zero value at h = absurd (omega arith)
+step-some s rise (suc left) value at h = (refl, refl)
 
-  pub values-are : (t : List ℕ) → sets t 0 (values s len count 0 n) ≡ sets t 0 (sliceValues s at table)
-  values-are t = rw (li, ri, ni, ci, ai)
+-- the slice from its first number on: the counts and the places behind them, one after the other
+module _ (s : List ℕ) (at stored a more b : ℕ) (before after : List ℕ) (r : Slice)
+    (si : stored ≡ valueAt s at) (ai : a ≡ nextAt s at) (mi : more ≡ valueAt s a) (bi : b ≡ nextAt s a) where
+  pub slice-is : Filled s b stored more 0 before after r → IsSlice s at before after r
+  slice-is f = rw (si, mi, bi, ai) at f
 
-  pub end-is : valuesEnd s len count n ≡ sliceEnd s at table
-  end-is = rw (li, ri, ni, ci, ai)
+  pub rising-is : (rise c : ℕ) → rise ≡ valueAt s b → c ≡ nextAt s b → Filled s c stored more rise before after r → IsRising s at before after r
+  rising-is rise c ri ci f = rw (si, ri, ci, mi, bi, ai) at f

@@ -1,6 +1,7 @@
 // The lines of the deck program.
 use crate::text::Text;
 use crate::text::end_line;
+use crate::text::flush;
 use crate::text::put_number;
 use crate::text::put_text;
 use crate::text::put_time;
@@ -14,30 +15,23 @@ fn put_named(buf: &mut Text, at: usize, word: &[u8], n: u64) -> usize {
     put_number(buf, next, n)
 }
 
+// Two words, each with a number.
 fn put_two(buf: &mut Text, at: usize, word: &[u8], n: u64, other: &[u8], m: u64) -> usize {
     let next = put_named(buf, at, word, n);
     put_named(buf, next, other, m)
 }
 
-// A line of two words, each with a number.
-fn put_pair(buf: &mut Text, at: usize, word: &[u8], n: u64, other: &[u8], m: u64) -> usize {
-    let next = put_two(buf, at, word, n, other, m);
-    end_line(buf, next)
-}
-
-pub(crate) fn put_refused(buf: &mut Text, at: usize, r: Refusal) -> usize {
-    put_pair(
-        buf,
-        at,
-        b"refused ",
-        r.number as u64,
-        b" at ",
-        r.place as u64,
-    )
+// A refusal, behind what the buffer holds.
+pub(crate) fn put_refused(buf: &Text, at: usize, r: Refusal) -> usize {
+    flush(buf, at);
+    print::refused(r);
+    print::text(b"\n");
+    0
 }
 
 fn put_counts(buf: &mut Text, at: usize, copies: usize, edges: usize) -> usize {
-    put_pair(buf, at, b"copies ", copies as u64, b" edges ", edges as u64)
+    let next = put_two(buf, at, b"copies ", copies as u64, b" edges ", edges as u64);
+    end_line(buf, next)
 }
 
 // A word and a time.
@@ -50,22 +44,39 @@ fn put_named_time(buf: &mut Text, at: usize, word: &[u8], t: i64) -> usize {
 fn put_times(
     buf: &mut Text,
     at: usize,
-    before_a: &[u8],
-    a: i64,
-    before_r: &[u8],
-    r: i64,
-    before_s: &[u8],
-    s: i64,
+    before_arrival: &[u8],
+    arrival: i64,
+    before_required: &[u8],
+    required: i64,
+    before_slack: &[u8],
+    slack: i64,
 ) -> usize {
-    let x = put_named_time(buf, at, before_a, a);
-    let y = put_named_time(buf, x, before_r, r);
-    let z = put_named_time(buf, y, before_s, s);
+    let x = put_named_time(buf, at, before_arrival, arrival);
+    let y = put_named_time(buf, x, before_required, required);
+    let z = put_named_time(buf, y, before_slack, slack);
     end_line(buf, z)
 }
 
-fn put_copy(buf: &mut Text, at: usize, copy: usize, node: u32, a: i64, r: i64, s: i64) -> usize {
+fn put_copy(
+    buf: &mut Text,
+    at: usize,
+    copy: usize,
+    node: u32,
+    arrival: i64,
+    required: i64,
+    slack: i64,
+) -> usize {
     let next = put_two(buf, at, b"copy ", copy as u64, b" node ", node as u64);
-    put_times(buf, next, b" arrival ", a, b" required ", r, b" slack ", s)
+    put_times(
+        buf,
+        next,
+        b" arrival ",
+        arrival,
+        b" required ",
+        required,
+        b" slack ",
+        slack,
+    )
 }
 
 fn put_copies(
@@ -131,13 +142,21 @@ pub(crate) fn put_graph(
     put_edges(buf, b, from, to, via)
 }
 
-fn put_node(buf: &mut Text, at: usize, node: usize, known: u32, a: i64, r: i64, s: i64) -> usize {
+fn put_node(
+    buf: &mut Text,
+    at: usize,
+    node: usize,
+    known: u32,
+    arrival: i64,
+    required: i64,
+    slack: i64,
+) -> usize {
     let next = put_named(buf, at, b"node ", node as u64);
     if known == 0 {
         let next = put_text(buf, next, b" none");
         return end_line(buf, next);
     }
-    put_times(buf, next, b" ", a, b" ", r, b" ", s)
+    put_times(buf, next, b" ", arrival, b" ", required, b" ", slack)
 }
 
 pub(crate) fn put_nodes(

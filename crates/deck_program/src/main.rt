@@ -109,7 +109,7 @@ fn say_times(
     starts: &[u32],
     ends: &[u32],
     delays: &[i32],
-    t: u32,
+    allowed: u32,
     nodes: &[u32],
     from: &[u32],
     to: &[u32],
@@ -123,7 +123,7 @@ fn say_times(
         starts,
         ends,
         delays,
-        t,
+        allowed,
         nodes,
         from,
         to,
@@ -141,7 +141,7 @@ fn say_graph(
     starts: &[u32],
     ends: &[u32],
     delays: &[i32],
-    t: u32,
+    allowed: u32,
     nodes: &[u32],
     from: &[u32],
     to: &[u32],
@@ -157,7 +157,7 @@ fn say_graph(
         starts,
         ends,
         delays,
-        t,
+        allowed,
         nodes,
         from,
         to,
@@ -175,11 +175,11 @@ fn say_made(
     starts: &[u32],
     ends: &[u32],
     delays: &[i32],
-    t: u32,
-    nodes: &[u32],
-    from: &[u32],
-    to: &[u32],
-    via: &[u32],
+    allowed: u32,
+    room_nodes: &[u32],
+    room_from: &[u32],
+    room_to: &[u32],
+    room_via: &[u32],
 ) -> usize {
     match made {
         GraphMade::Refused(r) => put_refused(buf, 0, r),
@@ -189,11 +189,11 @@ fn say_made(
             starts,
             ends,
             delays,
-            t,
-            front(nodes, copies),
-            front(from, edges),
-            front(to, edges),
-            front(via, edges),
+            allowed,
+            front(room_nodes, copies),
+            front(room_from, edges),
+            front(room_to, edges),
+            front(room_via, edges),
         ),
     }
 }
@@ -207,12 +207,12 @@ fn say_removal(
     delays: &[i32],
     listed: &[u32],
     lengths: &[u32],
-    t: u32,
+    allowed: u32,
 ) -> usize {
-    let mut nodes = [0; 512];
-    let mut from = [0; 2048];
-    let mut to = [0; 2048];
-    let mut via = [0; 2048];
+    let mut room_nodes = [0; 512];
+    let mut room_from = [0; 2048];
+    let mut room_to = [0; 2048];
+    let mut room_via = [0; 2048];
     let mut scratch = [0; 16384];
     let made = removal::remove_from_design(
         n,
@@ -221,10 +221,10 @@ fn say_removal(
         delays,
         listed,
         lengths,
-        &mut nodes,
-        &mut from,
-        &mut to,
-        &mut via,
+        &mut room_nodes,
+        &mut room_from,
+        &mut room_to,
+        &mut room_via,
         &mut scratch,
     );
     say_made(
@@ -234,11 +234,11 @@ fn say_removal(
         starts,
         ends,
         delays,
-        t,
-        &nodes,
-        &from,
-        &to,
-        &via,
+        allowed,
+        &room_nodes,
+        &room_from,
+        &room_to,
+        &room_via,
     )
 }
 
@@ -251,13 +251,13 @@ fn say_deck(
     delays: &[i32],
     listed: &[u32],
     lengths: &[u32],
-    t: u32,
+    allowed: u32,
 ) -> usize {
-    let verdict = unfit::test_deck(n, starts, ends, delays, listed, lengths, t);
+    let verdict = unfit::test_deck(n, starts, ends, delays, listed, lengths, allowed);
     if let Verdict::Refused(r) = verdict {
         return put_refused(buf, 0, r);
     }
-    say_removal(buf, n, starts, ends, delays, listed, lengths, t)
+    say_removal(buf, n, starts, ends, delays, listed, lengths, allowed)
 }
 
 fn say_read(

@@ -1,4 +1,6 @@
 // What the programs print, on standard output. What is printed is compared, not proved.
+ghost use mathlib.Core.Path.{_≡_};
+ghost use lib.IntN.{natAbs};
 use libc::STDOUT_FILENO;
 use timing::Refusal;
 
@@ -24,16 +26,42 @@ pub fn bytes(s: &[u8]) {
     }
 }
 
-// A negative time t is printed by way of -(t + 1), which fits for every i64.
+// A space and a number.
+pub fn spaced(n: u64) {
+    text(b" ");
+    number(n);
+}
+
+fn word(x: u32) {
+    spaced(x as u64);
+}
+
+// Each number behind a space.
+pub fn words(s: &[u32]) {
+    let mut i = 0;
+    while i < s.len() {
+        word(s[i]);
+        i += 1;
+    }
+}
+
+// How far a time is from 0. A negative one goes by way of -(t + 1), which fits for every i64.
+pub fn magnitude(t: i64) -> u64
+    ensures { λ r. ⌜ r ≡ natAbs t ⌝ }
+{
+    if t < 0 {
+        let m = -(t + 1);
+        let n = m as u64;
+        return n + 1;
+    }
+    t as u64
+}
+
 pub fn time(t: i64) {
     if t < 0 {
         text(b"-");
-        let m = -(t + 1);
-        let n = m as u64;
-        number(n + 1);
-    } else {
-        number(t as u64);
     }
+    number(magnitude(t));
 }
 
 pub fn delay(d: i32) {

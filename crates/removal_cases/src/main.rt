@@ -4,19 +4,22 @@ mod output;
 mod remove;
 mod tables;
 
+use cases::unpack;
+use entries::front_delays;
 use libc::STDIN_FILENO;
 use packed_lists::take_number;
 use remove::lend;
+use tables::CODES;
 use tables::Design;
 use tables::Held;
 use tables::Step;
 use tables::WORDS;
 use tables::hold_given;
 use tables::nothing;
+use tables::part;
 use tables::read_design;
 use tables::read_list;
 use tables::read_sizes;
-use tables::unpack_delays;
 
 // What a removal works on: 0 the design, 1 what is held, 2 the graph at a place.
 fn hold(choice: u32, s: &[u8], at: usize, held: Held, words: &mut [u32]) -> Step {
@@ -65,8 +68,8 @@ fn run_series(s: &[u8], at: usize) -> usize {
     let mut words = [0u32; WORDS];
     let mut delays = [0i32; 16400];
     let d = read_design(s, at, &mut words);
-    let m = unpack_delays(&words, d.codes, &mut delays);
-    run_removals(s, d, &delays[..m], &mut words)
+    unpack(part(&words, CODES, d.codes), &mut delays);
+    run_removals(s, d, front_delays(&delays, d.codes), &mut words)
 }
 
 // Runs the series of a block.

@@ -1,6 +1,7 @@
 // What is lent before a removal, and what is printed of it afterwards.
 ghost use Prim.Native.Nat.{_≤_, _<_};
 ghost use lib.ListN.{length};
+use entries::front;
 use entries::least;
 use print::refused;
 use print::text;
@@ -39,26 +40,11 @@ fn checksum(words: &[u32]) -> u64 {
     h
 }
 
-fn say_word(word: u32) {
-    text(b" ");
-    print::number(word as u64);
-}
-
-// The first words of a slice, as many as the count says.
-fn say_words(count: usize, words: &[u32]) {
-    let len = least(count, words.len());
-    let mut k = 0;
-    while k < len {
-        say_word(words[k]);
-        k += 1;
-    }
-}
-
 // A line: the sum over a slice, and its first words.
 fn say_slice(label: &[u8], count: usize, words: &[u32]) {
     text(label);
     print::number(checksum(words));
-    say_words(count, words);
+    print::words(front(words, count));
     text(b"\n");
 }
 
@@ -98,11 +84,18 @@ fn say_made(made: GraphMade) -> Printed {
 }
 
 // A removal's answer, the graph if it is small, and a sum over each slice.
-pub fn say(made: GraphMade, nodes: &[u32], from: &[u32], to: &[u32], via: &[u32], scratch: &[u32]) {
+pub(crate) fn say(
+    made: GraphMade,
+    room_nodes: &[u32],
+    room_from: &[u32],
+    room_to: &[u32],
+    room_via: &[u32],
+    scratch: &[u32],
+) {
     let c = say_made(made);
-    say_slice(b"\nnodes ", c.copies, nodes);
-    say_slice(b"from ", c.edges, from);
-    say_slice(b"to ", c.edges, to);
-    say_slice(b"via ", c.edges, via);
+    say_slice(b"\nnodes ", c.copies, room_nodes);
+    say_slice(b"from ", c.edges, room_from);
+    say_slice(b"to ", c.edges, room_to);
+    say_slice(b"via ", c.edges, room_via);
     say_slice(b"scratch ", 0, scratch);
 }

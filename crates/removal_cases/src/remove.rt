@@ -17,14 +17,14 @@ fn from_graph(
     delays: &[i32],
     l: List,
     held: Held,
-    nodes: &mut [u32],
-    from: &mut [u32],
-    to: &mut [u32],
-    via: &mut [u32],
+    room_nodes: &mut [u32],
+    room_from: &mut [u32],
+    room_to: &mut [u32],
+    room_via: &mut [u32],
     scratch: &mut [u32],
 ) -> GraphMade {
     removal::remove_from_graph(
-        d.nodes,
+        d.n,
         part(words, tables::STARTS, d.starts),
         part(words, tables::ENDS, d.ends),
         delays,
@@ -34,10 +34,10 @@ fn from_graph(
         part(words, tables::FROM, held.from),
         part(words, tables::TO, held.to),
         part(words, tables::VIA, held.via),
-        nodes,
-        from,
-        to,
-        via,
+        room_nodes,
+        room_from,
+        room_to,
+        room_via,
         scratch,
     )
 }
@@ -47,23 +47,23 @@ fn from_design(
     d: Design,
     delays: &[i32],
     l: List,
-    nodes: &mut [u32],
-    from: &mut [u32],
-    to: &mut [u32],
-    via: &mut [u32],
+    room_nodes: &mut [u32],
+    room_from: &mut [u32],
+    room_to: &mut [u32],
+    room_via: &mut [u32],
     scratch: &mut [u32],
 ) -> GraphMade {
     removal::remove_from_design(
-        d.nodes,
+        d.n,
         part(words, tables::STARTS, d.starts),
         part(words, tables::ENDS, d.ends),
         delays,
         part(words, tables::LISTED, l.listed),
         part(words, tables::LENGTHS, l.lengths),
-        nodes,
-        from,
-        to,
-        via,
+        room_nodes,
+        room_from,
+        room_to,
+        room_via,
         scratch,
     )
 }
@@ -74,16 +74,37 @@ fn remove(
     delays: &[i32],
     l: List,
     held: Held,
-    nodes: &mut [u32],
-    from: &mut [u32],
-    to: &mut [u32],
-    via: &mut [u32],
+    room_nodes: &mut [u32],
+    room_from: &mut [u32],
+    room_to: &mut [u32],
+    room_via: &mut [u32],
     scratch: &mut [u32],
 ) -> GraphMade {
     if held.any {
-        return from_graph(words, d, delays, l, held, nodes, from, to, via, scratch);
+        return from_graph(
+            words,
+            d,
+            delays,
+            l,
+            held,
+            room_nodes,
+            room_from,
+            room_to,
+            room_via,
+            scratch,
+        );
     }
-    from_design(words, d, delays, l, nodes, from, to, via, scratch)
+    from_design(
+        words,
+        d,
+        delays,
+        l,
+        room_nodes,
+        room_from,
+        room_to,
+        room_via,
+        scratch,
+    )
 }
 
 // The same; prints all that was lent, and answers what is held afterwards.
@@ -93,19 +114,30 @@ fn remove_and_say(
     delays: &[i32],
     l: List,
     held: Held,
-    nodes: &mut [u32],
-    from: &mut [u32],
-    to: &mut [u32],
-    via: &mut [u32],
+    room_nodes: &mut [u32],
+    room_from: &mut [u32],
+    room_to: &mut [u32],
+    room_via: &mut [u32],
     scratch: &mut [u32],
 ) -> Held {
-    let made = remove(words, d, delays, l, held, nodes, from, to, via, scratch);
-    say(made, nodes, from, to, via, scratch);
-    keep(made, held, nodes, from, to, via, words)
+    let made = remove(
+        words,
+        d,
+        delays,
+        l,
+        held,
+        room_nodes,
+        room_from,
+        room_to,
+        room_via,
+        scratch,
+    );
+    say(made, room_nodes, room_from, room_to, room_via, scratch);
+    keep(made, held, room_nodes, room_from, room_to, room_via, words)
 }
 
 // The same, with the room and the scratch lent as long as the case says.
-pub fn lend(
+pub(crate) fn lend(
     words: &mut [u32],
     d: Design,
     delays: &[i32],
@@ -113,15 +145,15 @@ pub fn lend(
     held: Held,
     sizes: Sizes,
 ) -> Held {
-    let mut nodes = [0u32; 2080];
-    let mut from = [0u32; 2080];
-    let mut to = [0u32; 2080];
-    let mut via = [0u32; 2080];
+    let mut room_nodes = [0u32; 2080];
+    let mut room_from = [0u32; 2080];
+    let mut room_to = [0u32; 2080];
+    let mut room_via = [0u32; 2080];
     let mut scratch = [0u32; 32768];
-    let a = set_pattern(3000000000, sizes.nodes, &mut nodes);
-    let b = set_pattern(3100000000, sizes.from, &mut from);
-    let c = set_pattern(3200000000, sizes.to, &mut to);
-    let e = set_pattern(3300000000, sizes.via, &mut via);
+    let a = set_pattern(3000000000, sizes.nodes, &mut room_nodes);
+    let b = set_pattern(3100000000, sizes.from, &mut room_from);
+    let c = set_pattern(3200000000, sizes.to, &mut room_to);
+    let e = set_pattern(3300000000, sizes.via, &mut room_via);
     let k = set_pattern(3400000000, sizes.scratch, &mut scratch);
     remove_and_say(
         words,
@@ -129,10 +161,10 @@ pub fn lend(
         delays,
         l,
         held,
-        &mut nodes[..a],
-        &mut from[..b],
-        &mut to[..c],
-        &mut via[..e],
+        &mut room_nodes[..a],
+        &mut room_from[..b],
+        &mut room_to[..c],
+        &mut room_via[..e],
         &mut scratch[..k],
     )
 }

@@ -1,34 +1,31 @@
 // All that a series reads and holds stands in one slice of words, in parts: so a function takes one
 // slice where it would take nine. A part has a place in the slice, and room for the longest that is
 // read into it.
-ghost use Prim.Native.Nat.{_≤_};
-ghost use lib.ListN.{length};
 use cases::Slice;
 use cases::fill;
-use cases::unpack;
 use entries::least;
 use packed_lists::take_number;
 use timing::GraphMade;
 
-pub const WORDS: usize = 81080;
+pub(crate) const WORDS: usize = 81080;
 
-pub const STARTS: usize = 0;
+pub(crate) const STARTS: usize = 0;
 
-pub const ENDS: usize = 16400;
+pub(crate) const ENDS: usize = 16400;
 
-const CODES: usize = 32800;
+pub(crate) const CODES: usize = 32800;
 
-pub const LISTED: usize = 49200;
+pub(crate) const LISTED: usize = 49200;
 
-pub const LENGTHS: usize = 57400;
+pub(crate) const LENGTHS: usize = 57400;
 
-pub const NODES: usize = 58440;
+pub(crate) const NODES: usize = 58440;
 
-pub const FROM: usize = 74840;
+pub(crate) const FROM: usize = 74840;
 
-pub const TO: usize = 76920;
+pub(crate) const TO: usize = 76920;
 
-pub const VIA: usize = 79000;
+pub(crate) const VIA: usize = 79000;
 
 const EDGE_ROOM: usize = 16400;
 
@@ -41,8 +38,8 @@ const COPY_ROOM: usize = 16400;
 const COPY_EDGE_ROOM: usize = 2080;
 
 // n and the lengths of a design's slices, and the place behind them.
-pub struct Design {
-    pub nodes: u32,
+pub(crate) struct Design {
+    pub n: u32,
     pub starts: usize,
     pub ends: usize,
     pub codes: usize,
@@ -50,14 +47,14 @@ pub struct Design {
 }
 
 // The lengths of a list's slices, and the place behind them.
-pub struct List {
+pub(crate) struct List {
     pub listed: usize,
     pub lengths: usize,
     pub next: usize,
 }
 
 // The lengths of the room's slices and of the scratch; and the place behind them.
-pub struct Sizes {
+pub(crate) struct Sizes {
     pub nodes: usize,
     pub from: usize,
     pub to: usize,
@@ -67,7 +64,7 @@ pub struct Sizes {
 }
 
 // Whether a graph is held, and the lengths of its slices.
-pub struct Held {
+pub(crate) struct Held {
     pub any: bool,
     pub nodes: usize,
     pub from: usize,
@@ -76,13 +73,13 @@ pub struct Held {
 }
 
 // What is held after a part of the input, and the place behind that part.
-pub struct Step {
+pub(crate) struct Step {
     pub held: Held,
     pub next: usize,
 }
 
 // The words from a place on, or none where there are not so many.
-pub fn part<'a>(words: &'a [u32], place: usize, len: usize) -> &'a [u32] {
+pub(crate) fn part<'a>(words: &'a [u32], place: usize, len: usize) -> &'a [u32] {
     if place <= words.len() {
         if len <= words.len() - place {
             return &words[place..place + len];
@@ -101,13 +98,13 @@ fn fill_part(s: &[u8], at: usize, words: &mut [u32], place: usize, room: usize) 
     Slice { len: 0, next: at }
 }
 
-pub fn read_design(s: &[u8], at: usize, words: &mut [u32]) -> Design {
+pub(crate) fn read_design(s: &[u8], at: usize, words: &mut [u32]) -> Design {
     let n = take_number(s, at);
     let a = fill_part(s, n.next, words, STARTS, EDGE_ROOM);
     let b = fill_part(s, a.next, words, ENDS, EDGE_ROOM);
     let c = fill_part(s, b.next, words, CODES, EDGE_ROOM);
     Design {
-        nodes: n.value,
+        n: n.value,
         starts: a.len,
         ends: b.len,
         codes: c.len,
@@ -115,7 +112,7 @@ pub fn read_design(s: &[u8], at: usize, words: &mut [u32]) -> Design {
     }
 }
 
-pub fn read_list(s: &[u8], at: usize, words: &mut [u32]) -> List {
+pub(crate) fn read_list(s: &[u8], at: usize, words: &mut [u32]) -> List {
     let a = fill_part(s, at, words, LISTED, LISTED_ROOM);
     let b = fill_part(s, a.next, words, LENGTHS, PATH_ROOM);
     List {
@@ -125,7 +122,7 @@ pub fn read_list(s: &[u8], at: usize, words: &mut [u32]) -> List {
     }
 }
 
-pub fn read_sizes(s: &[u8], at: usize) -> Sizes {
+pub(crate) fn read_sizes(s: &[u8], at: usize) -> Sizes {
     let a = take_number(s, at);
     let b = take_number(s, a.next);
     let c = take_number(s, b.next);
@@ -141,16 +138,7 @@ pub fn read_sizes(s: &[u8], at: usize) -> Sizes {
     }
 }
 
-// The delays of a design, and how many there are.
-pub fn unpack_delays(words: &[u32], count: usize, delays: &mut [i32]) -> usize
-    ensures { λ r. ⌜ r ≤ length (now (delays .exit)) ⌝ }
-{
-    let m = least(count, delays.len());
-    unpack(part(words, CODES, m), delays);
-    m
-}
-
-pub fn nothing() -> Held {
+pub(crate) fn nothing() -> Held {
     Held {
         any: false,
         nodes: 0,
@@ -161,7 +149,7 @@ pub fn nothing() -> Held {
 }
 
 // The graph at a place becomes the graph held.
-pub fn hold_given(s: &[u8], at: usize, words: &mut [u32]) -> Step {
+pub(crate) fn hold_given(s: &[u8], at: usize, words: &mut [u32]) -> Step {
     let a = fill_part(s, at, words, NODES, COPY_ROOM);
     let b = fill_part(s, a.next, words, FROM, COPY_EDGE_ROOM);
     let c = fill_part(s, b.next, words, TO, COPY_EDGE_ROOM);
@@ -192,21 +180,21 @@ fn copy_to(count: usize, source: &[u32], words: &mut [u32], place: usize) {
 }
 
 // What is held after a removal: its result, or what was held before.
-pub fn keep(
+pub(crate) fn keep(
     made: GraphMade,
     held: Held,
-    nodes: &[u32],
-    from: &[u32],
-    to: &[u32],
-    via: &[u32],
+    room_nodes: &[u32],
+    room_from: &[u32],
+    room_to: &[u32],
+    room_via: &[u32],
     words: &mut [u32],
 ) -> Held {
     match made {
         GraphMade::Counts { copies, edges } => {
-            copy_to(copies, nodes, words, NODES);
-            copy_to(edges, from, words, FROM);
-            copy_to(edges, to, words, TO);
-            copy_to(edges, via, words, VIA);
+            copy_to(copies, room_nodes, words, NODES);
+            copy_to(edges, room_from, words, FROM);
+            copy_to(edges, room_to, words, TO);
+            copy_to(edges, room_via, words, VIA);
             Held {
                 any: true,
                 nodes: copies,

@@ -2,209 +2,27 @@
 // The input is two blocks of 65,536 bytes, each of packed numbers: a count of cases, and for each n, T, a
 // node, the lengths of the three slices for times and of the four for records, and then seven slices:
 // starts, ends, delays, the nodes of the copies, start copies, end copies, design edges.
-// A slice is how many numbers follow, how many more there are, by how much each of these is above the
-// one before, and the numbers. So slices need not belong together, and a chain takes few bytes.
-use cases::Slice;
-use cases::unpack;
+// Crate `cases` says how a slice is packed; here each has a rise, so that a chain takes few bytes.
+mod input;
+mod say;
+
+use cases::fill_rising;
 use entries::front;
 use entries::front_delays;
 use entries::least;
+use input::Places;
+use input::Question;
+use input::fill_delays;
+use input::read_places;
+use input::read_question;
 use libc::STDIN_FILENO;
 use packed_lists::take_number;
-use print::refused;
-use print::text;
-use timing::NodeAnswer;
-use timing::NodeTimes;
+use say::say_answer;
+use say::say_found;
+use say::say_records;
 use timing::Verdict;
 
-// The number after `value`, or `value` where the sum would not fit.
-fn above(value: u32, rise: u32) -> u32 {
-    if rise <= 4294967295 - value {
-        value + rise
-    } else {
-        value
-    }
-}
-
-fn fill(s: &[u8], at: usize, table: &mut [u32]) -> Slice {
-    let stored = take_number(s, at);
-    let more = take_number(s, stored.next);
-    let rise = take_number(s, more.next);
-    let count = stored.value as usize;
-    let len = least(count + more.value as usize, table.len());
-    let mut next = rise.next;
-    let mut value: u32 = 0;
-    let mut k = 0;
-    while k < len {
-        if k < count {
-            let x = take_number(s, next);
-            value = x.value;
-            next = x.next;
-        } else {
-            value = above(value, rise.value);
-        }
-        table[k] = value;
-        k += 1;
-    }
-    Slice { len, next }
-}
-
-// Delays from their packed numbers.
-fn fill_delays(s: &[u8], at: usize, delays: &mut [i32]) -> Slice {
-    let mut codes = [0u32; 4200];
-    let c = fill(s, at, &mut codes);
-    unpack(front(&codes, c.len), delays);
-    c
-}
-
-// What a case asks besides its slices.
-struct Question {
-    nodes: u32,
-    allowed: u32,
-    node: u32,
-    arrivals: u32,
-    requireds: u32,
-    slacks: u32,
-    next: usize,
-}
-
-fn read_question(s: &[u8], at: usize) -> Question {
-    let n = take_number(s, at);
-    let t = take_number(s, n.next);
-    let v = take_number(s, t.next);
-    let x = take_number(s, v.next);
-    let y = take_number(s, x.next);
-    let z = take_number(s, y.next);
-    Question {
-        nodes: n.value,
-        allowed: t.value,
-        node: v.value,
-        arrivals: x.value,
-        requireds: y.value,
-        slacks: z.value,
-        next: z.next,
-    }
-}
-
-// The lengths of the slices for the records of all nodes.
-struct Places {
-    known: u32,
-    arrivals: u32,
-    requireds: u32,
-    slacks: u32,
-    next: usize,
-}
-
-fn read_places(s: &[u8], at: usize) -> Places {
-    let k = take_number(s, at);
-    let x = take_number(s, k.next);
-    let y = take_number(s, x.next);
-    let z = take_number(s, y.next);
-    Places {
-        known: k.value,
-        arrivals: x.value,
-        requireds: y.value,
-        slacks: z.value,
-        next: z.next,
-    }
-}
-
-// Of many copies or nodes the first 64 are printed, and then every 512th.
-fn printed(k: usize) -> bool {
-    k < 64 || k % 512 == 511
-}
-
-// Three times, and the end of the line.
-fn say_times(arrival: i64, required: i64, slack: i64) {
-    print::time(arrival);
-    text(b" ");
-    print::time(required);
-    text(b" ");
-    print::time(slack);
-    text(b"\n");
-}
-
-fn say_refused(r: timing::Refusal) {
-    refused(r);
-    text(b"\n");
-}
-
-fn say_copy(c: usize, arrival: i64, required: i64, slack: i64) {
-    if printed(c) {
-        text(b"copy ");
-        print::number(c as u64);
-        text(b" ");
-        say_times(arrival, required, slack);
-    }
-}
-
-fn say_copies(arrivals: &[i64], requireds: &[i64], slacks: &[i64]) {
-    let len = least(arrivals.len(), least(requireds.len(), slacks.len()));
-    let mut k = 0;
-    while k < len {
-        say_copy(k, arrivals[k], requireds[k], slacks[k]);
-        k += 1;
-    }
-}
-
-fn say_found(v: Verdict, arrivals: &[i64], requireds: &[i64], slacks: &[i64]) {
-    match v {
-        Verdict::Passed => say_copies(arrivals, requireds, slacks),
-        Verdict::Refused(r) => say_refused(r),
-    }
-}
-
-// The answer of `node_record`.
-fn say_answer(answer: NodeAnswer) {
-    match answer {
-        NodeAnswer::Record(record) => {
-            text(b"record ");
-            print::number(record.node as u64);
-            text(b" ");
-            let times = record.times;
-            match times {
-                NodeTimes::Times {
-                    arrival,
-                    required,
-                    slack,
-                } => say_times(arrival, required, slack),
-                NodeTimes::None => text(b"none\n"),
-            }
-        }
-        NodeAnswer::Refused(r) => say_refused(r),
-    }
-}
-
-fn say_node(v: usize, known: u32, arrival: i64, required: i64, slack: i64) {
-    if printed(v) {
-        text(b"node ");
-        print::number(v as u64);
-        text(b" ");
-        if known == 0 {
-            text(b"none\n");
-        } else {
-            say_times(arrival, required, slack);
-        }
-    }
-}
-
-fn say_nodes(known: &[u32], na: &[i64], nr: &[i64], ns: &[i64]) {
-    let len = least(least(known.len(), na.len()), least(nr.len(), ns.len()));
-    let mut v = 0;
-    while v < len {
-        say_node(v, known[v], na[v], nr[v], ns[v]);
-        v += 1;
-    }
-}
-
-// The answer of `node_records`.
-fn say_records(v: Verdict, known: &[u32], na: &[i64], nr: &[i64], ns: &[i64]) {
-    match v {
-        Verdict::Passed => say_nodes(known, na, nr, ns),
-        Verdict::Refused(r) => say_refused(r),
-    }
-}
-
+// Asks for the records of all nodes, and says them.
 fn records(
     n: u32,
     nodes: &[u32],
@@ -233,10 +51,10 @@ fn ask_records(
     let mut na = [0i64; 4200];
     let mut nr = [0i64; 4200];
     let mut ns = [0i64; 4200];
-    let k = least(p.known as usize, 4200);
-    let x = least(p.arrivals as usize, 4200);
-    let y = least(p.requireds as usize, 4200);
-    let z = least(p.slacks as usize, 4200);
+    let k = least(p.known, 4200);
+    let x = least(p.arrivals, 4200);
+    let y = least(p.requireds, 4200);
+    let z = least(p.slacks, 4200);
     records(
         n,
         nodes,
@@ -261,8 +79,8 @@ fn say_all(
     slacks: &[i64],
 ) {
     say_found(v, arrivals, requireds, slacks);
-    say_answer(times::node_record(q.nodes, nodes, arrivals, requireds, slacks, q.node));
-    ask_records(q.nodes, p, nodes, arrivals, requireds, slacks);
+    say_answer(times::node_record(q.n, nodes, arrivals, requireds, slacks, q.node));
+    ask_records(q.n, p, nodes, arrivals, requireds, slacks);
 }
 
 // Asks for the times of a graph and for the records of its nodes, and says them.
@@ -273,23 +91,23 @@ fn ask_and_say(
     ends: &[u32],
     delays: &[i32],
     nodes: &[u32],
-    gs: &[u32],
-    ge: &[u32],
-    gn: &[u32],
+    from: &[u32],
+    to: &[u32],
+    via: &[u32],
     arrivals: &mut [i64],
     requireds: &mut [i64],
     slacks: &mut [i64],
 ) {
     let v = times::times(
-        q.nodes,
+        q.n,
         starts,
         ends,
         delays,
         q.allowed,
         nodes,
-        gs,
-        ge,
-        gn,
+        from,
+        to,
+        via,
         arrivals,
         requireds,
         slacks,
@@ -305,16 +123,16 @@ fn ask(
     ends: &[u32],
     delays: &[i32],
     nodes: &[u32],
-    gs: &[u32],
-    ge: &[u32],
-    gn: &[u32],
+    from: &[u32],
+    to: &[u32],
+    via: &[u32],
 ) {
     let mut arrivals = [0i64; 4200];
     let mut requireds = [0i64; 4200];
     let mut slacks = [0i64; 4200];
-    let a = least(q.arrivals as usize, 4200);
-    let r = least(q.requireds as usize, 4200);
-    let k = least(q.slacks as usize, 4200);
+    let a = least(q.arrivals, 4200);
+    let r = least(q.requireds, 4200);
+    let k = least(q.slacks, 4200);
     ask_and_say(
         q,
         p,
@@ -322,9 +140,9 @@ fn ask(
         ends,
         delays,
         nodes,
-        gs,
-        ge,
-        gn,
+        from,
+        to,
+        via,
         &mut arrivals[..a],
         &mut requireds[..r],
         &mut slacks[..k],
@@ -342,13 +160,13 @@ fn graph_of(
     delays: &[i32],
 ) -> usize {
     let mut nodes = [0u32; 4200];
-    let mut gs = [0u32; 4200];
-    let mut ge = [0u32; 4200];
-    let mut gn = [0u32; 4200];
-    let a = fill(s, at, &mut nodes);
-    let b = fill(s, a.next, &mut gs);
-    let c = fill(s, b.next, &mut ge);
-    let d = fill(s, c.next, &mut gn);
+    let mut from = [0u32; 4200];
+    let mut to = [0u32; 4200];
+    let mut via = [0u32; 4200];
+    let a = fill_rising(s, at, &mut nodes);
+    let b = fill_rising(s, a.next, &mut from);
+    let c = fill_rising(s, b.next, &mut to);
+    let d = fill_rising(s, c.next, &mut via);
     ask(
         q,
         p,
@@ -356,9 +174,9 @@ fn graph_of(
         ends,
         delays,
         front(&nodes, a.len),
-        front(&gs, b.len),
-        front(&ge, c.len),
-        front(&gn, d.len),
+        front(&from, b.len),
+        front(&to, c.len),
+        front(&via, d.len),
     );
     d.next
 }
@@ -370,8 +188,8 @@ fn case(s: &[u8], at: usize) -> usize {
     let mut starts = [0u32; 4200];
     let mut ends = [0u32; 4200];
     let mut delays = [0i32; 4200];
-    let a = fill(s, p.next, &mut starts);
-    let b = fill(s, a.next, &mut ends);
+    let a = fill_rising(s, p.next, &mut starts);
+    let b = fill_rising(s, a.next, &mut ends);
     let c = fill_delays(s, b.next, &mut delays);
     graph_of(
         s,

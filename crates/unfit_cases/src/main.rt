@@ -3,6 +3,8 @@
 // Crate `cases` says how a slice is packed.
 use cases::fill;
 use cases::unpack;
+use entries::front;
+use entries::front_delays;
 use libc::STDIN_FILENO;
 use packed_lists::take_number;
 use print::refused;
@@ -20,32 +22,27 @@ fn say(v: Verdict) {
 // Tests the deck at a place, and answers the place behind it.
 fn case(s: &[u8], at: usize) -> usize {
     let n = take_number(s, at);
-    let t = take_number(s, n.next);
+    let allowed = take_number(s, n.next);
     let mut starts = [0u32; 16400];
     let mut ends = [0u32; 16400];
     let mut codes = [0u32; 16400];
     let mut delays = [0i32; 16400];
     let mut listed = [0u32; 8200];
     let mut lengths = [0u32; 1040];
-    let a = fill(s, t.next, &mut starts);
+    let a = fill(s, allowed.next, &mut starts);
     let b = fill(s, a.next, &mut ends);
     let c = fill(s, b.next, &mut codes);
     let d = fill(s, c.next, &mut listed);
     let e = fill(s, d.next, &mut lengths);
-    let starts_len = a.len;
-    let ends_len = b.len;
-    let delays_len = c.len;
-    let listed_len = d.len;
-    let lengths_len = e.len;
-    unpack(&codes[..delays_len], &mut delays);
+    unpack(front(&codes, c.len), &mut delays);
     say(unfit::test_deck(
         n.value,
-        &starts[..starts_len],
-        &ends[..ends_len],
-        &delays[..delays_len],
-        &listed[..listed_len],
-        &lengths[..lengths_len],
-        t.value,
+        front(&starts, a.len),
+        front(&ends, b.len),
+        front_delays(&delays, c.len),
+        front(&listed, d.len),
+        front(&lengths, e.len),
+        allowed.value,
     ));
     e.next
 }

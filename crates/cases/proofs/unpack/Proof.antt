@@ -14,7 +14,11 @@ use Rattle.cases.proofs.unpack.Statement.{statement}
 use Rattle.cases.proofs.unpack.Tie as tie
 
 abbrev Inv-loop : tie.InvT-loop
-Inv-loop codes delays₀ len i₀ delays i = (i ≤ len) × (len ≤ length codes) × (len ≤ length delays₀) × (length delays ≡ length delays₀) × (sets delays i (map delayOf (take (len - i) (drop i codes))) ≡ sets delays₀ 0 (map delayOf (take len codes)))
+Inv-loop codes delays₀ len i₀ delays i =
+    (len ≤ length codes)
+    × (len ≤ length delays₀)
+    × (length delays ≡ length delays₀)
+    × (sets delays i (map delayOf (take (len - i) (drop i codes))) ≡ sets delays₀ 0 (map delayOf (take len codes)))
 
 abbrev μ-loop : tie.MeasureT-loop
 μ-loop codes delays₀ len i₀ delays i = len - i
@@ -25,7 +29,7 @@ least-requires c κs = search needs
 loop-holds : tie.Need-loop-holds Inv-loop μ-loop
 loop-holds c =
     let a = c .before .before .args in
-    (omega arith, omega arith, omega arith, refl, delays-all (a .codes .now) (c .least .result) (a .delays .now))
+    (omega arith, omega arith, refl, delays-all (a .codes .now) (c .least .result) (a .delays .now))
 
 mul-unpack-delay : tie.Need-mul-unpack-delay Inv-loop μ-loop
 mul-unpack-delay c = omega arith
@@ -54,22 +58,21 @@ loop-again c =
     let a = l .before .before .before .args in
     let v = l .loop .inv in
     let len = l .before .least .result in (
-      omega arith,
+      v .0,
       v .1,
-      v .2,
-      simp length-set (v .3),
-      rw (toZ-ofZ {w = w32} {z = c .unpack-delay .result} (record { sfits = c .unpack-delay .ok }), c .unpack-delay .ensures) (delays-turn (a .codes .now) len (l .loop .i) (l .loop .delays) (c .before .before .loop-test .taken) (v .1)) ∙ v .4,
+      simp length-set (v .2),
+      rw (toZ-ofZ {w = w32} {z = c .unpack-delay .result} (record { sfits = c .unpack-delay .ok }), c .unpack-delay .ensures) (delays-turn (a .codes .now) len (l .loop .i) (l .loop .delays) (c .before .before .loop-test .taken) (v .0)) ∙ v .3,
     )
 
 same-length : tie.Need-same-length Inv-loop μ-loop
-same-length c = c .before .loop .inv .3
+same-length c = c .before .loop .inv .2
 
 returns : tie.Need-returns Inv-loop μ-loop
 returns c =
     let l = c .before in
     let a = l .before .before .before .args in
     let len = l .before .least .result in
-    sym (delays-done (a .codes .now) len (l .loop .i) (l .loop .delays) (c .loop-test .left)) ∙ l .loop .inv .4 ∙ ap (λ (n : ℕ). sets (a .delays .now) 0 (map delayOf (take n (a .codes .now)))) (l .before .least .ensures .0)
+    sym (delays-done (a .codes .now) len (l .loop .i) (l .loop .delays) (c .loop-test .left)) ∙ l .loop .inv .3 ∙ ap (λ (n : ℕ). sets (a .delays .now) 0 (map delayOf (take n (a .codes .now)))) (l .before .least .ensures .0)
 
 pub unpack-spec : {M : Type 1} → statement M
 unpack-spec =

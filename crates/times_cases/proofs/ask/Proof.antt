@@ -5,20 +5,11 @@ use borrow.Author.Needs.{needs}
 use Rattle.times_cases.proofs.ask.Statement.{statement}
 use Rattle.times_cases.proofs.ask.Tie as tie
 
-cast-least : tie.Need-cast-least
-cast-least c = search needs
-
 least-requires : tie.Need-least-requires
 least-requires c κs = tt
 
-cast-least-2 : tie.Need-cast-least-2
-cast-least-2 c = search needs
-
 least-requires-2 : tie.Need-least-requires-2
 least-requires-2 c κs = tt
-
-cast-least-3 : tie.Need-cast-least-3
-cast-least-3 c = search needs
 
 least-requires-3 : tie.Need-least-requires-3
 least-requires-3 c κs = tt
@@ -51,11 +42,8 @@ pub ask-spec : {M : Type 1} → statement M
 ask-spec =
     tie.close
     (tie.spec
-    cast-least
     least-requires
-    cast-least-2
     least-requires-2
-    cast-least-3
     least-requires-3
     array-borrow-prefix-arrivals
     slice-aggregate-ask-and-say

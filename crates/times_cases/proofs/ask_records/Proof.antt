@@ -5,26 +5,14 @@ use borrow.Author.Needs.{needs}
 use Rattle.times_cases.proofs.ask_records.Statement.{statement}
 use Rattle.times_cases.proofs.ask_records.Tie as tie
 
-cast-least : tie.Need-cast-least
-cast-least c = search needs
-
 least-requires : tie.Need-least-requires
 least-requires c κs = tt
-
-cast-least-2 : tie.Need-cast-least-2
-cast-least-2 c = search needs
 
 least-requires-2 : tie.Need-least-requires-2
 least-requires-2 c κs = tt
 
-cast-least-3 : tie.Need-cast-least-3
-cast-least-3 c = search needs
-
 least-requires-3 : tie.Need-least-requires-3
 least-requires-3 c κs = tt
-
-cast-least-4 : tie.Need-cast-least-4
-cast-least-4 c = search needs
 
 least-requires-4 : tie.Need-least-requires-4
 least-requires-4 c κs = tt
@@ -63,13 +51,9 @@ pub ask-records-spec : {M : Type 1} → statement M
 ask-records-spec =
     tie.close
     (tie.spec
-    cast-least
     least-requires
-    cast-least-2
     least-requires-2
-    cast-least-3
     least-requires-3
-    cast-least-4
     least-requires-4
     array-borrow-prefix-known
     slice-aggregate-records

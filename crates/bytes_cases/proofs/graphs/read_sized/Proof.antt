@@ -25,26 +25,26 @@ least-requires-3 c κs = tt
 least-requires-4 : tie.Need-least-requires-4
 least-requires-4 c κs = tt
 
-array-borrow-prefix-nodes : tie.Need-array-borrow-prefix-nodes
-array-borrow-prefix-nodes c = search needs
+array-borrow-prefix-room-nodes : tie.Need-array-borrow-prefix-room-nodes
+array-borrow-prefix-room-nodes c = search needs
 
 slice-aggregate-read : tie.Need-slice-aggregate-read
 slice-aggregate-read c = simp length-take (omega arith)
 
-array-borrow-prefix-gs : tie.Need-array-borrow-prefix-gs
-array-borrow-prefix-gs c = search needs
+array-borrow-prefix-room-from : tie.Need-array-borrow-prefix-room-from
+array-borrow-prefix-room-from c = search needs
 
 slice-aggregate-read-2 : tie.Need-slice-aggregate-read-2
 slice-aggregate-read-2 c = simp length-take (omega arith)
 
-array-borrow-prefix-ge : tie.Need-array-borrow-prefix-ge
-array-borrow-prefix-ge c = search needs
+array-borrow-prefix-room-to : tie.Need-array-borrow-prefix-room-to
+array-borrow-prefix-room-to c = search needs
 
 slice-aggregate-read-3 : tie.Need-slice-aggregate-read-3
 slice-aggregate-read-3 c = simp length-take (omega arith)
 
-array-borrow-prefix-gn : tie.Need-array-borrow-prefix-gn
-array-borrow-prefix-gn c = search needs
+array-borrow-prefix-room-via : tie.Need-array-borrow-prefix-room-via
+array-borrow-prefix-room-via c = search needs
 
 slice-aggregate-read-4 : tie.Need-slice-aggregate-read-4
 slice-aggregate-read-4 c = simp length-take (omega arith)
@@ -64,13 +64,13 @@ read-sized-spec =
     least-requires-2
     least-requires-3
     least-requires-4
-    array-borrow-prefix-nodes
+    array-borrow-prefix-room-nodes
     slice-aggregate-read
-    array-borrow-prefix-gs
+    array-borrow-prefix-room-from
     slice-aggregate-read-2
-    array-borrow-prefix-ge
+    array-borrow-prefix-room-to
     slice-aggregate-read-3
-    array-borrow-prefix-gn
+    array-borrow-prefix-room-via
     slice-aggregate-read-4
     read-requires
     returns)

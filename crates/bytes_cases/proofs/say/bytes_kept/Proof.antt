@@ -5,10 +5,10 @@ use Rattle.bytes_cases.proofs.say.bytes_kept.Statement.{statement}
 use Rattle.bytes_cases.proofs.say.bytes_kept.Tie as tie
 
 abbrev Inv-loop : tie.InvT-loop
-Inv-loop s from kept₀ k₀ kept k = k₀ ≤ k
+Inv-loop s place kept₀ k₀ kept k = k₀ ≤ k
 
 abbrev μ-loop : tie.MeasureT-loop
-μ-loop s from kept₀ k₀ kept k = length s - k
+μ-loop s place kept₀ k₀ kept k = length s - k
 
 loop-holds : tie.Need-loop-holds Inv-loop μ-loop
 loop-holds c = omega arith

@@ -6,15 +6,15 @@ use Rattle.deck_program.proofs.text.write_front.Tie as tie
 least-requires : tie.Need-least-requires
 least-requires c κs = tt
 
-slice-aggregate-write-all : tie.Need-slice-aggregate-write-all
-slice-aggregate-write-all c = simp length-take (omega (arith, c .before .least .ensures .2))
+slice-aggregate-text : tie.Need-slice-aggregate-text
+slice-aggregate-text c = simp length-take (omega (arith, c .before .least .ensures .2))
 
-write-all-requires : tie.Need-write-all-requires
-write-all-requires c κs = tt
+text-requires : tie.Need-text-requires
+text-requires c κs = tt
 
 returns : tie.Need-returns
 returns c = tt
 
 pub write-front-spec : {M : Type 1} → statement M
 write-front-spec =
-    tie.close (tie.spec least-requires slice-aggregate-write-all write-all-requires returns)
+    tie.close (tie.spec least-requires slice-aggregate-text text-requires returns)

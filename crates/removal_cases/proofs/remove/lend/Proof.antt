@@ -34,26 +34,26 @@ slice-aggregate-set-pattern-5 c = search needs
 set-pattern-requires-5 : tie.Need-set-pattern-requires-5
 set-pattern-requires-5 c κs = search needs
 
-array-borrow-prefix-nodes : tie.Need-array-borrow-prefix-nodes
-array-borrow-prefix-nodes c = c .before .before .before .before .before .before .before .before .before .before .before .before .before .before .set-pattern .ensures
+array-borrow-prefix-room-nodes : tie.Need-array-borrow-prefix-room-nodes
+array-borrow-prefix-room-nodes c = c .before .before .before .before .before .before .before .before .before .before .before .before .before .before .set-pattern .ensures
 
 slice-aggregate-remove-and-say : tie.Need-slice-aggregate-remove-and-say
 slice-aggregate-remove-and-say c = simp length-take (omega (arith, c .before .before .before .before .before .before .before .before .before .before .before .before .before .before .before .set-pattern .ensures))
 
-array-borrow-prefix-from : tie.Need-array-borrow-prefix-from
-array-borrow-prefix-from c = c .before .before .before .before .before .before .before .before .before .before .before .before .set-pattern2 .ensures
+array-borrow-prefix-room-from : tie.Need-array-borrow-prefix-room-from
+array-borrow-prefix-room-from c = c .before .before .before .before .before .before .before .before .before .before .before .before .set-pattern2 .ensures
 
 slice-aggregate-remove-and-say-2 : tie.Need-slice-aggregate-remove-and-say-2
 slice-aggregate-remove-and-say-2 c = simp length-take (omega (arith, c .before .before .before .before .before .before .before .before .before .before .before .before .before .set-pattern2 .ensures))
 
-array-borrow-prefix-to : tie.Need-array-borrow-prefix-to
-array-borrow-prefix-to c = c .before .before .before .before .before .before .before .before .before .before .set-pattern3 .ensures
+array-borrow-prefix-room-to : tie.Need-array-borrow-prefix-room-to
+array-borrow-prefix-room-to c = c .before .before .before .before .before .before .before .before .before .before .set-pattern3 .ensures
 
 slice-aggregate-remove-and-say-3 : tie.Need-slice-aggregate-remove-and-say-3
 slice-aggregate-remove-and-say-3 c = simp length-take (omega (arith, c .before .before .before .before .before .before .before .before .before .before .before .set-pattern3 .ensures))
 
-array-borrow-prefix-via : tie.Need-array-borrow-prefix-via
-array-borrow-prefix-via c = c .before .before .before .before .before .before .before .before .set-pattern4 .ensures
+array-borrow-prefix-room-via : tie.Need-array-borrow-prefix-room-via
+array-borrow-prefix-room-via c = c .before .before .before .before .before .before .before .before .set-pattern4 .ensures
 
 slice-aggregate-remove-and-say-4 : tie.Need-slice-aggregate-remove-and-say-4
 slice-aggregate-remove-and-say-4 c = simp length-take (omega (arith, c .before .before .before .before .before .before .before .before .before .set-pattern4 .ensures))
@@ -87,13 +87,13 @@ lend-spec =
     set-pattern-requires-4
     slice-aggregate-set-pattern-5
     set-pattern-requires-5
-    array-borrow-prefix-nodes
+    array-borrow-prefix-room-nodes
     slice-aggregate-remove-and-say
-    array-borrow-prefix-from
+    array-borrow-prefix-room-from
     slice-aggregate-remove-and-say-2
-    array-borrow-prefix-to
+    array-borrow-prefix-room-to
     slice-aggregate-remove-and-say-3
-    array-borrow-prefix-via
+    array-borrow-prefix-room-via
     slice-aggregate-remove-and-say-4
     array-borrow-prefix-scratch
     slice-aggregate-remove-and-say-5

@@ -1,0 +1,54 @@
+use Prim.Native.Nat.{_-_}
+use lib.ListN.{length}
+use native.Mathlib.Omega.{arith}
+use Rattle.times_cases.proofs.say.say_copies.Statement.{statement}
+use Rattle.times_cases.proofs.say.say_copies.Tie as tie
+
+abbrev Inv-loop : tie.InvT-loop
+Inv-loop arrivals requireds slacks c₀ c = Unit {0}
+
+abbrev μ-loop : tie.MeasureT-loop
+μ-loop arrivals requireds slacks c₀ c = length arrivals - c
+
+loop-holds : tie.Need-loop-holds Inv-loop μ-loop
+loop-holds c = tt
+
+time-at-requires : tie.Need-time-at-requires Inv-loop μ-loop
+time-at-requires c κs = tt
+
+time-at-requires-2 : tie.Need-time-at-requires-2 Inv-loop μ-loop
+time-at-requires-2 c κs = tt
+
+time-at-requires-3 : tie.Need-time-at-requires-3 Inv-loop μ-loop
+time-at-requires-3 c κs = tt
+
+say-copy-requires : tie.Need-say-copy-requires Inv-loop μ-loop
+say-copy-requires c κs = tt
+
+add-c : tie.Need-add-c Inv-loop μ-loop
+add-c c = omega arith
+
+loop-less : tie.Need-loop-less Inv-loop μ-loop
+loop-less c = omega arith
+
+loop-again : tie.Need-loop-again Inv-loop μ-loop
+loop-again c = tt
+
+returns : tie.Need-returns Inv-loop μ-loop
+returns c = tt
+
+pub say-copies-spec : {M : Type 1} → statement M
+say-copies-spec =
+    tie.close
+    (tie.spec
+    Inv-loop
+    μ-loop
+    loop-holds
+    time-at-requires
+    time-at-requires-2
+    time-at-requires-3
+    say-copy-requires
+    add-c
+    loop-less
+    loop-again
+    returns)

@@ -1,0 +1,114 @@
+// What is printed of the answers.
+use entries::number_at;
+use entries::time_at;
+use print::refused;
+use print::text;
+use timing::NodeAnswer;
+use timing::NodeTimes;
+use timing::Refusal;
+use timing::Verdict;
+
+// Of many copies or nodes the first 64 are printed, and then every 512th.
+fn printed(k: usize) -> bool {
+    k < 64 || k % 512 == 511
+}
+
+// Three times, and the end of the line.
+fn say_times(arrival: i64, required: i64, slack: i64) {
+    print::time(arrival);
+    text(b" ");
+    print::time(required);
+    text(b" ");
+    print::time(slack);
+    text(b"\n");
+}
+
+fn say_refused(r: Refusal) {
+    refused(r);
+    text(b"\n");
+}
+
+fn say_copy(c: usize, arrival: i64, required: i64, slack: i64) {
+    if printed(c) {
+        text(b"copy ");
+        print::number(c as u64);
+        text(b" ");
+        say_times(arrival, required, slack);
+    }
+}
+
+fn say_copies(arrivals: &[i64], requireds: &[i64], slacks: &[i64]) {
+    let mut c = 0;
+    while c < arrivals.len() {
+        say_copy(
+            c,
+            time_at(arrivals, c),
+            time_at(requireds, c),
+            time_at(slacks, c),
+        );
+        c += 1;
+    }
+}
+
+pub(crate) fn say_found(v: Verdict, arrivals: &[i64], requireds: &[i64], slacks: &[i64]) {
+    match v {
+        Verdict::Passed => say_copies(arrivals, requireds, slacks),
+        Verdict::Refused(r) => say_refused(r),
+    }
+}
+
+// The answer of `node_record`.
+pub(crate) fn say_answer(answer: NodeAnswer) {
+    match answer {
+        NodeAnswer::Record(record) => {
+            text(b"record ");
+            print::number(record.node as u64);
+            text(b" ");
+            let times = record.times;
+            match times {
+                NodeTimes::Times {
+                    arrival,
+                    required,
+                    slack,
+                } => say_times(arrival, required, slack),
+                NodeTimes::None => text(b"none\n"),
+            }
+        }
+        NodeAnswer::Refused(r) => say_refused(r),
+    }
+}
+
+fn say_node(v: usize, known: u32, arrival: i64, required: i64, slack: i64) {
+    if printed(v) {
+        text(b"node ");
+        print::number(v as u64);
+        text(b" ");
+        if known == 0 {
+            text(b"none\n");
+        } else {
+            say_times(arrival, required, slack);
+        }
+    }
+}
+
+fn say_nodes(known: &[u32], na: &[i64], nr: &[i64], ns: &[i64]) {
+    let mut v = 0;
+    while v < known.len() {
+        say_node(
+            v,
+            number_at(known, v),
+            time_at(na, v),
+            time_at(nr, v),
+            time_at(ns, v),
+        );
+        v += 1;
+    }
+}
+
+// The answer of `node_records`.
+pub(crate) fn say_records(v: Verdict, known: &[u32], na: &[i64], nr: &[i64], ns: &[i64]) {
+    match v {
+        Verdict::Passed => say_nodes(known, na, nr, ns),
+        Verdict::Refused(r) => say_refused(r),
+    }
+}
