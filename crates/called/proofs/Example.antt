@@ -8,7 +8,8 @@ use denote.Ref.{RefT}
 use Rattle.timing.specs.Graphs.{Design}
 use Rattle.timing.specs.Calls.{GraphSlices}
 use Rattle.timing.specs.Called.{Called, removalOf, Meets, removeOn, heldSlices, Ran}
-use Rattle.theorems.proofs.CalledExample.{deckA, series, series-ran}
+use Rattle.timing.proofs.Marked.{deckA}
+use Rattle.theorems.proofs.CalledExample.{series, series-ran}
 use Rattle.called.specs.Removals.{Call, onDesign, onGraph, designOf, earlierOf, calledOf, Follows}
 
 -- some slice that holds x

@@ -5,12 +5,11 @@ use Prim.Native.Nat.{ℕ}
 use mathlib.Core.Path.{refl}
 use mathlib.Core.List.{List, [], _∷_, map, flatMap}
 use mathlib.Core.Option.{none}
-use lib.IntN.{pos}
 use Rattle.timing.specs.declared.GraphMade.{GraphMade}
 use Rattle.timing.specs.declared.GraphMade.the-variants.{Counts}
 use Rattle.timing.specs.declared.GraphMade.the-variants.{Refused as NoGraph}
 use Rattle.timing.specs.Lists.{upto}
-use Rattle.timing.specs.Graphs.{Design, design, designGraph, edgesIn, edgesOut, runsFrom, completeRuns}
+use Rattle.timing.specs.Graphs.{designGraph, edgesIn, edgesOut, runsFrom, completeRuns}
 use Rattle.timing.specs.Marks.{permitted, tails, mark}
 use Rattle.timing.specs.TrueGraphs.{permittedRuns, copies, joins, trueGraph}
 use Rattle.timing.specs.WellFormed.{wellFormed}
@@ -18,10 +17,8 @@ use Rattle.timing.specs.Refusals.{refusal}
 use Rattle.timing.specs.Tests.{designTests, listTests, candidates, scratchTest, roomTests}
 use Rattle.timing.specs.Calls.{GraphSlices, graphSlices, removeFromDesign, removeFromGraph}
 use Rattle.timing.specs.Called.{Called, Ran, CalledDemand3}
+use Rattle.timing.proofs.Marked.{deckA}
 use Rattle.theorems.proofs.Called.{called-demand3}
-
-abbrev pub deckA : Design
-deckA = design 5 (0 ∷ 1 ∷ 2 ∷ 2 ∷ []) (2 ∷ 2 ∷ 3 ∷ 4 ∷ []) (pos 3 ∷ pos 5 ∷ pos 2 ∷ pos 1 ∷ [])
 
 abbrev pub words : ℕ → ℕ → List ℕ
 words n x = map (λ i. x) (upto n 0)

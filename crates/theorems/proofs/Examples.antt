@@ -17,17 +17,12 @@ use Rattle.timing.specs.Calls.{slicesOf, made, Removal, removal, removeFromDesi
 use Rattle.timing.specs.Series.{verdicts, HeldIs, heldAfter, wholeAfter}
 use Rattle.timing.specs.Paths.{PassesAt, Shows}
 use Rattle.timing.specs.Demands.{Demand2, AllPassed, listsOf, TimesOfPaths, RecordOfPaths}
+use Rattle.timing.proofs.Marked.{deckA, listA}
 use Rattle.theorems.proofs.Stands.{Stands, true-stands}
 use Rattle.theorems.proofs.Legal.{Legal, design-legal}
 use Rattle.theorems.proofs.Demand2.{design-demand2, graph-demand2}
 use Rattle.theorems.proofs.Records.{removed-demand2, series-demand2, removed-copy-times, removed-record}
 use Rattle.theorems.proofs.Series.{cut-list}
-
-abbrev deckA : Design
-deckA = design 5 (0 ∷ 1 ∷ 2 ∷ 2 ∷ []) (2 ∷ 2 ∷ 3 ∷ 4 ∷ []) (pos 3 ∷ pos 5 ∷ pos 2 ∷ pos 1 ∷ [])
-
-abbrev listA : PathList
-listA = pathList (1 ∷ 2 ∷ []) (2 ∷ [])
 
 -- deck A's true graph, and that with 0,3 removed from it
 abbrev graphA : Graph
