@@ -13,7 +13,7 @@ use Rattle.theorems.proofs.CalledExample.{series, series-ran}
 use Rattle.called.specs.Removals.{Call, onDesign, onGraph, designOf, earlierOf, calledOf, Follows}
 
 -- some slice that holds x
-abbrev lent : {X : Type 0} → X → RefT X
+abbrev pub lent : {X : Type 0} → X → RefT X
 lent x = record { ptr = (0, 0); name = 0; now = x }
 
 callOn : (D : Design) (held : Option GraphSlices) (c : Called) → Meets (removeOn D held (removalOf c)) c

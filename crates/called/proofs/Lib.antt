@@ -1,5 +1,6 @@
--- Theorems over calls, and a series of calls that meets their hypotheses.
+-- Theorems over calls, and calls that meet their hypotheses.
 pub mod Series
 pub mod Demand2
 pub mod Times
 pub mod Example
+pub mod TimesExample

@@ -1,5 +1,5 @@
 // Slices read for all indices and counts: what is not there is 0, and a front ends where the slice ends. An
-// index that comes out of a table then needs no proof. And what such counts are made of.
+// index that comes out of a table then needs no proof. Beside them stand the smaller of two counts, and a number as a count.
 ghost use Prim.Native.Nat.{_≤_, min};
 ghost use mathlib.Core.Path.{_≡_};
 ghost use lib.IntN.{pos};

@@ -1,5 +1,5 @@
-// The C interface. Each function answers one signed 64-bit number; a refusal is minus its number and
-// 256 times its place. A slice is a pointer and a length (include/jaqhweni.h).
+// The C interface. Each function answers one signed 64-bit number; a refusal is minus the sum of its number
+// and 256 times its place. A slice is a pointer and a length (include/jaqhweni.h).
 ghost use mathlib.Core.Path.{_≡_};
 ghost use Prim.Native.Nat.{_<_};
 ghost use lib.IntN.{pos, negℤ};

@@ -8,7 +8,7 @@ ghost use Rattle.timing.specs.Times.{arrivalAt};
 ghost use Rattle.timing.specs.Calls.{graphSlices, graphOf};
 ghost use Rattle.times.specs.Passes.{noArrival, timeOr, Step, raised, delayOf, Fit};
 use crate::numbers::sum;
-use crate::numbers::wide;
+use crate::numbers::time_of;
 use crate::places::fill;
 use crate::places::settle;
 use crate::places::time_or;
@@ -24,7 +24,7 @@ fn raise(arrivals: &mut [i64], a: usize, b: usize, d: i32)
     ensures { λ r. ⌜ now (arrivals .exit) ≡ raised (now (arrivals .entry)) a b d ⌝ }
 {
     let s = time_or(arrivals[a], NO_ARRIVAL, 0);
-    let t = sum(s, wide(d));
+    let t = sum(s, time_of(d));
     let u = larger(arrivals[b], t);
     arrivals[b] = u;
 }

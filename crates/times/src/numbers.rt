@@ -4,7 +4,8 @@ ghost use mathlib.Core.Path.{_≡_};
 ghost use Prim.Native.Nat.{_≤_};
 ghost use lib.IntN.{pos, negℤ, natAbs, _+ℤ_, _-ℤ_};
 
-pub(crate) fn wide(d: i32) -> i64
+// A delay as a time.
+pub(crate) fn time_of(d: i32) -> i64
     ensures { λ r. ⌜ r ≡ d ⌝ }
 {
     d as i64
@@ -14,7 +15,7 @@ pub(crate) fn wide(d: i32) -> i64
 pub(crate) fn negated(d: i32) -> i64
     ensures { λ r. ⌜ r ≡ negℤ d ⌝ }
 {
-    -wide(d)
+    -time_of(d)
 }
 
 pub(crate) fn signed(t: u32) -> i64

@@ -1,5 +1,6 @@
 -- Demand 2 as a statement, and what it says of times: those of a copy and of a node are those of the design's permitted
--- complete paths. Demand 3 stands in `Series`. The proofs are in `crates/theorems`.
+-- complete paths. Demand 3 stands in `Series`. The proofs are in `crates/theorems`, and
+-- over calls in `crates/called`.
 use Prim.Native.Nat.{ℕ}
 use mathlib.Core.Path.{_≡_}
 use mathlib.Core.Logic.{_↔_}

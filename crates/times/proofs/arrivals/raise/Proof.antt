@@ -18,14 +18,14 @@ slice-copy-out-time-or c = search needs
 time-or-requires : tie.Need-time-or-requires
 time-or-requires c κs = search needs
 
-wide-requires : tie.Need-wide-requires
-wide-requires c κs = search needs
+time-of-requires : tie.Need-time-of-requires
+time-of-requires c κs = search needs
 
 sum-requires : tie.Need-sum-requires
 sum-requires c κs =
     let q = c .before in
     let p = q .before .before in
-    rw (read-back (q .time-or .result) (q .time-or .ok), q .time-or .ensures, read-back (getD (p .args .arrivals .now) (p .args .a) (pos 0)) (q .before .time-or-arg .given), read-back (c .wide .result) (c .wide .ok), c .wide .ensures, toZ-ofZ (p .fits .d))
+    rw (read-back (q .time-or .result) (q .time-or .ok), q .time-or .ensures, read-back (getD (p .args .arrivals .now) (p .args .a) (pos 0)) (q .before .time-or-arg .given), read-back (c .time-of .result) (c .time-of .ok), c .time-of .ensures, toZ-ofZ (p .fits .d))
     (p .pre .time, omega (arith, p .pre .delay))
 
 mul-larger : tie.Need-mul-larger
@@ -53,7 +53,7 @@ returns c =
     let w = s .before in
     let q = w .before in
     let p = q .before .before in
-    rw (read-back (c .larger .result) (c .larger .ok), c .larger .ensures, read-back (getD (p .args .arrivals .now) (p .args .b) (pos 0)) (c .before .larger-arg .given), read-back (s .sum .result) (s .sum .ok), s .sum .ensures, read-back (w .wide .result) (w .wide .ok), w .wide .ensures, toZ-ofZ (p .fits .d), read-back (q .time-or .result) (q .time-or .ok), q .time-or .ensures, read-back (getD (p .args .arrivals .now) (p .args .a) (pos 0)) (q .before .time-or-arg .given))
+    rw (read-back (c .larger .result) (c .larger .ok), c .larger .ensures, read-back (getD (p .args .arrivals .now) (p .args .b) (pos 0)) (c .before .larger-arg .given), read-back (s .sum .result) (s .sum .ok), s .sum .ensures, read-back (w .time-of .result) (w .time-of .ok), w .time-of .ensures, toZ-ofZ (p .fits .d), read-back (q .time-or .result) (q .time-or .ok), q .time-or .ensures, read-back (getD (p .args .arrivals .now) (p .args .a) (pos 0)) (q .before .time-or-arg .given))
 
 pub raise-spec : {M : Type 1} → statement M
 raise-spec =
@@ -62,7 +62,7 @@ raise-spec =
     mul-time-or
     slice-copy-out-time-or
     time-or-requires
-    wide-requires
+    time-of-requires
     sum-requires
     mul-larger
     slice-copy-out-larger

@@ -18,18 +18,18 @@ fits : (d : ℤ) → SFits w32 d → SFits w64 (pos 0 -ℤ d)
 fits (pos n) f = neg-nat w64 n (omega (arith, f .sfits))
 fits (negsuc n) f = record { sfits = omega (arith, f .sfits) }
 
-wide-requires : tie.Need-wide-requires
-wide-requires c κs = search needs
+time-of-requires : tie.Need-time-of-requires
+time-of-requires c κs = search needs
 
 sub-result : tie.Need-sub-result
 sub-result c =
     let p = c .before in
-    rw (read-back (c .wide .result) (c .wide .ok), c .wide .ensures, toZ-ofZ (p .fits .d)) (fits (p .args .d) (p .fits .d))
+    rw (read-back (c .time-of .result) (c .time-of .ok), c .time-of .ensures, toZ-ofZ (p .fits .d)) (fits (p .args .d) (p .fits .d))
 
 returns : tie.Need-returns
 returns c =
     let p = c .before in
-    rw (read-back (c .wide .result) (c .wide .ok), c .wide .ensures, toZ-ofZ (p .fits .d)) (toZ-ofZ (fits (p .args .d) (p .fits .d)) ∙ zero-less (p .args .d))
+    rw (read-back (c .time-of .result) (c .time-of .ok), c .time-of .ensures, toZ-ofZ (p .fits .d)) (toZ-ofZ (fits (p .args .d) (p .fits .d)) ∙ zero-less (p .args .d))
 
 pub negated-spec : {M : Type 1} → statement M
-negated-spec = tie.close (tie.spec wide-requires sub-result returns)
+negated-spec = tie.close (tie.spec time-of-requires sub-result returns)

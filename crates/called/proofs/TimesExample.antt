@@ -1,0 +1,69 @@
+-- The hypotheses of the theorems about times can be met: what the definitions say of a call is a call. So `times` on what the example
+-- series holds, with T 10, and `node_record` of node 2 from what that leaves.
+use Prim.Native.Nat.{ℕ}
+use mathlib.Core.Path.{_≡_, refl, ap, _∙_}
+use mathlib.Core.List.{List, [], _∷_, map}
+use mathlib.Core.Option.{none, some}
+use lib.ListN.{length}
+use lib.IntN.{ℤ, pos}
+use Rattle.timing.specs.declared.Verdict.{Verdict}
+use Rattle.timing.specs.declared.Verdict.the-variants.{Passed}
+use Rattle.timing.specs.declared.NodeTimes.{NodeTimes}
+use Rattle.timing.specs.declared.NodeAnswer.the-variants.{Record}
+use Rattle.timing.specs.Graphs.{Design, edgeDelay, edgesIn, edgesOut}
+use Rattle.timing.specs.WellFormed.{wellFormed}
+use Rattle.timing.specs.Tests.{designTests}
+use Rattle.timing.specs.Calls.{GraphSlices, graphSlices, testTimes, arrivalsAfter, requiredsAfter, slacksAfter, recordOf}
+use Rattle.timing.specs.Series.{wholeAfter}
+use Rattle.timing.specs.Called.{Called, removalOf, lastHeld}
+use Rattle.timing.specs.Paths.{PassesAt}
+use Rattle.timing.specs.Demands.{PathTimes}
+use Rattle.timing.proofs.Marked.{deckA}
+use Rattle.called.specs.Removals.{calledOf}
+use Rattle.called.specs.Times.{TimesCall, timedDesign, timedGraph, arrivalsLeft, requiredsLeft, slacksLeft, RecordCall, RecordAfter}
+use Rattle.called.proofs.Times.{series-record}
+use Rattle.called.proofs.Example.{lent, example}
+
+abbrev timesOn : Design → ℕ → GraphSlices → List ℤ → List ℤ → List ℤ → TimesCall
+timesOn D T S ats rts sts =
+    let v : Verdict = testTimes D S T (length ats) (length rts) (length sts) in
+    record {
+      lifetimes = ([], ([], ([], ([], ([], ([], ([], ([], ([], ([], tt))))))))));
+      passed = (D .nodes, (lent (D .starts), (lent (D .ends), (lent (D .delays), (T, (lent (S .nodes), (lent (S .starts), (lent (S .ends), (lent (S .names), (lent ats, (lent rts, (lent sts, tt))))))))))));
+      answer = v;
+      left = (D .nodes, (lent (D .starts), (lent (D .ends), (lent (D .delays), (T, (lent (S .nodes), (lent (S .starts), (lent (S .ends), (lent (S .names), (lent (arrivalsAfter D S T v ats), (lent (requiredsAfter D S T v rts), (lent (slacksAfter D S T v sts), tt))))))))))));
+      learnt = (refl, refl, refl, refl);
+    }
+
+abbrev recordOn : TimesCall → ℕ → RecordCall
+recordOn t v = record {
+  lifetimes = ([], ([], ([], ([], tt))));
+  passed = (timedDesign t .nodes, (lent (timedGraph t .nodes), (lent (arrivalsLeft t), (lent (requiredsLeft t), (lent (slacksLeft t), (v, tt))))));
+  answer = recordOf (timedDesign t .nodes) (timedGraph t .nodes) (arrivalsLeft t) (requiredsLeft t) (slacksLeft t) v;
+  left = (timedDesign t .nodes, (lent (timedGraph t .nodes), (lent (arrivalsLeft t), (lent (requiredsLeft t), (lent (slacksLeft t), (v, tt))))));
+  learnt = refl;
+}
+
+record-on : (t : TimesCall) (v : ℕ) → RecordAfter t (recordOn t v)
+record-on t v = record { nodes = refl; copies = refl; arrivals = refl; requireds = refl; slacks = refl }
+
+-- what the example series holds
+abbrev held : GraphSlices
+held = graphSlices (0 ∷ 1 ∷ 2 ∷ 2 ∷ 3 ∷ 4 ∷ []) (1 ∷ 0 ∷ 3 ∷ 2 ∷ []) (2 ∷ 3 ∷ 4 ∷ 5 ∷ []) (1 ∷ 0 ∷ 2 ∷ 3 ∷ [])
+
+is-held : lastHeld none (map calledOf (example .0)) ≡ some held
+is-held = ap (λ (cs : List Called). lastHeld none cs) (example .2)
+
+abbrev six : List ℤ
+six = pos 0 ∷ pos 0 ∷ pos 0 ∷ pos 0 ∷ pos 0 ∷ pos 0 ∷ []
+
+abbrev timed : TimesCall
+timed = timesOn deckA 10 held six six six
+
+timed-passed : timed .answer ≡ Passed
+unfolding edgesIn edgesOut wellFormed designTests testTimes
+timed-passed = refl
+
+pub record-example : (L : List (List ℕ)) × (wholeAfter deckA none (map removalOf (map calledOf (example .0))) ≡ some L)
+    × ((x : NodeTimes) × (recordOn timed 2 .answer ≡ Record (record { node = 2; times = x })) × PathTimes (edgeDelay deckA) (pos 10) (PassesAt deckA L 2) x)
+record-example = series-record (example .0) held timed (recordOn timed 2) (example .1) is-held refl timed-passed (record-on timed 2)
