@@ -1,9 +1,10 @@
 // Slices read for all indices and counts: what is not there is 0, and a front ends where the slice ends. An
-// index that comes out of a table then needs no proof. Beside them stand the smaller of two counts, and a number as a count.
+// index that comes out of a table then needs no proof. Beside them: a slice
+// zeroed, the smaller of two counts, and a number as a count.
 ghost use Prim.Native.Nat.{_≤_, min};
 ghost use mathlib.Core.Path.{_≡_};
 ghost use lib.IntN.{pos};
-ghost use lib.ListN.{getD, take};
+ghost use lib.ListN.{length, getD, take, replicate};
 
 // The number at an index, or 0 past the end.
 pub fn number_at(s: &[u32], i: usize) -> u32
@@ -44,6 +45,17 @@ pub fn front_delays<'a>(delays: &'a [i32], count: usize) -> &'a [i32]
         return &delays[..count];
     }
     delays
+}
+
+// Zeroes a whole slice.
+pub fn zero(t: &mut [u32])
+    ensures { λ r. ⌜ now (t .exit) ≡ replicate (length (now (t .entry))) 0 ⌝ }
+{
+    let mut k = 0;
+    while k < t.len() {
+        t[k] = 0;
+        k += 1;
+    }
 }
 
 // The smaller of two counts.

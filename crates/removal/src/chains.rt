@@ -4,17 +4,7 @@ ghost use Prim.Native.Nat.{ℕ, _+_, _≤_, _<_};
 ghost use lib.ListN.{length, getD, set, replicate};
 ghost use Rattle.removal.specs.Table.{table, Frame};
 ghost use Rattle.removal.specs.Links.{Linkable, Linked};
-
-// Zeroes a whole slice.
-pub(crate) fn zero(t: &mut [u32])
-    ensures { λ r. ⌜ now (t .exit) ≡ replicate (length (now (t .entry))) 0 ⌝ }
-{
-    let mut k = 0;
-    while k < t.len() {
-        t[k] = 0;
-        k += 1;
-    }
-}
+use entries::zero;
 
 // Zeroes the n words from base on.
 pub(crate) fn clear(scratch: &mut [u32], base: usize, n: usize)

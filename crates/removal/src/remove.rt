@@ -1,29 +1,20 @@
 // A whole removal of listed paths from a graph that has passed its tests: 31, the passes over the
 // slots, 33 and 34, and then the result.
-ghost use mathlib.Core.Path.{_≡_};
-ghost use Prim.Native.Nat.{_≤_, min};
-ghost use lib.Dec.{leb};
-ghost use lib.ListN.{length};
-ghost use Rattle.timing.specs.Refusals.{_then_};
-ghost use Rattle.timing.specs.Refusals.{unless as passedIf};
 ghost use Rattle.removal.specs.Fill.{SameRooms};
 ghost use Rattle.removal.specs.Remove.{Workable, WorkableIn, AllFound, Found, RoomAnswered, AllRemoved};
 use crate::build::build;
 use crate::build::count_candidates;
 use crate::build::scratch_fits;
-use crate::chains::zero;
 use crate::fill::fill_all;
 use crate::rows::Layout;
 use crate::rows::reach_all;
 use crate::show::Counts;
 use crate::show::show_all;
-use entries::least;
+use entries::zero;
+use sizes::room_tests;
 use timing::GraphMade;
-use timing::MAX_COPIES;
-use timing::MAX_COPY_EDGES;
 use timing::Verdict;
 use verdicts::refuse;
-use verdicts::unless;
 
 // Where the tables stand, and how many slots are shown, with how many edges between them.
 struct Finding {
@@ -53,18 +44,6 @@ fn search(
     reach_all(layout, listed, from, to, via, scratch);
     let counts = show_all(layout, listed, from, to, via, scratch);
     Finding { layout, counts }
-}
-
-// 33 and 34, from the counts of the result and the lent lengths.
-fn room_tests(copies: usize, edges: usize, node_room: usize, edge_room: usize) -> Verdict
-    ensures { λ r.
-        ⌜ r ≡ (passedIf 33 (leb copies (min «node_room» 16384))
-        then passedIf 34 (leb edges (min «edge_room» 65536))) ⌝ }
-{
-    if least(node_room, MAX_COPIES) < copies {
-        return unless(33, false);
-    }
-    unless(34, edges <= least(edge_room, MAX_COPY_EDGES))
 }
 
 // 33 and 34, and then the result to the room. The scratch is only read.

@@ -1,10 +1,16 @@
-// Test 30: lent slices that belong together, and the lengths of the paths against the flat list.
+// Tests of lengths. 30: lent slices that belong together, and the lengths of the paths against the flat list. 33 and 34: a result
+// against its room.
 ghost use mathlib.Core.Path.{_≡_};
-ghost use Prim.Native.Nat.{ℕ};
+ghost use Prim.Native.Nat.{ℕ, min};
+ghost use lib.Dec.{leb};
 ghost use Rattle.timing.specs.Refusals.{_then_};
+ghost use Rattle.timing.specs.Refusals.{unless as passedIf};
 ghost use Rattle.timing.specs.Graphs.{design};
 ghost use Rattle.timing.specs.Marks.{pathList};
 ghost use Rattle.timing.specs.Tests.{sameSizes, designSizes, listSizes};
+use entries::least;
+use timing::MAX_COPIES;
+use timing::MAX_COPY_EDGES;
 use timing::Verdict;
 use verdicts::same_sizes;
 use verdicts::then;
@@ -47,4 +53,16 @@ pub fn and_list_sizes(before: Verdict, listed: &[u32], lengths: &[u32]) -> Verdi
         i += 1;
     }
     unless(30, left == 0)
+}
+
+// 33 and 34, from the counts of a result and the lent lengths for its copies and its edges.
+pub fn room_tests(copies: usize, edges: usize, node_room: usize, edge_room: usize) -> Verdict
+    ensures { λ r.
+        ⌜ r ≡ (passedIf 33 (leb copies (min «node_room» 16384))
+        then passedIf 34 (leb edges (min «edge_room» 65536))) ⌝ }
+{
+    if least(node_room, MAX_COPIES) < copies {
+        return unless(33, false);
+    }
+    unless(34, edges <= least(edge_room, MAX_COPY_EDGES))
 }

@@ -4,8 +4,8 @@ use native.Mathlib.Omega.{arith}
 use mathlib.Core.Path.{sym}
 use borrow.Author.Tests.{le-leb, lt-leb}
 use borrow.Author.Needs.{needs}
-use Rattle.removal.proofs.remove.room_tests.Statement.{statement}
-use Rattle.removal.proofs.remove.room_tests.Tie as tie
+use Rattle.sizes.proofs.room_tests.Statement.{statement}
+use Rattle.sizes.proofs.room_tests.Tie as tie
 
 least-requires : tie.Need-least-requires
 least-requires c κs = search needs

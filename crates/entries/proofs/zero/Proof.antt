@@ -5,8 +5,8 @@ use mathlib.Core.Path.{_≡_, refl, _∙_, ap}
 use mathlib.Core.List.{_++_, append-nil}
 use lib.ListN.{length, drop, replicate, length-set, drop-of-length-le}
 use borrow.Author.Fill.{fill-none, fill-more}
-use Rattle.removal.proofs.chains.zero.Statement.{statement}
-use Rattle.removal.proofs.chains.zero.Tie as tie
+use Rattle.entries.proofs.zero.Statement.{statement}
+use Rattle.entries.proofs.zero.Tie as tie
 
 abbrev Inv-loop : tie.InvT-loop
 Inv-loop t₀ k₀ t k = (k ≤ length t) × (length t ≡ length t₀) × (t ≡ replicate k 0 ++ drop k t₀)
