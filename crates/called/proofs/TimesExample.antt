@@ -1,7 +1,7 @@
 -- The hypotheses of the theorems about times can be met: what the definitions say of a call is a call. So `times` on what the example
 -- series holds, with T 10, and `node_record` of node 2 from what that leaves.
 use Prim.Native.Nat.{ℕ}
-use mathlib.Core.Path.{_≡_, refl, ap, _∙_}
+use mathlib.Core.Path.{_≡_, refl, ap}
 use mathlib.Core.List.{List, [], _∷_, map}
 use mathlib.Core.Option.{none, some}
 use lib.ListN.{length}
@@ -10,7 +10,7 @@ use Rattle.timing.specs.declared.Verdict.{Verdict}
 use Rattle.timing.specs.declared.Verdict.the-variants.{Passed}
 use Rattle.timing.specs.declared.NodeTimes.{NodeTimes}
 use Rattle.timing.specs.declared.NodeAnswer.the-variants.{Record}
-use Rattle.timing.specs.Graphs.{Design, edgeDelay, edgesIn, edgesOut}
+use Rattle.timing.specs.Graphs.{Design, designGraph, edgeDelay, edgesIn, edgesOut}
 use Rattle.timing.specs.WellFormed.{wellFormed}
 use Rattle.timing.specs.Tests.{designTests}
 use Rattle.timing.specs.Calls.{GraphSlices, graphSlices, testTimes, arrivalsAfter, requiredsAfter, slacksAfter, recordOf}
@@ -61,7 +61,7 @@ abbrev timed : TimesCall
 timed = timesOn deckA 10 held six six six
 
 timed-passed : timed .answer ≡ Passed
-unfolding edgesIn edgesOut wellFormed designTests testTimes
+unfolding designGraph edgesIn edgesOut wellFormed designTests testTimes
 timed-passed = refl
 
 pub record-example : (L : List (List ℕ)) × (wholeAfter deckA none (map removalOf (map calledOf (example .0))) ≡ some L)
