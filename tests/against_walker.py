@@ -162,9 +162,13 @@ def graphs_to_pack():
     yield from of_graph("no copy", Graph([], [], [], []), (-2, -1, 0, 1))
     for number in numbers:
         yield from of_graph("all %d" % number, Graph([number], [number], [number], [number]), (-4, -1, 0, 9))
-    yield from of_graph("every length", Graph(numbers, numbers, numbers[::-1], numbers[3:] + numbers[:3]), range(-60, 10))
+    yield from of_graph("every length", Graph(numbers, numbers, numbers[::-1], numbers[3:] + numbers[:3]), range(-60, 33))
+    yield from of_graph("rows of three bytes", Graph([1], [2] * 40, [3] * 40, [4] * 40), range(-40, 20))
     for count in (127, 128, 129):
         yield from of_graph("%d copies and edges" % count, Graph([7] * count, [300] * count, [1] * count, range(count)))
+    for count in (4095, 4096, 4097, 8192, 8193):
+        mixed = (numbers * (count // len(numbers) + 1))[:count]
+        yield from of_graph("%d mixed copies and edges" % count, Graph(mixed, mixed, mixed[::-1], mixed[3:] + mixed[:3]))
     for lengths in ((2, 1, 1), (1, 2, 1), (1, 1, 2), (0, 1, 1), (1, 0, 1), (1, 1, 0), (0, 1, 2)):         # 30
         yield from of_graph("edges of %d, %d and %d" % lengths, Graph([9], *([5] * length for length in lengths)))
     for copies, starts, others in ((16384, 65536, 65536), (16385, 2, 2), (2, 65537, 65537), (16385, 2, 3)):

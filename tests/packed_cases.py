@@ -43,16 +43,24 @@ def hexes(s):
     return "".join(" %02x" % b for b in s)
 
 
-def write_case(x, place, size):
+def written(form, place, size):
     room = bytearray(b"\xaa" * size)
-    form = pack(x)
     if place + len(form) <= size:
         room[place:place + len(form)] = form
         answer = "end %d" % (place + len(form))
     else:
         answer = "refused 35 at 0"
-    line = "write %d at %d: %s,%s" % (x, place, answer, hexes(room))
-    return bytes([0, place, size, 0]) + x.to_bytes(4, "little") + bytes(8), line
+    return " at %d: %s,%s" % (place, answer, hexes(room))
+
+
+def write_case(x, place, size):
+    return bytes([0, place, size, 0]) + x.to_bytes(4, "little") + bytes(8), "write %d" % x + written(pack(x), place, size)
+
+
+def row_case(row, place, size):
+    """Three numbers, or none of them."""
+    numbers = b"".join(x.to_bytes(4, "little") for x in row)
+    return bytes([3, place, size, 0]) + numbers, "row %d %d %d" % row + written(b"".join(map(pack, row)), place, size)
 
 
 def read_case(s, place):
@@ -90,10 +98,18 @@ def cases():
         s = bytes.fromhex(s)
         for place in (0, 1, 4, len(s), len(s) + 1, 255):
             yield read_case(s, place)
-    for _ in range(1200):
+    lengths = (0, 127, 128, 16383, 16384, 2**21 - 1, 2**21, 2**28 - 1, 2**28, TOP)      # the first and the last of each length
+    for row in zip(lengths * 3, lengths[3:] + lengths * 2, lengths[7:] + lengths * 3):
+        size = sum(len(pack(x)) for x in row)
+        for place in (0, 3):
+            for room in sorted({size - 1, size, size + 1, 13, 14, 15, 16, 17}):
+                yield row_case(row, place, room + place)
+        yield row_case(row, 255, 20)
+    for _ in range(750):
         x = chance.getrandbits(chance.randrange(1, 33))
         yield write_case(x, chance.randrange(10), chance.randrange(13))
         yield delay_case(x)
+        yield row_case(tuple(chance.getrandbits(chance.randrange(1, 33)) for _ in range(3)), chance.randrange(8), chance.randrange(21))
         s = bytes(chance.choice((0, 1, 0x0F, 0x10, 0x7F, 0x80, 0x81, 0xFF, chance.randrange(256))) for _ in range(chance.randrange(13)))
         yield read_case(s, chance.randrange(8))
 

@@ -32,7 +32,7 @@ use Rattle.timing.specs.Looks.{valueOf, nextOf, valueAt, nextAt, rowAt, rowEnd}
 use Rattle.deck_reader.specs.Reading.{verdictOf, numbersFrom, numbersEnd, rowsFrom, rowsEnd, startsFrom, endsFrom, delaysFrom, pathEnd, edgesFrom, lengthsFrom, pathsEnd, edgesPlace, edgeCount, designFrom, countPlace, listFrom, listEnd, deckFrom, Fits}
 use Rattle.timing.proofs.Verdicts.{then-passed, unless-passed}
 use Rattle.deck_reader.proofs.Looking.{count-passed}
-use Rattle.packed_lists.proofs.Rooms.{sets-append}
+use Rattle.packed.proofs.Rooms.{sets-append}
 use borrow.Author.Tests.{leb-true}
 
 -- what is so of anything that was found

@@ -18,7 +18,7 @@ use Rattle.timing.specs.Marks.{cut}
 use Rattle.timing.specs.Decks.{Deck, edgeNumbers, pathNumbers, deckNumbers, packedDeck}
 use Rattle.timing.specs.Calls.{writing, roomAfterWriting}
 use Rattle.packed_lists.proofs.Sizes.{bytes-append as packed-append, size-append as packed-size-append, size-cons as packed-size-cons}
-use Rattle.packed_lists.proofs.Rooms.{sets-append, written-sets, answer-fits}
+use Rattle.packed.proofs.Rooms.{sets-append, written-sets, answer-fits}
 use Rattle.deck_writer.specs.Writing.{Fit, bytesOf, size, Wrote, Left}
 use Rattle.deck_writer.proofs.Tests.{sum-drop}
 

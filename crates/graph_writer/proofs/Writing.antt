@@ -25,26 +25,8 @@ use Rattle.theorems.proofs.Lists.{and-left, and-right, holds, length-edges}
 use Rattle.timing.proofs.Verdicts.{then-passed, unless-passed}
 use Rattle.timing.specs.Numbers.{packed, writeAnswer, writtenRoom}
 use Rattle.packed_lists.proofs.Sizes.{size-append, size-cons, size-none}
-use Rattle.packed_lists.proofs.Rooms.{sets-append, written-sets, answer-fits}
-use Rattle.graph_writer.specs.Writing.{wroteNext, roomNext, wroteAll, roomAll, Wrote, rowsOf}
-
--- a writer leaves a room of the same length
-written-length : (room : List ℕ) (at : ℕ) (bs : List ℕ) → length (writtenRoom room at bs) ≡ length room
-unfolding writtenRoom
-written-length room at bs = go (leb (at + length bs) (length room)) refl
-  where
-    go : (b : Bool) → leb (at + length bs) (length room) ≡ b → length (cond b (take at room ++ (bs ++ drop (at + length bs) room)) room) ≡ length room
-    go true e =
-        let h = leb-true (at + length bs) (length room) e in
-        let k : at ≤ length room = omega arith in
-        omega (
-          arith,
-          length-append (take at room) (bs ++ drop (at + length bs) room),
-          length-append bs (drop (at + length bs) room),
-          length-take-le at room k,
-          length-drop (at + length bs) room,
-        )
-    go false e = refl
+use Rattle.packed.proofs.Rooms.{written-length, sets-append, written-sets, answer-fits}
+use Rattle.graph_writer.specs.Writing.{wroteNext, roomNext, wroteAll, roomAll, Wrote, Left, rowsOf, rowsFrom}
 
 next-length : (w : Written) (room : List ℕ) (x : ℕ) → length (roomNext w room x) ≡ length room
 next-length (End at) room x = written-length room at (packed x)
@@ -76,12 +58,7 @@ wrote-both {w} {w′} {w″} {room} {room′} {room″} xs ys k l =
 pub wrote-none : (w : Written) (room : List ℕ) → Wrote w room [] w room
 wrote-none w room = record { answer = refl; after = refl }
 
--- of the numbers `all`, `rest` are left
-pub record Left (w : Written) (room all : List ℕ) (w′ : Written) (room′ rest : List ℕ) : Type 0 where
-  pub answer : wroteAll w′ room′ rest ≡ wroteAll w room all
-  pub after : roomAll w′ room′ rest ≡ roomAll w room all
-  pub long : length room′ ≡ length room
-
+-- what is left of the numbers
 pub left-all : (w : Written) (room all : List ℕ) → Left w room all w room all
 left-all w room all = record { answer = refl; after = refl; long = refl }
 
@@ -93,6 +70,9 @@ left-turn {w} {w′} {w″} {room} {all} {room′} {room″} xs rest l k =
       long = wrote-length k ∙ l .long;
     }
 
+pub left-wrote : {w w′ w″ : Written} {room all room′ rest room″ : List ℕ} → Left w room all w′ room′ rest → Wrote w′ room′ rest w″ room″ → Wrote w room all w″ room″
+left-wrote l k = record { answer = k .answer ∙ l .answer; after = k .after ∙ l .after }
+
 pub left-none : {w w′ : Written} {room all room′ : List ℕ} → Left w room all w′ room′ [] → Wrote w room all w′ room′
 left-none l = record { answer = l .answer; after = l .after }
 
@@ -101,11 +81,11 @@ pub numbers-turn : (s : List ℕ) (k : ℕ) → k < length s → drop k s ≡ (g
 numbers-turn s k h = rw (drop-cons s k 0 h, add-one k)
 
 pub rows-turn : (s t n : List ℕ) (k : ℕ) → k < length s → k < length t → k < length n
-    → rowsOf (drop k s) (drop k t) (drop k n) ≡ (getD s k 0 ∷ getD t k 0 ∷ getD n k 0 ∷ []) ++ rowsOf (drop (k + 1) s) (drop (k + 1) t) (drop (k + 1) n)
+    → rowsFrom k s t n ≡ (getD s k 0 ∷ getD t k 0 ∷ getD n k 0 ∷ []) ++ rowsFrom (k + 1) s t n
 unfolding flatMap
 rows-turn s t n k f g h = rw (drop-cons s k 0 f, drop-cons t k 0 g, drop-cons n k 0 h, add-one k)
 
-pub rows-done : (s t n : List ℕ) (k : ℕ) → length s ≤ k → rowsOf (drop k s) (drop k t) (drop k n) ≡ []
+pub rows-done : (s t n : List ℕ) (k : ℕ) → length s ≤ k → rowsFrom k s t n ≡ []
 unfolding flatMap
 rows-done s t n k h = rw (drop-of-length-le s h)
 
@@ -120,6 +100,22 @@ all-sets room at (x ∷ xs) h =
     let r = all-sets (sets room at (packed x)) (at + length (packed x)) xs (omega (arith, length-sets room at (packed x))) in
     rw (answer-fits room at (packed x) f, written-sets room at (packed x) f)
     (r .0 ∙ ap End (omega arith), r .1 ∙ sym (sets-append room at (packed x) (flatMap packed xs)))
+
+-- a row that fits
+pub put-row : (room room′ : List ℕ) (at next : ℕ) (xs : List ℕ) → at + length (flatMap packed xs) ≤ length room
+    → End next ≡ writeAnswer room at (flatMap packed xs) → room′ ≡ writtenRoom room at (flatMap packed xs) → Wrote (End at) room xs (End next) room′
+put-row room room′ at next xs h e w =
+    let r = all-sets room at xs h in
+    record {
+      answer = e ∙ answer-fits room at (flatMap packed xs) h ∙ sym (r .0);
+      after = w ∙ written-sets room at (flatMap packed xs) h ∙ sym (r .1);
+    }
+
+pub put-never : (room : List ℕ) (at : ℕ) (xs : List ℕ) (r : Refusal) → at + length (flatMap packed xs) ≤ length room → Refused r ≡ writeAnswer room at (flatMap packed xs) → ⊥
+put-never room at xs r h e =
+    let q : Refused r ≡ End (at + length (flatMap packed xs)) = e ∙ answer-fits room at (flatMap packed xs) h in
+    let z : _≡_ {A = ℕ} 0 1 = cc in
+    omega arith
 
 pub all-fit : (room xs : List ℕ) → length (flatMap packed xs) ≤ length room
     → (wroteAll (End 0) room xs ≡ writeAnswer room 0 (flatMap packed xs)) × (roomAll (End 0) room xs ≡ writtenRoom room 0 (flatMap packed xs))

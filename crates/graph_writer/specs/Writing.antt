@@ -2,6 +2,7 @@
 use Prim.Native.Nat.{ℕ}
 use mathlib.Core.Path.{_≡_}
 use mathlib.Core.List.{List, [], _∷_, flatMap}
+use lib.ListN.{length, drop}
 use Rattle.timing.specs.declared.Written.{Written}
 use Rattle.timing.specs.declared.Written.the-variants.{End, Refused}
 use Rattle.timing.specs.Graphs.{edgesOf}
@@ -28,6 +29,16 @@ pub record Wrote (w : Written) (room xs : List ℕ) (w′ : Written) (room′ : 
   pub answer : w′ ≡ wroteAll w room xs
   pub after : room′ ≡ roomAll w room xs
 
+-- of the numbers `all`, `rest` are left to be written
+pub record Left (w : Written) (room all : List ℕ) (w′ : Written) (room′ rest : List ℕ) : Type 0 where
+  pub answer : wroteAll w′ room′ rest ≡ wroteAll w room all
+  pub after : roomAll w′ room′ rest ≡ roomAll w room all
+  pub long : length room′ ≡ length room
+
 -- start copy, end copy and design edge of each edge
 abbrev pub rowsOf : List ℕ → List ℕ → List ℕ → List ℕ
 rowsOf from to via = flatMap (λ e. e .start ∷ e .end ∷ e .name ∷ []) (edgesOf from to via)
+
+-- those of the edges from k on
+abbrev pub rowsFrom : ℕ → List ℕ → List ℕ → List ℕ → List ℕ
+rowsFrom k from to via = rowsOf (drop k from) (drop k to) (drop k via)

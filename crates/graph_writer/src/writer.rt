@@ -1,6 +1,6 @@
 // Writing a packed true graph. Its size comes first, so that a refusal leaves the room as it is.
 ghost use mathlib.Core.Path.{_≡_};
-ghost use Prim.Native.Nat.{_≤_};
+ghost use Prim.Native.Nat.{_+_, _≤_};
 ghost use mathlib.Core.Bool.{_&&_};
 ghost use mathlib.Core.List.{[], _∷_};
 ghost use lib.Dec.{leb};
@@ -11,7 +11,7 @@ ghost use Rattle.timing.specs.Refusals.{unless as passedIf};
 ghost use Rattle.timing.specs.Tests.{sameSizes};
 ghost use Rattle.timing.specs.GraphBytes.{graphNumbers, packedGraph};
 ghost use Rattle.timing.specs.Calls.{graphSlices, graphOf};
-ghost use Rattle.graph_writer.specs.Writing.{Wrote, rowsOf};
+ghost use Rattle.graph_writer.specs.Writing.{Wrote, Left, rowsOf, rowsFrom};
 use timing::Verdict;
 use timing::Written;
 
@@ -49,13 +49,13 @@ pub(crate) fn graph_size(nodes: &[u32], from: &[u32], to: &[u32], via: &[u32]) -
     copies + starts + packed_lists::numbers_size(to) + packed_lists::numbers_size(via)
 }
 
-// One number more behind what was written.
+// One number more behind what was written. A refusal is made anew: handed on as `w`, all of it is copied in every turn of a loop.
 fn and_write(w: Written, x: u32, room: &mut [u8]) -> Written
     ensures { λ r. ⌜ Wrote w (now (room .entry)) (x ∷ []) r (now (room .exit)) ⌝ }
 {
     match w {
         Written::End(at) => packed::write_number(room, at, x),
-        Written::Refused(_) => w,
+        Written::Refused(r) => Written::Refused(r),
     }
 }
 
@@ -79,15 +79,68 @@ fn write_numbers(w: Written, s: &[u32], room: &mut [u8]) -> Written
     w
 }
 
-// The start copy, the end copy and the design edge of each edge.
+// A row where fifteen bytes are left, which hold any three numbers: it is not refused.
+fn put_row(at: usize, s: u32, t: u32, k: u32, room: &mut [u8]) -> usize
+    requires { ⌜ at + 15 ≤ length (now room) ⌝ }
+    ensures { λ r. ⌜ Wrote (End at) (now (room .entry)) (s ∷ t ∷ k ∷ []) (End r) (now (room .exit)) ⌝ }
+{
+    let written = packed::write_row(room, at, s, t, k);
+    match written {
+        Written::End(next) => next,
+        Written::Refused(_) => at,
+    }
+}
+
+// How far the rows of a graph are written: the answer so far, and how many there are.
+struct Rows {
+    written: Written,
+    count: usize,
+}
+
+// Puts the rows of edges one after the other as long as fifteen bytes are left: no row has an answer to be looked at.
+fn put_rows(w: Written, from: &[u32], to: &[u32], via: &[u32], room: &mut [u8]) -> Rows
+    requires { ⌜ (length (now to) ≡ length (now from)) × (length (now via) ≡ length (now from)) ⌝ }
+    ensures { λ r.
+        let rest = rowsFrom (r .count) (now (from .entry)) (now (to .entry)) (now (via .entry)) in
+        let all = rowsOf (now (from .entry)) (now (to .entry)) (now (via .entry)) in
+        ⌜ (r .count ≤ length (now (from .entry)))
+        × Left w (now (room .entry)) all (r .written) (now (room .exit)) rest ⌝ }
+{
+    let Written::End(start) = w else {
+        return Rows {
+            written: w,
+            count: 0,
+        };
+    };
+    let mut at = start;
+    let mut k = 0;
+    while k < from.len() {
+        if packed::has_left(room.len(), at, 15) {
+            at = put_row(at, from[k], to[k], via[k], room);
+            k += 1;
+        } else {
+            return Rows {
+                written: Written::End(at),
+                count: k,
+            };
+        }
+    }
+    Rows {
+        written: Written::End(at),
+        count: k,
+    }
+}
+
+// The start copy, the end copy and the design edge of each edge. Near the room's end each number is tested by itself.
 fn write_edges(w: Written, from: &[u32], to: &[u32], via: &[u32], room: &mut [u8]) -> Written
     requires { ⌜ (length (now to) ≡ length (now from)) × (length (now via) ≡ length (now from)) ⌝ }
     ensures { λ r.
         let numbers = rowsOf (now (from .entry)) (now (to .entry)) (now (via .entry)) in
         ⌜ Wrote w (now (room .entry)) numbers r (now (room .exit)) ⌝ }
 {
-    let mut w = w;
-    let mut k = 0;
+    let put = put_rows(w, from, to, via, room);
+    let mut w = put.written;
+    let mut k = put.count;
     while k < from.len() {
         w = write_row(w, from[k], to[k], via[k], room);
         k += 1;

@@ -3,8 +3,8 @@
 use Prim.Native.Nat.{ℕ, zero, suc, _+_, _-_, _*_, _/_, _%_, _≤_, _<_}
 use native.Mathlib.Omega.{arith}
 use native.Mathlib.Numerals.{add-one}
-use mathlib.Core.Path.{_≡_, refl, ap}
-use mathlib.Core.Bool.{cond}
+use mathlib.Core.Path.{_≡_, refl, sym, _∙_, ap}
+use mathlib.Core.Bool.{Bool, true, false, cond}
 use mathlib.Core.List.{List, [], _∷_, _++_}
 use lib.Dec.{ltb, leb, eqb}
 use lib.ListN.{length, getD, take, drop, drop-of-length-le}
@@ -125,6 +125,24 @@ number-inside top zero (a ∷ s) = cond-elim (Inside (a ∷ s)) (leb a top) (λ 
 number-inside top (suc g) (a ∷ s) =
     cond-elim (Inside (a ∷ s)) (ltb a 128) (λ e. (omega arith, omega arith)) (λ e. followed-inside a s (groupsIn top g s) (number-inside top g s))
 
+-- The packed form of a number with no more groups, and of one with more; and where there are fewer groups than may be, it is the same.
+pub packed-low : (g v : ℕ) → v < 128 → packedIn g v ≡ v ∷ []
+unfolding packedIn
+packed-low zero v h = refl
+packed-low (suc g) v h = rw (lt-ltb v 128 h)
+
+pub packed-high : (g v : ℕ) → 128 ≤ v → 1 ≤ g → packedIn g v ≡ (v % 128 + 128) ∷ packedIn (g - 1) (v / 128)
+unfolding packedIn
+packed-high zero v h l = absurd (omega arith)
+packed-high (suc g) v h l =
+    let d : suc g - 1 ≡ g = omega arith in
+    rw (le-ltb v 128 h, d)
+
+pub packed-fewer : (g v : ℕ) → v < cap 127 g → packedIn (suc g) v ≡ packedIn g v
+unfolding packedIn cap
+packed-fewer zero v h = rw (lt-ltb v 128 (omega arith))
+packed-fewer (suc g) v h = ap (λ (l : List ℕ). cond (ltb v 128) (v ∷ []) ((v % 128 + 128) ∷ l)) (packed-fewer g (v / 128) (omega arith))
+
 -- 5. Sizes: a packed form has 1 to g + 1 bytes, so 1 to 5 for document 01's numbers.
 pub packed-size : (g x : ℕ) → (1 ≤ length (packedIn g x)) × (length (packedIn g x) ≤ g + 1)
 unfolding packedIn
@@ -133,6 +151,33 @@ packed-size (suc g) x =
     cond-elim (λ (l : List ℕ). (1 ≤ length l) × (length l ≤ suc g + 1)) (ltb x 128)
     (λ e. (omega arith, omega arith))
     (λ e. (omega arith, omega (arith, packed-size g (x / 128) .1)))
+
+-- and one byte more for each of the g powers of 128 that the number reaches; here those of b times 128
+unfoldable pub reached : ℕ → ℕ → ℕ → ℕ
+reached zero b x = 0
+reached (suc g) b x = cond (ltb x b) 0 1 + reached g (128 * b) x
+
+reached-none : (g b x : ℕ) → x < b → reached g b x ≡ 0
+unfolding reached
+reached-none zero b x h = refl
+reached-none (suc g) b x h = rw (lt-ltb x b h) (omega (arith, reached-none g (128 * b) x (omega arith)))
+
+reached-next : (g b x : ℕ) → reached g b (x / 128) ≡ reached g (128 * b) x
+unfolding reached
+reached-next zero b x = refl
+reached-next (suc g) b x = rw (same (ltb x (128 * b)) refl) (ap (λ (n : ℕ). cond (ltb x (128 * b)) 0 1 + n) (reached-next g (128 * b) x))
+  where
+    same : (t : Bool) → ltb x (128 * b) ≡ t → ltb (x / 128) b ≡ ltb x (128 * b)
+    same true e = let l = ltb-true x (128 * b) e in lt-ltb (x / 128) b (omega arith) ∙ sym e
+    same false e = let l = ltb-false x (128 * b) e in le-ltb (x / 128) b (omega arith) ∙ sym e
+
+pub packed-reached : (g x : ℕ) → length (packedIn g x) ≡ 1 + reached g 128 x
+unfolding packedIn reached
+packed-reached zero x = refl
+packed-reached (suc g) x =
+    cond-elim (λ (l : List ℕ). length l ≡ 1 + (cond (ltb x 128) 0 1 + reached g (128 * 128) x)) (ltb x 128)
+    (λ e. rw (e, reached-none g (128 * 128) x (omega (arith, ltb-true x 128 e))))
+    (λ e. rw (e, packed-reached g (x / 128), reached-next g 128 x) (omega arith))
 
 -- 6. Shortest: bytes in groups, all but the last with the top bit set, that come to x are at least as many as the packed form has.
 abbrev pub Grouped : List ℕ → Type 0

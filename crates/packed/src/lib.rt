@@ -1,7 +1,10 @@
 // One number to bytes and back.
 ghost use mathlib.Core.Path.{_≡_};
 ghost use Prim.Native.Nat.{ℕ, _+_, _≤_};
-ghost use lib.ListN.{length, take, drop};
+ghost use mathlib.Core.Bool.{cond};
+ghost use mathlib.Core.List.{[], _∷_, flatMap};
+ghost use lib.Dec.{ltb, leb};
+ghost use lib.ListN.{length, drop};
 ghost use Rattle.timing.specs.Numbers.{packed, groupsIn, readNumber, writeAnswer, writtenRoom};
 use timing::Groups;
 use timing::NumberRead;
@@ -56,32 +59,61 @@ pub fn read_number(s: &[u8], at: usize) -> NumberRead
     }
 }
 
-// A packed number, in the first `len` of five bytes.
-struct Five {
-    bytes: [u8; 5],
-    len: usize,
-}
-
-fn pack(x: u32) -> Five
+// Puts the groups of `x` into the room from a place on, where they fit: the lowest first, and the top bit set while more follow.
+fn put_groups(room: &mut [u8], at: usize, x: u32) -> usize
+    requires { ⌜ at + length (packed x) ≤ length (now room) ⌝ }
     ensures { λ r.
-        ⌜ (take (r .len) (r .bytes) ≡ packed x)
-        × (r .len ≡ length (packed x))
-        × (r .len ≤ 5)
-        × (length (r .bytes) ≡ 5) ⌝ }
+        ⌜ (r ≡ at + length (packed x))
+        × (now (room .exit) ≡ writtenRoom (now (room .entry)) at (packed x)) ⌝ }
 {
-    let mut b = [0u8; 5];
-    let mut n: usize = 0;
+    let mut next = at;
     let mut v = x;
     while 128 <= v {
-        b[n] = (v % 128 + 128) as u8;
+        room[next] = (v % 128 + 128) as u8;
         v = v / 128;
-        n += 1;
+        next += 1;
     }
-    b[n] = v as u8;
-    Five {
-        bytes: b,
-        len: n + 1,
+    room[next] = v as u8;
+    next + 1
+}
+
+// The same, with the one or two bytes that most numbers take spelled out, so that these pass through no loop.
+fn put_number(room: &mut [u8], at: usize, x: u32) -> usize
+    requires { ⌜ at + length (packed x) ≤ length (now room) ⌝ }
+    ensures { λ r.
+        ⌜ (r ≡ at + length (packed x))
+        × (now (room .exit) ≡ writtenRoom (now (room .entry)) at (packed x)) ⌝ }
+{
+    if x < 128 {
+        room[at] = x as u8;
+        return at + 1;
     }
+    room[at] = (x % 128 + 128) as u8;
+    if x < 16384 {
+        room[at + 1] = (x / 128) as u8;
+        return at + 2;
+    }
+    put_groups(room, at + 1, x / 128)
+}
+
+// Whether a room of `len` bytes has so many left from a place on.
+pub fn has_left(len: usize, at: usize, count: usize) -> bool
+    ensures { λ r. ⌜ r ≡ leb (at + count) len ⌝ }
+{
+    if len < at {
+        return false;
+    }
+    count <= len - at
+}
+
+// Whether the packed form of `x` fits. Five bytes hold any number, so that its size is asked for at the room's end only.
+fn holds(len: usize, at: usize, x: u32) -> bool
+    ensures { λ r. ⌜ r ≡ leb (at + length (packed x)) len ⌝ }
+{
+    if has_left(len, at, 5) {
+        return true;
+    }
+    has_left(len, at, number_size(x))
 }
 
 // Writes the packed form of `x` from a place of the room on, or refuses and leaves the room as it is.
@@ -90,35 +122,59 @@ pub fn write_number(room: &mut [u8], at: usize, x: u32) -> Written
         ⌜ (r ≡ writeAnswer (now (room .entry)) at (packed x))
         × (now (room .exit) ≡ writtenRoom (now (room .entry)) at (packed x)) ⌝ }
 {
-    let five = pack(x);
-    let b = five.bytes;
-    let n = five.len;
-    if room.len() < at {
-        return Written::Refused(verdicts::refuse(35, 0));
+    if holds(room.len(), at, x) {
+        Written::End(put_number(room, at, x))
+    } else {
+        Written::Refused(verdicts::refuse(35, 0))
     }
-    if room.len() - at < n {
-        return Written::Refused(verdicts::refuse(35, 0));
-    }
-    let mut k = 0;
-    while k < n {
-        room[at + k] = b[k];
-        k += 1;
-    }
-    Written::End(at + n)
 }
 
-// How many bytes a number takes.
+// The same test for three numbers one after the other.
+fn holds_row(len: usize, at: usize, a: u32, b: u32, c: u32) -> bool
+    ensures { λ r. ⌜ r ≡ leb (at + length (flatMap packed (a ∷ b ∷ c ∷ []))) len ⌝ }
+{
+    if has_left(len, at, 15) {
+        return true;
+    }
+    has_left(len, at, number_size(a) + number_size(b) + number_size(c))
+}
+
+fn put_row(room: &mut [u8], at: usize, a: u32, b: u32, c: u32) -> usize
+    requires { ⌜ at + length (flatMap packed (a ∷ b ∷ c ∷ [])) ≤ length (now room) ⌝ }
+    ensures { λ r.
+        let bytes = flatMap packed (a ∷ b ∷ c ∷ []) in
+        ⌜ (r ≡ at + length bytes) × (now (room .exit) ≡ writtenRoom (now (room .entry)) at bytes) ⌝ }
+{
+    let next = put_number(room, at, a);
+    let next = put_number(room, next, b);
+    put_number(room, next, c)
+}
+
+// Writes three numbers one after the other, or refuses and leaves the room as it is.
+pub fn write_row(room: &mut [u8], at: usize, a: u32, b: u32, c: u32) -> Written
+    ensures { λ r.
+        let bytes = flatMap packed (a ∷ b ∷ c ∷ []) in
+        ⌜ (r ≡ writeAnswer (now (room .entry)) at bytes)
+        × (now (room .exit) ≡ writtenRoom (now (room .entry)) at bytes) ⌝ }
+{
+    if holds_row(room.len(), at, a, b, c) {
+        Written::End(put_row(room, at, a, b, c))
+    } else {
+        Written::Refused(verdicts::refuse(35, 0))
+    }
+}
+
+// 1 for a number that is not below a bound, and 0 for one that is.
+fn reaches(x: u32, bound: u32) -> usize
+    ensures { λ r. ⌜ (r ≡ cond (ltb x bound) 0 1) × (r ≤ 1) ⌝ }
+{
+    if x < bound { 0 } else { 1 }
+}
+
+// How many bytes a number takes: one more for each power of 128 that it reaches. It is a sum, since a compiler takes
+// the sums of several numbers at a time, and guesses no branch.
 pub fn number_size(x: u32) -> usize
     ensures { λ r. ⌜ r ≡ length (packed x) ⌝ }
 {
-    if x < 128 {
-        return 1;
-    }
-    if x < 16384 {
-        return 2;
-    }
-    if x < 2097152 {
-        return 3;
-    }
-    if x < 268435456 { 4 } else { 5 }
+    1 + reaches(x, 128) + reaches(x, 16384) + reaches(x, 2097152) + reaches(x, 268435456)
 }

@@ -4,8 +4,8 @@ use native.Mathlib.Omega.{arith}
 use native.Mathlib.Numerals.{add-one}
 use mathlib.Core.Path.{_≡_, refl, sym, _∙_, ap}
 use mathlib.Core.List.{List, [], _∷_, _++_, flatMap, append-assoc}
-use lib.ListN.{length, getD, drop, length-append, drop-of-length-le}
-use lib.Seq.{drop-cons}
+use lib.ListN.{length, getD, take, drop, length-append, take-append-drop, drop-of-length-le}
+use lib.Seq.{drop-cons, drop-drop}
 use Rattle.timing.specs.Numbers.{packed}
 use Rattle.packed.proofs.Numbers.{packed-size}
 
@@ -32,6 +32,10 @@ size-drop s k h = rw (drop-cons s k 0 h, add-one k) (size-cons (getD s k 0) (dro
 
 pub size-done : (s : List ℕ) (k : ℕ) → length s ≤ k → length (flatMap packed (drop k s)) ≡ 0
 size-done s k h = rw (drop-of-length-le s h) size-none
+
+-- and part by part
+pub size-part : (s : List ℕ) (k n : ℕ) → length (flatMap packed (drop k s)) ≡ length (flatMap packed (take n (drop k s))) + length (flatMap packed (drop (k + n) s))
+size-part s k n = ap (λ (l : List ℕ). length (flatMap packed l)) (sym (take-append-drop n (drop k s))) ∙ rw (← drop-drop n k s) (size-append (take n (drop k s)) (drop n (drop k s)))
 
 -- five bytes at most for each
 pub size-most : (s : List ℕ) → length (flatMap packed s) ≤ 5 * length s

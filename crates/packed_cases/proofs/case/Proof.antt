@@ -46,8 +46,29 @@ part-read-case-end c = search needs
 read-case-requires : tie.Need-read-case-requires
 read-case-requires c κs = search needs
 
+size-requires-2 : tie.Need-size-requires-2
+size-requires-2 c κs = search needs
+
+array-borrow-prefix-room-2 : tie.Need-array-borrow-prefix-room-2
+array-borrow-prefix-room-2 c = search needs
+
+slice-aggregate-row-case : tie.Need-slice-aggregate-row-case
+slice-aggregate-row-case c = sym (length-take-le (c .before .size2 .result) _ (c .before .size2 .ensures))
+
 word-requires-2 : tie.Need-word-requires-2
 word-requires-2 c κs = search needs
+
+word-requires-3 : tie.Need-word-requires-3
+word-requires-3 c κs = search needs
+
+word-requires-4 : tie.Need-word-requires-4
+word-requires-4 c κs = search needs
+
+row-case-requires : tie.Need-row-case-requires
+row-case-requires c κs = search needs
+
+word-requires-5 : tie.Need-word-requires-5
+word-requires-5 c κs = search needs
 
 delay-case-requires : tie.Need-delay-case-requires
 delay-case-requires c κs = search needs
@@ -79,7 +100,14 @@ case-spec =
     part-read-case-start
     part-read-case-end
     read-case-requires
+    size-requires-2
+    array-borrow-prefix-room-2
+    slice-aggregate-row-case
     word-requires-2
+    word-requires-3
+    word-requires-4
+    row-case-requires
+    word-requires-5
     delay-case-requires
     slice-aggregate-text
     text-requires

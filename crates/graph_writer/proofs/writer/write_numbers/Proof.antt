@@ -5,7 +5,8 @@ use mathlib.Core.Path.{_≡_}
 use mathlib.Core.List.{[], _∷_}
 use lib.ListN.{length, getD, drop, drop-of-length-le}
 use borrow.Author.Needs.{needs}
-use Rattle.graph_writer.proofs.Writing.{Left, left-all, left-turn, left-none, numbers-turn}
+use Rattle.graph_writer.specs.Writing.{Left}
+use Rattle.graph_writer.proofs.Writing.{left-all, left-turn, left-none, numbers-turn}
 use Rattle.graph_writer.proofs.writer.write_numbers.Statement.{statement}
 use Rattle.graph_writer.proofs.writer.write_numbers.Tie as tie
 
