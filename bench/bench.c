@@ -274,6 +274,8 @@ static void full_limits(void)
     random_design(&d, 4096, 16384, 4000);
     random_paths(&list, &d, 1024, 8);
     on_design("full limits, edges of any span");
+    list.edges[list.listed - 1] = 0;            /* starts at node 0, where no edge ends */
+    on_design("the same, its last path broken at its end");
 }
 
 static void hubs(void)

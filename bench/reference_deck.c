@@ -8,9 +8,27 @@
 #define FAULT 0
 #endif
 
-static void refused(int64_t answer)
+/* Of 22 to 24, which edge of the path it is. */
+static size_t index_within(const reference_deck *k, int number, size_t path)
 {
-    printf("refused %d at %d\n", (int)(-answer % 256), (int)(-answer / 256));
+    const uint32_t *edges = k->listed_edges;
+    size_t at = 0;
+    for (size_t p = 0; p < path; p++) edges += k->lengths[p];
+    if (number == 23) while (edges[at] < k->edges) at++;
+    if (number == 24) for (at = 1; k->starts[edges[at]] == k->ends[edges[at - 1]];) at++;
+    if (FAULT == 16 && at > 0) at--;                                            /* the edge before */
+    if (FAULT == 17 && number == 24)                                            /* the last one that does not join */
+        for (size_t later = at; later < k->lengths[path]; later++)
+            if (k->starts[edges[later]] != k->ends[edges[later - 1]]) at = later;
+    return at;
+}
+
+static void refused(int64_t answer, const reference_deck *k)
+{
+    int number = (int)(-answer % 256), place = (int)(-answer / 256);
+    printf("refused %d at %d", number, place);
+    if (number >= 22 && number <= 24) printf(" edge %zu", index_within(k, number, (size_t)place));
+    putchar('\n');
     exit(0);
 }
 
@@ -22,10 +40,10 @@ int main(void)
     static int64_t arrival[512], required[512], slack[512];
     size_t length = fread(bytes, 1, sizeof bytes, stdin);
     int64_t answer = reference_read_deck(bytes, length, &k);
-    if (answer < 0) refused(answer);
+    if (answer < 0) refused(answer, &k);
     uint8_t packed[16384];
     answer = reference_true_graph(bytes, length, packed, sizeof packed);       /* for its refusals, 25 before 31 among them */
-    if (answer < 0 && answer != -35) refused(answer);
+    if (answer < 0 && answer != -35) refused(answer, &k);
     answer = reference_remove_from_design(k.n, k.starts, k.edges, k.ends, k.edges, k.delays, k.edges, k.listed_edges, k.listed, k.lengths,
                                           k.paths, nodes, 512, from, 2048, to, 2048, via, 2048, scratch, 16384);
     size_t copies = (uint32_t)answer, edges = (size_t)(answer >> 32);

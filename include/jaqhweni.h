@@ -38,6 +38,8 @@
  *         35  0             the packed result is longer than its room
  *         36  0             a count of the deck is above 1,024 edges, 256 paths or 1,024 listed edges
  *
+ * Of 22 to 24 the place is the path alone; which of its edges is at fault, the deck program prints.
+ *
  * A refusal changes no result slice. Tests are made in the order 30, 10 to 14, 20 to 25, 32, 31, 33, 34, 35, one number over everything
  * before the next; of a deck, 4, then 1, 2, 10, 11, 20, 21 and 36 as it is read, then 3, come before them. A call leaves out the tests
  * of what it does not take. */

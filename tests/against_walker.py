@@ -42,7 +42,7 @@ TRUE_GRAPH, REMOVE_FROM_DESIGN, REMOVE_FROM_GRAPH, TIMES, WRITE_GRAPH = range(5)
 PARTS = ["decks", "fixed", "random"]
 LEAST_DECKS = 2000          # random cases end when the time is over, but not before so many decks
 LEAST = {"decks": {"decks printed": LEAST_DECKS}, "random": {"decks": LEAST_DECKS, "random series": LEAST_DECKS // 4}}
-FAULTS = range(1, 16)       # bench/stand_in.c and bench/reference_deck.c
+FAULTS = range(1, 18)       # bench/stand_in.c and bench/reference_deck.c
 VALGRIND = ["valgrind", "--quiet", "--error-exitcode=9", "--main-stacksize=33554432", "--max-stackframe=16777216"]
 BATCH, BATCH_BYTES = 400, 1 << 24       # requests to the runner at a time
 

@@ -48,7 +48,7 @@ def read_line(name, counts, tables, sizes):
 
 
 def refused_line(refused, kept):
-    return "refused %d at %d; kept %d\n" % (*refused.refusal, kept)
+    return "%s; kept %d\n" % (walker.printed_refusal(refused.refusal), kept)
 
 
 def deck_line(deck, sizes):

@@ -101,6 +101,16 @@ ROWS = [
     ("One number over everything before the next: 12 at edge 1 before 13 at edge 0; 23 at path 1 before 24 at path 0",
      [("removal", FALLING_AND_UNKNOWN, NONE, AMPLE, 192),
       ("removal", A, listed((2, 1), (9,)), AMPLE, 999), ("removal", A, listed((0, 2), (2, 1)), AMPLE, 999)]),
+    ("Which edge of the path: 02's example, as the deck program and the C call have it; a place of the C call is the path",
+     [("deck", A, listed((2, 1)), 10), ("c", A, listed((0, 2), (2, 1)), 10, 64)]),
+    ("23: the first edge is unknown; the last; two are",
+     [("removal", A, listed((4, 2)), AMPLE, 999), ("removal", A, listed((1,), (0, 2, 4)), AMPLE, 999),
+      ("removal", A, listed((1, 4, 9)), AMPLE, 999)]),
+    ("24: a break at index 1; at the last index; two breaks, in one path and then in two",
+     [("removal", M8, listed((1, 3, 4)), AMPLE, 999), ("removal", M8, listed((0, 2), (0, 2, 3, 2)), AMPLE, 999),
+      ("removal", M8, listed((0, 2, 0, 1)), AMPLE, 999), ("removal", M8, listed((2, 3, 5), (1, 0)), AMPLE, 999)]),
+    ("22: an empty path behind a broken one, and behind one that names an unknown edge",
+     [("removal", A, listed((2, 1), ()), AMPLE, 999), ("removal", A, listed((2, 9), (), ()), AMPLE, 999)]),
     ("An earlier graph that is not the design: two copies of a source, which removal keeps apart",
      [("again", FORKED, SPLIT_SOURCE, listed((0, 1)), AMPLE, 999)]),
     ("An earlier graph that is not well formed: two edges out of order",
@@ -159,11 +169,16 @@ def removal_text(l, room, words):
     return applied("removal", named(l), named(room), str(words))
 
 
+def refusal_text(refusal):
+    """One place, or two."""
+    return applied("refusal" if len(refusal) == 2 else "refusalWithin", *map(str, refusal))
+
+
 def outcome_text(call):
     try:
         return applied("made", named(call()))
     except w.Refused as r:
-        return applied("refused", "refusal %d %d" % r.refusal)
+        return applied("refused", refusal_text(r.refusal))
 
 
 def after(d, lists):
@@ -180,7 +195,7 @@ def read_text(data):
     try:
         return "Value %d %d" % w.read_number(data, 0)
     except w.Refused as r:
-        return applied("NotRead", "refusal %d %d" % r.refusal)
+        return applied("NotRead", refusal_text(r.refusal))
 
 
 def fact(kind, *given):
@@ -261,7 +276,7 @@ use Rattle.timing.specs.Times.{arrivalAt, requiredAt, slackAt, nodeTimes
 use Rattle.timing.specs.Numbers.{packedIn, packed, groupsIn, readNumber, writeAnswer, writtenRoom}
 use Rattle.timing.specs.Decks.{readDeck}
 use Rattle.timing.specs.GraphBytes.{graphNumbers, packedGraph}
-use Rattle.timing.specs.Refusals.{refusal}
+use Rattle.timing.specs.Refusals.{refusal, refusalWithin}
 use Rattle.timing.specs.Tests.{Room, designTests, listTests, candidates, scratchTest, roomTests}
 use Rattle.timing.specs.Calls.{Outcome, made, refused, Removal, removal, slicesOf, testDeck}
 use Rattle.timing.specs.Calls.{removeFromDesign, removeFromGraph, programRemoval, program, cCall, cRoom}

@@ -101,7 +101,7 @@ class Series:
         if refusal is None:
             self.lines.append("copies %d edges %d" % (len(result.copy_nodes), len(result.starts)))
         else:
-            self.lines.append("refused %d at %d" % refusal)
+            self.lines.append(walker.printed_refusal(refusal))
         small = sum(map(len, result[:2])) <= PRINTED
         after = [walker.lent_after(pattern(which, length), part) for which, (length, part) in enumerate(zip(room, result))]
         after.append(walker.scratch_after(pattern(4, scratch), refusal))

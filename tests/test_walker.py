@@ -194,7 +194,7 @@ class Ranges(unittest.TestCase):
         self.assertEqual(refusal(w.Design(4097, [], [], []), NO_LIST), (10, 0))
         self.assertIsNone(refusal(w.Design(2, [0], [1], [-1_000_000]), NO_LIST))
         self.assertEqual(refusal(w.Design(2, [0], [1], [1_000_001]), NO_LIST), (14, 0))
-        self.assertEqual(refusal(design, path_list_of([[2, 1]])), (24, 0))
+        self.assertEqual(refusal(design, path_list_of([[2, 1]])), (24, 0, 1))
         self.assertEqual(w.allowed_time_refusal(1_000_000_001), (25, 0))
         self.assertIsNone(w.allowed_time_refusal(1_000_000_000))
         self.assertEqual(printed(deck_of(5, A_EDGES, [[1, 2]], 1_000_000_001)), "refused 25 at 0\n")
@@ -218,12 +218,12 @@ class Ranges(unittest.TestCase):
         self.assertEqual(refusal(design, w.PathList([2 ** 32 - 1, 1], [])), (30, 0))       # no wrap
         self.assertEqual(refusal(design, w.PathList([1] * 1025, [0] * 1025)), (20, 0))
         self.assertEqual(refusal(design, w.PathList([8193], [0] * 8193)), (21, 0))
-        self.assertEqual(refusal(design, path_list_of([[2, 1], [9], []])), (22, 2))
-        self.assertEqual(refusal(design, path_list_of([[2, 1], [9]])), (23, 1))
-        self.assertEqual(refusal(design, path_list_of([[0, 2], [1], [0, 1], [9]])), (23, 3))
+        self.assertEqual(refusal(design, path_list_of([[2, 1], [9], []])), (22, 2, 0))
+        self.assertEqual(refusal(design, path_list_of([[2, 1], [9]])), (23, 1, 0))
+        self.assertEqual(refusal(design, path_list_of([[0, 2], [1], [0, 1], [9]])), (23, 3, 0))
         bad_graph = w.Graph([9], [], [], [])
         self.assertEqual(refusal(design, NO_LIST, bad_graph, 0), (32, 0))                  # 32 before 31
-        self.assertEqual(refusal(design, path_list_of([[2, 1]]), bad_graph, 0), (24, 0))
+        self.assertEqual(refusal(design, path_list_of([[2, 1]]), bad_graph, 0), (24, 0, 1))
         self.assertEqual(refusal(design, NO_LIST, w.Graph([9], [1], [], []), 0), (30, 0))
         # on A with 1,2: 5 nodes + 1 tail, 2 listed edges, 4 edges
         self.assertEqual(refusal(design, path_list_of([[1, 2]]), None, 12 * 16 - 1), (31, 0))
@@ -236,6 +236,17 @@ class Ranges(unittest.TestCase):
         self.assertEqual(w.refusal_of(w.times, design, bad_graph, 10, [1, 1, 1]), (32, 0))
         self.assertIsNone(w.node_record(3, [5], [1], [1], [1], 5))
         self.assertEqual(w.refusal_of(w.node_record, 4097, [5], [1], [1], [1], 5), (10, 0))
+
+    def test_which_edge_of_the_path(self):
+        """Document 02, request 4."""
+        for paths, wanted in [
+                ([[2, 1]], (24, 0, 1)), ([[0, 2], [1, 3, 0]], (24, 1, 2)), ([[0, 2, 1, 2, 0]], (24, 0, 2)), ([[0, 0, 0]], (24, 0, 1)),
+                ([[4, 2]], (23, 0, 0)), ([[0, 2, 4]], (23, 0, 2)), ([[1], [1, 4, 4]], (23, 1, 1)), ([[2, 1], [0, 9]], (23, 1, 1)),
+                ([[2, 1], []], (22, 1, 0)), ([[9], [], []], (22, 1, 0))]:
+            data = decks.pack(w.deck_numbers(deck_of(5, A_EDGES, paths, 10)))
+            self.assertEqual(refusal(MARKED["M1"].design, path_list_of(paths)), wanted)
+            self.assertEqual(w.deck_program(data), "refused %d at %d edge %d\n" % wanted)
+            self.assertEqual(w.c_call(data, 64), (-(wanted[0] + 256 * wanted[1]), b""))
 
     def test_deck_reader_and_program(self):
         number = w.write_number

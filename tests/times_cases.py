@@ -59,7 +59,7 @@ class Given:
 # ---- What the program prints ---------------------------------------------------------------
 
 def refused_line(refusal):
-    return "refused %d at %d\n" % refusal
+    return walker.printed_refusal(refusal) + "\n"
 
 
 def times_line(times):

@@ -40,7 +40,7 @@ class Deck:
 
 
 def answer(deck):
-    """None or (number, place), by the separate program."""
+    """None or the refusal, by the separate program."""
     design = walker.Design(deck.nodes, deck.starts, deck.ends, deck.delays)
     paths = walker.PathList(deck.lengths, deck.listed)
     refusal = walker.refusal_of(walker.removal, design, paths, None, MANY_WORDS, WIDE_ROOM, deck.allowed)
@@ -190,6 +190,18 @@ def edges_of_the_ranges():
         yield Deck(9, [], [], 5).but(starts=list(range(starts)), ends=list(range(1, 1 + ends)), delays=[4] * delays)
 
 
+def faults_along_a_path():
+    """A path of twelve edges in a row, behind a sound one. At each index in turn stands an edge that is unknown, or the right one, or one
+    that does not join; and then the same edge stands at the end too."""
+    row = [(k, k + 1, k) for k in range(12)]
+    for at in range(12):
+        for edge in (12, TOP, at, at + 1, (at + 2) % 12):
+            for last in (11, edge):
+                path = list(range(12))
+                path[at], path[11] = edge, last
+                yield Deck(13, row, [[3, 4], path], 10)
+
+
 def random_deck(chance):
     design = random_design(chance, most_nodes=6, most_edges=8)
     paths = random_paths(chance, design, 3) if design.starts else []
@@ -207,6 +219,7 @@ def random_deck(chance):
 
 def cases():
     yield from edges_of_the_ranges()
+    yield from faults_along_a_path()
     for fault in FAULTS:
         for k in range(9):
             yield damaged([fault], [k])
@@ -223,7 +236,7 @@ def cases():
 
 
 def line(refusal):
-    return "passed\n" if refusal is None else "refused %d at %d\n" % refusal
+    return "passed\n" if refusal is None else walker.printed_refusal(refusal) + "\n"
 
 
 def main():

@@ -1,11 +1,11 @@
 #!/usr/bin/env python3
 """Reference program: true timing graphs by walking all paths.
 
-Written from document 01, the specification, and from no code or definition of this
-repository; points that it leaves open are read as docs/DECISIONS.md says ("How document 01
-is read"). Naive on purpose: every complete path is written out, the false ones are struck
+Written from document 01, the specification, with request 4 of document 02, and from no code
+or definition of this repository; points that they leave open are read as docs/DECISIONS.md
+says ("How document 01 is read"). Naive on purpose: every complete path is written out, the false ones are struck
 out, and copies, edges and times are read off the paths that remain. Text in double quotes in
-the comments is a sentence of document 01; docs/REVIEW.md lists these.
+the comments is a sentence of these documents; docs/REVIEW.md lists them.
 
     python3 walker.py < deck              the deck program
     python3 walker.py --c ROOM < deck     the C call: its number, then the bytes in hex
@@ -38,18 +38,23 @@ class WalkTooLong(Exception):
     """Too many paths for this program; says nothing about the document."""
 
 class Refused(Exception):
-    """"Each returns its number and a place." """
-    def __init__(self, number, place=0):
-        super().__init__(number, place)
-        self.refusal = (number, place)
+    """"Each returns its number and a place"; "22 to 24 now carry two places, path and index". A refusal is (number, place), and of
+    22 to 24 (number, path, index)."""
+    def __init__(self, number, place=0, *index):
+        super().__init__(number, place, *index)
+        self.refusal = (number, place, *index)
 
 def refuse(refusal):
-    """Pass on what a test returned: None, or (number, place)."""
+    """Pass on what a test returned: None, or a refusal."""
     if refusal is not None:
         raise Refused(*refusal)
 
+def printed_refusal(refusal):
+    """"path 2,1 of deck A gives `refused 24 at 0 edge 1`": two places are "both printed"."""
+    return "refused %d at %d" % refusal[:2] + "".join(" edge %d" % index for index in refusal[2:])
+
 def refusal_of(call, *given, **named):
-    """The (number, place) a call is refused with, or None."""
+    """The refusal that a call ends with, or None."""
     try:
         call(*given, **named)
     except Refused as refused:
@@ -153,7 +158,7 @@ def true_graph(design, path_list, earlier=None):
     return Graph([worked_on.copy_nodes[node_or_copy] for node_or_copy, _ in ordered],
                  [edge[0] for edge in edges], [edge[1] for edge in edges], [edge[2] for edge in edges])
 
-# ---- Tests: each returns None or (number, place) --------------------------------------------
+# ---- Tests: each returns None or a refusal ---------------------------------------------------
 
 def slices_refusal(groups=(), path_list=None):
     """30: "lent slices that belong together ... differ in length, or the lengths of the paths
@@ -189,22 +194,24 @@ def design_refusal(design):
     return None
 
 def list_refusal(design, path_list):
-    """20 to 24; the place of 22 to 24 is the path number."""
+    """20 to 24; the places of 22 to 24 are the path number and an index within the path."""
     listed = listed_paths(path_list)
     if len(listed) > MOST_PATHS:
         return 20, 0
     if len(path_list.flat) > MOST_LISTED_EDGES:
         return 21, 0
     for number, path in enumerate(listed):
-        if len(path) == 0:                                          # "an empty path"
-            return 22, number
+        if len(path) == 0:                                          # "an empty path"; "22's index is 0"
+            return 22, number, 0
     for number, path in enumerate(listed):
-        if any(edge >= len(design.starts) for edge in path):        # "an edge number not below m"
-            return 23, number
+        unknown = [index for index, edge in enumerate(path) if edge >= len(design.starts)]
+        if unknown:                                                 # "an edge number not below m"
+            return 23, number, min(unknown)
     for number, path in enumerate(listed):
-        # "each edge starting where the one before ends"
-        if any(design.ends[edge] != design.starts[after] for edge, after in zip(path, path[1:])):
-            return 24, number
+        # "the index, within the path, of the first edge that does not start where the one before ends, or that all join"
+        apart = [index for index in range(1, len(path)) if design.starts[path[index]] != design.ends[path[index - 1]]]
+        if apart:
+            return 24, number, min(apart)
     return None
 
 def allowed_time_refusal(allowed_time):
@@ -537,7 +544,7 @@ def deck_program(data):
     try:
         deck, graph = deck_and_graph(data)
     except Refused as refused:
-        return "refused %d at %d\n" % refused.refusal
+        return printed_refusal(refused.refusal) + "\n"
     at_copies = copy_times(deck.design, graph, deck.allowed_time)
     lines = ["copies %d edges %d" % (len(graph.copy_nodes), len(graph.starts))]
     for copy, (node, at_copy) in enumerate(zip(graph.copy_nodes, at_copies)):
@@ -552,11 +559,11 @@ def deck_program(data):
 
 def c_call(data, room):
     """"one signed 64-bit number: the length, or on a refusal minus the sum of the number and
-    256 times the place"; and the bytes written (none on a refusal)."""
+    256 times the place"; "the C call returns the first place"; and the bytes written (none on a refusal)."""
     try:
         result = write_graph(deck_and_graph(data)[1], room)
     except Refused as refused:
-        number, place = refused.refusal
+        number, place = refused.refusal[:2]
         return -(number + 256 * place), b""
     return len(result), result
 

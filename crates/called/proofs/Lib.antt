@@ -1,5 +1,6 @@
 -- Theorems over calls, and calls that meet their hypotheses.
 pub mod Series
+pub mod Faults
 pub mod Demand2
 pub mod Times
 pub mod Example

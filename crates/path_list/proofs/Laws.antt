@@ -9,10 +9,13 @@ use lib.Dec.{leb}
 use lib.ListN.{length, getD, take, drop, length-take, length-drop, drop-of-length-le, take-append-drop}
 use lib.Seq.{take-all, drop-cons, drop-drop}
 use borrow.Author.Tests.{leb-true, leb-false}
-use Rattle.timing.specs.declared.Verdict.the-variants.{Passed, Refused}
-use Rattle.timing.specs.Lists.{isNil, sum}
-use Rattle.timing.specs.Refusals.{refusal, firstBad}
+use Rattle.timing.specs.declared.Verdict.the-variants.{Passed}
+use Rattle.timing.specs.declared.Fault.{Fault}
+use Rattle.timing.specs.declared.Fault.the-variants.{At, None}
+use Rattle.timing.specs.Lists.{sum}
+use Rattle.timing.specs.Refusals.{unlessFault, firstFault, _then_}
 use Rattle.timing.specs.Marks.{cut}
+use Rattle.timing.specs.Tests.{emptyAt}
 
 -- The part of the flat list that the code hands on is the path, and what follows it is the rest of the flat list: also
 -- where the lengths pass the flat list and `to` is its end.
@@ -43,39 +46,40 @@ module _ (flat : List ℕ) (from k to : ℕ) (inside : from ≤ length flat) (en
           let n : length (drop from flat) ≡ length flat - from = length-drop from flat in
           drop-of-length-le flat {i = to} (omega arith) ∙ sym (drop-of-length-le (drop from flat) {i = k} (omega arith))
 
--- How a loop that looks for the first bad path goes: at path p, which starts at `from`, what is left to look at is the
+-- How a loop that looks for the first path with a fault goes: at path p, which starts at `from`, what is left to look at is the
 -- rest of the flat list, cut by the rest of the lengths.
-module _ (number : ℕ) (bad : List ℕ → Bool) (flat lengths : List ℕ) (p from : ℕ) where
-  pub no-path-left : length lengths ≤ p → firstBad number bad p (cut (drop from flat) (drop p lengths)) ≡ Passed
+module _ (number : ℕ) (fault : List ℕ → Fault) (flat lengths : List ℕ) (p from : ℕ) where
+  pub no-path-left : length lengths ≤ p → firstFault number fault p (cut (drop from flat) (drop p lengths)) ≡ Passed
   no-path-left h = rw (drop-of-length-le lengths {i = p} h)
 
   module _ (to : ℕ) (here : p < length lengths) (inside : from ≤ length flat) (ends : to ≡ min (from + getD lengths p 0) (length flat)) where
-    pub bad-path : bad (take (to - from) (drop from flat)) ≡ true
-        → firstBad number bad p (cut (drop from flat) (drop p lengths)) ≡ Refused (refusal number p)
-    bad-path e =
-        let q : bad (take (getD lengths p 0) (drop from flat)) ≡ true = rw (part-path flat from (getD lengths p 0) to inside ends) at e in
-        rw (drop-cons lengths p 0 here, q)
+    next-path : firstFault number fault p (cut (drop from flat) (drop p lengths))
+        ≡ (unlessFault number p (fault (take (to - from) (drop from flat))) then firstFault number fault (p + 1) (cut (drop to flat) (drop (p + 1) lengths)))
+    next-path =
+        rw (drop-cons lengths p 0 here, add-one p, part-path flat from (getD lengths p 0) to inside ends, part-rest flat from (getD lengths p 0) to inside ends)
 
-    pub good-path : bad (take (to - from) (drop from flat)) ≡ false
-        → firstBad number bad (p + 1) (cut (drop to flat) (drop (p + 1) lengths)) ≡ firstBad number bad p (cut (drop from flat) (drop p lengths))
-    good-path e =
-        let q : bad (take (getD lengths p 0) (drop from flat)) ≡ false = rw (part-path flat from (getD lengths p 0) to inside ends) at e in
-        rw (drop-cons lengths p 0 here, q, add-one p, part-rest flat from (getD lengths p 0) to inside ends)
+    pub fault-path : (f : Fault) {i : ℕ} → f ≡ fault (take (to - from) (drop from flat)) → f ≡ At i
+        → firstFault number fault p (cut (drop from flat) (drop p lengths)) ≡ unlessFault number p f
+    fault-path f e at = next-path ∙ rw (← e, at)
+
+    pub sound-path : (f : Fault) → f ≡ fault (take (to - from) (drop from flat)) → f ≡ None
+        → firstFault number fault (p + 1) (cut (drop to flat) (drop (p + 1) lengths)) ≡ firstFault number fault p (cut (drop from flat) (drop p lengths))
+    sound-path f e none = sym (next-path ∙ rw (← e, none))
 
 -- what a part of the flat list holds
 pub part-length : (flat : List ℕ) (from to : ℕ) → to ≤ length flat → length (take (to - from) (drop from flat)) ≡ to - from
 part-length flat from to h = simp (length-take, length-drop) (omega arith)
 
 -- it is empty exactly where it ends at its start
-pub part-empty : (flat : List ℕ) (from to : ℕ) → to ≡ from → isNil (take (to - from) (drop from flat)) ≡ true
+pub part-empty : (flat : List ℕ) (from to : ℕ) → to ≡ from → emptyAt (take (to - from) (drop from flat)) ≡ At 0
 part-empty flat from to e =
     let d : to - from ≡ 0 = omega arith in
     rw d
 
-pub part-filled : (flat : List ℕ) (from to : ℕ) → from < to → to ≤ length flat → isNil (take (to - from) (drop from flat)) ≡ false
+pub part-filled : (flat : List ℕ) (from to : ℕ) → from < to → to ≤ length flat → emptyAt (take (to - from) (drop from flat)) ≡ None
 part-filled flat from to h b = go (take (to - from) (drop from flat)) (omega (arith, part-length flat from to b))
   where
-    go : (l : List ℕ) → 0 < length l → isNil l ≡ false
+    go : (l : List ℕ) → 0 < length l → emptyAt l ≡ None
     go [] h = absurd (omega arith)
     go (x ∷ l) h = refl
 

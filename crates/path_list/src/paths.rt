@@ -1,19 +1,18 @@
 // 22, 23 and 24 of a list of paths: each passes over every path. A path is a part of the flat
 // list, from the end of the path before it; where the lengths pass the flat list, it ends there.
 ghost use mathlib.Core.Path.{_≡_};
-ghost use mathlib.Core.Bool.{not};
 ghost use mathlib.Core.List.{[]};
-ghost use Prim.Native.Nat.{_+_, _≤_, min};
-ghost use lib.Dec.{ltb};
-ghost use lib.ListN.{length, getD};
-ghost use Rattle.timing.specs.Lists.{isNil, anyOf, eachNext};
-ghost use Rattle.timing.specs.Refusals.{_then_, firstBad};
+ghost use Prim.Native.Nat.{_+_, _<_, _≤_, min};
+ghost use lib.ListN.{length, take};
+ghost use Rattle.timing.specs.Refusals.{_then_, firstFault};
 ghost use Rattle.timing.specs.Graphs.{design};
 ghost use Rattle.timing.specs.Marks.{pathList, pathsOf};
-ghost use Rattle.timing.specs.Tests.{meets};
+ghost use Rattle.timing.specs.Tests.{meets, emptyAt, firstUnknown, firstBreak};
+ghost use Rattle.timing.specs.declared.Fault.the-variants.{None};
 use entries::number_at;
+use timing::Fault;
 use timing::Verdict;
-use verdicts::refuse;
+use verdicts::unless_fault;
 
 // Where a path of k edges ends that starts at `from`, in a flat list of `size` edges.
 fn path_end(size: usize, from: usize, k: u32) -> usize
@@ -28,7 +27,7 @@ fn path_end(size: usize, from: usize, k: u32) -> usize
 pub(crate) fn and_filled(before: Verdict, listed: &[u32], lengths: &[u32]) -> Verdict
     ensures { λ r.
         let L = pathList (now (listed .entry)) (now (lengths .entry)) in
-        ⌜ r ≡ (before then firstBad 22 isNil 0 (pathsOf L)) ⌝ }
+        ⌜ r ≡ (before then firstFault 22 emptyAt 0 (pathsOf L)) ⌝ }
 {
     let Verdict::Passed = before else {
         return before;
@@ -38,7 +37,7 @@ pub(crate) fn and_filled(before: Verdict, listed: &[u32], lengths: &[u32]) -> Ve
     while p < lengths.len() {
         let to = path_end(listed.len(), from, lengths[p]);
         if to == from {
-            return Verdict::Refused(refuse(22, p));
+            return unless_fault(22, p, Fault::At(0));
         }
         from = to;
         p += 1;
@@ -46,26 +45,26 @@ pub(crate) fn and_filled(before: Verdict, listed: &[u32], lengths: &[u32]) -> Ve
     Verdict::Passed
 }
 
-// Whether some edge of a path is none of the m edges.
-fn names_unknown(path: &[u32], m: usize) -> bool
-    ensures { λ r. ⌜ r ≡ anyOf (λ k. not (ltb k m)) (now (path .entry)) ⌝ }
+// The first edge of a path that is none of the m edges.
+fn first_unknown(path: &[u32], m: usize) -> Fault
+    ensures { λ r. ⌜ r ≡ firstUnknown m 0 (now (path .entry)) ⌝ }
 {
-    let mut j = 0;
-    while j < path.len() {
-        let k = path[j] as usize;
+    let mut i = 0;
+    while i < path.len() {
+        let k = path[i] as usize;
         if m <= k {
-            return true;
+            return Fault::At(i);
         }
-        j += 1;
+        i += 1;
     }
-    false
+    Fault::None
 }
 
 // 23: a path names an edge not below m.
 pub(crate) fn and_named(before: Verdict, m: usize, listed: &[u32], lengths: &[u32]) -> Verdict
     ensures { λ r.
         let L = pathList (now (listed .entry)) (now (lengths .entry)) in
-        ⌜ r ≡ (before then firstBad 23 (anyOf (λ k. not (ltb k m))) 0 (pathsOf L)) ⌝ }
+        ⌜ r ≡ (before then firstFault 23 (firstUnknown m 0) 0 (pathsOf L)) ⌝ }
 {
     let Verdict::Passed = before else {
         return before;
@@ -74,25 +73,32 @@ pub(crate) fn and_named(before: Verdict, m: usize, listed: &[u32], lengths: &[u3
     let mut from = 0;
     while p < lengths.len() {
         let to = path_end(listed.len(), from, lengths[p]);
-        if names_unknown(&listed[from..to], m) {
-            return Verdict::Refused(refuse(23, p));
-        }
+        let unknown = first_unknown(&listed[from..to], m);
+        let Fault::None = unknown else {
+            return unless_fault(23, p, unknown);
+        };
         from = to;
         p += 1;
     }
     Verdict::Passed
 }
 
-// Edge i + 1 of a path starts where edge i ends.
-fn joins(starts: &[u32], ends: &[u32], path: &[u32], i: usize) -> bool
-    requires { ⌜ i + 1 ≤ length (now path) ⌝ }
+// The join test of a path up to its edge i, where the edges before i are known to join: the index of
+// the first that does not start where the one before ends, or that all join.
+fn join_test(starts: &[u32], ends: &[u32], path: &[u32], i: usize) -> Fault
+    requires { let D = design 0 (now starts) (now ends) [] in
+        ⌜ (0 < i) × (i < length (now path)) × (firstBreak (meets D) 0 (take i (now path)) ≡ None) ⌝ }
     ensures { λ r.
         let D = design 0 (now (starts .entry)) (now (ends .entry)) [] in
-        ⌜ r ≡ meets D (getD (now (path .entry)) i 0) (getD (now (path .entry)) (i + 1) 0) ⌝ }
+        ⌜ r ≡ firstBreak (meets D) 0 (take (i + 1) (now (path .entry))) ⌝ }
 {
-    let j = number_at(path, i) as usize;
-    let k = number_at(path, i + 1) as usize;
-    number_at(ends, j) == number_at(starts, k)
+    let j = number_at(path, i - 1) as usize;
+    let k = number_at(path, i) as usize;
+    if number_at(ends, j) == number_at(starts, k) {
+        Fault::None
+    } else {
+        Fault::At(i)
+    }
 }
 
 // 24: the edges of a path do not join; the search stops at the first such place.
@@ -106,28 +112,27 @@ pub(crate) fn and_joined(
     ensures { λ r.
         let D = design 0 (now (starts .entry)) (now (ends .entry)) [] in
         let L = pathList (now (listed .entry)) (now (lengths .entry)) in
-        ⌜ r ≡ (before then firstBad 24 (λ p. not (eachNext (meets D) p)) 0 (pathsOf L)) ⌝ }
+        ⌜ r ≡ (before then firstFault 24 (firstBreak (meets D) 0) 0 (pathsOf L)) ⌝ }
 {
     let Verdict::Passed = before else {
         return before;
     };
     let mut p = 0;
     let mut from = 0;
+    let mut found = Fault::None;
     'paths: while p < lengths.len() {
         let to = path_end(listed.len(), from, lengths[p]);
         let path = &listed[from..to];
-        let mut i = 0;
-        while i + 1 < path.len() {
-            if !joins(starts, ends, path, i) {
+        let mut i = 1;
+        while i < path.len() {
+            found = join_test(starts, ends, path, i);
+            let Fault::None = found else {
                 break 'paths;
-            }
+            };
             i += 1;
         }
         from = to;
         p += 1;
     }
-    if p < lengths.len() {
-        return Verdict::Refused(refuse(24, p));
-    }
-    Verdict::Passed
+    unless_fault(24, p, found)
 }

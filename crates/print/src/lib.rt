@@ -68,10 +68,22 @@ pub fn delay(d: i32) {
     time(d as i64);
 }
 
-// A refusal as the deck program prints it.
+// Whether the place of a refusal is a path, and its index that of an edge within it.
+fn is_of_path(n: u32) -> bool {
+    match n {
+        22..=24 => true,
+        _ => false,
+    }
+}
+
+// A refusal as the deck program prints it: both places, where it has two.
 pub fn refused(r: Refusal) {
     text(b"refused ");
     number(r.number as u64);
     text(b" at ");
     number(r.place as u64);
+    if is_of_path(r.number) {
+        text(b" edge ");
+        number(r.index as u64);
+    }
 }

@@ -10,6 +10,8 @@ pub mod Stands
 pub mod Parts
 -- what passing the tests gives
 pub mod Refusals
+pub mod Faults
+pub mod Placed
 pub mod Tested
 pub mod Legal
 pub mod Kept

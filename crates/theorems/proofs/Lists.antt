@@ -2,7 +2,7 @@
 use Prim.Native.Nat.{ℕ, zero, suc, _+_, _≤_, _<_, min}
 use mathlib.Core.Path.{_≡_, refl, ap, subst}
 use mathlib.Core.Logic.{_⊎_, inl, inr, ⊎-elim}
-use mathlib.Core.Bool.{Bool, true, false, not, cond, _&&_, _||_}
+use mathlib.Core.Bool.{Bool, true, false, cond, _&&_, _||_}
 use mathlib.Core.List.{List, [], _∷_, map, flatMap, List·Memᴰ, List·Memᴰ·head, List·Memᴰ·tail, List·Memᴰ·not-nil, List·Memᴰ·cases-cons, Memᴰ·append-left, Memᴰ·append-right, List·Memᴰ·append-cases}
 use native.Mathlib.Omega.{arith}
 use native.Mathlib.Decide.{ℕ-discrete}
@@ -138,14 +138,6 @@ module _ {A : Type 0} (p : A → Bool) where
   pub allOf-intro : (l : List A) → ((x : A) → List·Memᴰ x l → T (p x)) → T (allOf p l)
   allOf-intro [] f = tt
   allOf-intro (y ∷ l) f = and-intro (p y) (allOf p l) (f y (List·Memᴰ·head refl)) (allOf-intro l (λ x m. f x (List·Memᴰ·tail m)))
-
--- a member that does not pass is found
-pub anyOf-false : {A : Type 0} (p : A → Bool) (l : List A) → anyOf (λ x. not (p x)) l ≡ false → (x : A) → List·Memᴰ x l → T (p x)
-anyOf-false p l e x m = go (p x) refl
-  where
-    go : (b : Bool) → p x ≡ b → T b
-    go true q = tt
-    go false q = fails (anyOf (λ y. not (p y)) l) e (anyOf-intro (λ y. not (p y)) m (rw q tt))
 
 -- a place of a list
 pub getD-mem : {A : Type 0} (l : List A) (i : ℕ) (d : A) → i < length l → List·Memᴰ (getD l i d) l

@@ -10,15 +10,16 @@ use lib.IntN.{ℤ, natAbs}
 use lib.ListN.{length}
 use Rattle.timing.specs.declared.Verdict.{Verdict}
 use Rattle.timing.specs.declared.Verdict.the-variants.{Passed}
-use Rattle.timing.specs.Lists.{isNil, anyOf, allOf, eachNext, upto, sum}
+use Rattle.timing.specs.Lists.{isNil, allOf, eachNext, upto, sum}
 use Rattle.timing.specs.Graphs.{Design, design, edgeStart, edgeEnd, edgeDelay, Edge, Graph, designGraph, nodeOf}
 use Rattle.timing.specs.Marks.{PathList, pathsOf}
 use Rattle.timing.specs.WellFormed.{fewEnough, nodesFit, edgeFits, edgeRises, oneSinkCopy, linked, wellFormed}
-use Rattle.timing.specs.Refusals.{unless, firstBad, _then_}
-use Rattle.timing.specs.Tests.{designSizes, listSizes, nodeCount, designCounts, strays, falls, tooSlow, designTests, listCounts, meets, listTests, graphTest}
-use Rattle.theorems.proofs.Lists.{and-intro, and-left, and-right, holds, mem-upto, of-upto, allOf-elim, allOf-intro, anyOf-false}
+use Rattle.timing.specs.Refusals.{unless, firstBad, firstFault, _then_}
+use Rattle.timing.specs.Tests.{designSizes, listSizes, nodeCount, designCounts, strays, falls, tooSlow, designTests, listCounts, meets, emptyAt, firstUnknown, firstBreak, listTests, graphTest}
+use Rattle.theorems.proofs.Lists.{and-intro, and-left, and-right, holds, mem-upto, of-upto, allOf-elim, allOf-intro}
 use Rattle.timing.proofs.Verdicts.{then-passed, unless-passed}
 use Rattle.theorems.proofs.Refusals.{firstBad-passed}
+use Rattle.theorems.proofs.Faults.{has-edge, all-known, all-join, firstFault-passed}
 
 -- what tests 30 and 10 to 14 say of a design
 pub record DesignFits (D : Design) : Type 0 where
@@ -103,20 +104,20 @@ unfolding listTests
 list-fits D L s t =
     let m = length (D .starts) in
     let K = pathsOf L in
-    let t₂₃ : Verdict = firstBad 23 (anyOf (λ k. not (ltb k m))) 0 K in
-    let t₂₄ : Verdict = firstBad 24 (λ p. not (eachNext (meets D) p)) 0 K in
-    let r = then-passed (listCounts L) (firstBad 22 isNil 0 K then t₂₃ then t₂₄) t in
+    let t₂₂ : Verdict = firstFault 22 emptyAt 0 K in
+    let t₂₃ : Verdict = firstFault 23 (firstUnknown m 0) 0 K in
+    let t₂₄ : Verdict = firstFault 24 (firstBreak (meets D) 0) 0 K in
+    let r = then-passed (listCounts L) (t₂₂ then t₂₃ then t₂₄) t in
     let counts = then-passed (unless 20 (leb (length (L .lengths)) 1024)) (unless 21 (leb (length (L .edges)) 8192)) (r .0) in
-    let q = then-passed (firstBad 22 isNil 0 K) (t₂₃ then t₂₄) (r .1) in
+    let q = then-passed t₂₂ (t₂₃ then t₂₄) (r .1) in
     let u = then-passed t₂₃ t₂₄ (q .1) in
     record {
       total = eqb→eq (sum (L .lengths)) (length (L .edges)) (holds _ (unless-passed 30 (eqb (sum (L .lengths)) (length (L .edges))) s));
       fewPaths = leb→le (length (L .lengths)) 1024 (holds _ (unless-passed 20 (leb (length (L .lengths)) 1024) (counts .0)));
       fewEdges = leb→le (length (L .edges)) 8192 (holds _ (unless-passed 21 (leb (length (L .edges)) 8192) (counts .1)));
-      filled = firstBad-passed 22 isNil 0 K (q .0);
-      named = λ p i k j.
-          ltb→lt k m (anyOf-false (λ k. ltb k m) p (firstBad-passed 23 (anyOf (λ k. not (ltb k m))) 0 K (u .0) p i) k j);
-      joined = λ p i. not-false (eachNext (meets D) p) (firstBad-passed 24 (λ p. not (eachNext (meets D) p)) 0 K (u .1) p i);
+      filled = λ p i. has-edge p (firstFault-passed 22 emptyAt 0 K (q .0) p i);
+      named = λ p i. all-known m 0 p (firstFault-passed 23 (firstUnknown m 0) 0 K (u .0) p i);
+      joined = λ p i. all-join (meets D) 0 p (firstFault-passed 24 (firstBreak (meets D) 0) 0 K (u .1) p i);
     }
 
 -- what 32 says of an edge

@@ -20,7 +20,7 @@ use Rattle.timing.specs.Times.{arrivalAt, requiredAt, slackAt, nodeTimes
 use Rattle.timing.specs.Numbers.{packedIn, packed, groupsIn, readNumber, writeAnswer, writtenRoom}
 use Rattle.timing.specs.Decks.{readDeck}
 use Rattle.timing.specs.GraphBytes.{graphNumbers, packedGraph}
-use Rattle.timing.specs.Refusals.{refusal}
+use Rattle.timing.specs.Refusals.{refusal, refusalWithin}
 use Rattle.timing.specs.Tests.{Room, designTests, listTests, candidates, scratchTest, roomTests}
 use Rattle.timing.specs.Calls.{Outcome, made, refused, Removal, removal, slicesOf, testDeck}
 use Rattle.timing.specs.Calls.{removeFromDesign, removeFromGraph, programRemoval, program, cCall, cRoom}
@@ -225,8 +225,27 @@ marked =
     ∷ removalIs falling (removal noPaths (room 6 4 3 4) 192) (refused (refusal 30 0))
     -- One number over everything before the next: 12 at edge 1 before 13 at edge 0; 23 at path 1 before 24 at path 0
     ∷ removalIs fallingAndUnknown (removal noPaths ample 192) (refused (refusal 12 1))
-    ∷ removalIs deckA (removal (pathList (2 ∷ 1 ∷ 9 ∷ []) (2 ∷ 1 ∷ [])) ample 999) (refused (refusal 23 1))
-    ∷ removalIs deckA (removal (pathList (0 ∷ 2 ∷ 2 ∷ 1 ∷ []) (2 ∷ 2 ∷ [])) ample 999) (refused (refusal 24 1))
+    ∷ removalIs deckA (removal (pathList (2 ∷ 1 ∷ 9 ∷ []) (2 ∷ 1 ∷ [])) ample 999) (refused (refusalWithin 23 1 0))
+    ∷ removalIs deckA (removal (pathList (0 ∷ 2 ∷ 2 ∷ 1 ∷ []) (2 ∷ 2 ∷ [])) ample 999) (refused (refusalWithin 24 1 1))
+    -- Which edge of the path: 02's example, as the deck program and the C call have it; a place of the C call is the path
+    ∷ programIs (5 ∷ 4 ∷ 0 ∷ 2 ∷ 6 ∷ 1 ∷ 2 ∷ 10 ∷ 2 ∷ 3 ∷ 4 ∷ 2 ∷ 4 ∷ 2 ∷ 1 ∷ 2 ∷ 2 ∷ 1 ∷ 10 ∷ [])
+    (refused (refusalWithin 24 0 1))
+    ∷ cCallIs (5 ∷ 4 ∷ 0 ∷ 2 ∷ 6 ∷ 1 ∷ 2 ∷ 10 ∷ 2 ∷ 3 ∷ 4 ∷ 2 ∷ 4 ∷ 2 ∷ 2 ∷ 2 ∷ 0 ∷ 2 ∷ 2 ∷ 2 ∷ 1 ∷ 10 ∷ []) 64
+    (negsuc 279)
+    -- 23: the first edge is unknown; the last; two are
+    ∷ removalIs deckA (removal (pathList (4 ∷ 2 ∷ []) (2 ∷ [])) ample 999) (refused (refusalWithin 23 0 0))
+    ∷ removalIs deckA (removal (pathList (1 ∷ 0 ∷ 2 ∷ 4 ∷ []) (1 ∷ 3 ∷ [])) ample 999) (refused (refusalWithin 23 1 2))
+    ∷ removalIs deckA (removal (pathList (1 ∷ 4 ∷ 9 ∷ []) (3 ∷ [])) ample 999) (refused (refusalWithin 23 0 1))
+    -- 24: a break at index 1; at the last index; two breaks, in one path and then in two
+    ∷ removalIs designM8 (removal (pathList (1 ∷ 3 ∷ 4 ∷ []) (3 ∷ [])) ample 999) (refused (refusalWithin 24 0 1))
+    ∷ removalIs designM8 (removal (pathList (0 ∷ 2 ∷ 0 ∷ 2 ∷ 3 ∷ 2 ∷ []) (2 ∷ 4 ∷ [])) ample 999)
+    (refused (refusalWithin 24 1 3))
+    ∷ removalIs designM8 (removal (pathList (0 ∷ 2 ∷ 0 ∷ 1 ∷ []) (4 ∷ [])) ample 999) (refused (refusalWithin 24 0 2))
+    ∷ removalIs designM8 (removal (pathList (2 ∷ 3 ∷ 5 ∷ 1 ∷ 0 ∷ []) (3 ∷ 2 ∷ [])) ample 999)
+    (refused (refusalWithin 24 0 2))
+    -- 22: an empty path behind a broken one, and behind one that names an unknown edge
+    ∷ removalIs deckA (removal (pathList (2 ∷ 1 ∷ []) (2 ∷ 0 ∷ [])) ample 999) (refused (refusalWithin 22 1 0))
+    ∷ removalIs deckA (removal (pathList (2 ∷ 9 ∷ []) (2 ∷ 0 ∷ 0 ∷ [])) ample 999) (refused (refusalWithin 22 1 0))
     -- An earlier graph that is not the design: two copies of a source, which removal keeps apart
     ∷ againIs forked splitSource (removal (pathList (0 ∷ 1 ∷ []) (2 ∷ [])) ample 999)
     (made (graph (0 ∷ 1 ∷ 3 ∷ []) (edge 0 1 0 ∷ edge 1 2 2 ∷ [])))
@@ -240,6 +259,7 @@ unfolding flatMap designGraph edgesIn edgesOut runsTo runsFrom completeRuns perm
     writtenRoom readDeck graphNumbers packedGraph designTests listTests candidates scratchTest roomTests testDeck
     removeFromDesign removeFromGraph programRemoval program cCall cRoom
 marked-hold =
+    refl also refl also refl also refl also refl also refl also refl also refl also refl also refl also refl also
     refl also refl also refl also refl also refl also refl also refl also refl also refl also refl also refl also
     refl also refl also refl also refl also refl also refl also refl also refl also refl also refl also refl also
     refl also refl also refl also refl also refl also refl also refl also refl also refl also refl also refl also

@@ -21,6 +21,7 @@ pub mod Tests
 pub mod Calls
 pub mod Series
 pub mod Called
--- what the theorems say of these: demand 2, and whose times the times are
+-- what the theorems say of these: demand 2, whose times the times are, and where a listed path is at fault
 pub mod Paths
 pub mod Demands
+pub mod Faults

@@ -1,16 +1,18 @@
 -- Who can cause a refusal: each test with its number, its exact condition and its place.
-use Prim.Native.Nat.{ℕ, _+_, _*_, min}
-use mathlib.Core.Bool.{Bool, not, _&&_}
-use mathlib.Core.List.{map, flatMap}
+use Prim.Native.Nat.{ℕ, suc, _+_, _*_, min}
+use mathlib.Core.Bool.{Bool, not, cond, _&&_}
+use mathlib.Core.List.{List, [], _∷_, map, flatMap}
 use lib.Dec.{eqb, ltb, leb}
 use lib.IntN.{natAbs}
 use lib.ListN.{length, drop}
 use Rattle.timing.specs.declared.Verdict.{Verdict}
-use Rattle.timing.specs.Lists.{isNil, anyOf, countOf, eachNext, upto, sum}
+use Rattle.timing.specs.declared.Fault.{Fault}
+use Rattle.timing.specs.declared.Fault.the-variants.{At, None}
+use Rattle.timing.specs.Lists.{countOf, upto, sum}
 use Rattle.timing.specs.Graphs.{Design, edgeStart, edgeEnd, edgeDelay, Graph}
 use Rattle.timing.specs.Marks.{PathList, pathsOf}
 use Rattle.timing.specs.WellFormed.{fewEnough, wellFormed}
-use Rattle.timing.specs.Refusals.{unless, firstBad, _then_}
+use Rattle.timing.specs.Refusals.{unless, firstBad, firstFault, _then_}
 
 -- 30: "lent slices that belong together differ in length"
 abbrev pub sameSizes : ℕ → ℕ → ℕ → Verdict
@@ -56,13 +58,31 @@ listCounts L = unless 20 (leb (length (L .lengths)) 1024) then unless 21 (leb (l
 abbrev pub meets : Design → ℕ → ℕ → Bool
 meets D j k = eqb (edgeEnd D j) (edgeStart D k)
 
--- 20 to 24; 22: "an empty path", 23: "an edge number not below m", 24: "edges that do not join"
+-- 22 to 24, of one path: where its first fault is, by "the index, within the path" (02, request 4). In 23 and 24 i is the index of
+-- the first edge that is looked at.
+-- 22: "an empty path"; "22's index is 0"
+abbrev pub emptyAt : List ℕ → Fault
+emptyAt [] = At 0
+emptyAt (k ∷ path) = None
+
+-- 23: the first "edge number not below m"
+abbrev pub firstUnknown : ℕ → ℕ → List ℕ → Fault
+firstUnknown m i [] = None
+firstUnknown m i (k ∷ path) = cond (ltb k m) (firstUnknown m (suc i) path) (At i)
+
+-- 24: "the first edge that does not start where the one before ends, or that all join"; `meet` is `meets` of the design
+abbrev pub firstBreak : (ℕ → ℕ → Bool) → ℕ → List ℕ → Fault
+firstBreak meet i [] = None
+firstBreak meet i (j ∷ []) = None
+firstBreak meet i (j ∷ k ∷ path) = cond (meet j k) (firstBreak meet (suc i) (k ∷ path)) (At (suc i))
+
+-- 20 to 24
 unfoldable pub listTests : Design → PathList → Verdict
 listTests D L =
     listCounts L
-    then firstBad 22 isNil 0 (pathsOf L)
-    then firstBad 23 (anyOf (λ k. not (ltb k (length (D .starts))))) 0 (pathsOf L)
-    then firstBad 24 (λ p. not (eachNext (meets D) p)) 0 (pathsOf L)
+    then firstFault 22 emptyAt 0 (pathsOf L)
+    then firstFault 23 (firstUnknown (length (D .starts)) 0) 0 (pathsOf L)
+    then firstFault 24 (firstBreak (meets D) 0) 0 (pathsOf L)
 
 -- 25: "T out of range"
 abbrev pub allowedTest : ℕ → Verdict

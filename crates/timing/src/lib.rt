@@ -19,16 +19,25 @@ pub const MAX_COPY_EDGES: usize = 65536;
 
 pub const MAX_DECK_BYTES: usize = 65536;
 
-// A refusal: document 01's number, and the place of the fault.
+// A refusal: document 01's number, and the place of the fault. Where the place is a path (22 to 24), a
+// second one is the index of an edge within it; for all other numbers it is 0.
 pub struct Refusal {
     pub number: u32,
     pub place: usize,
+    pub index: usize,
 }
 
 // What a test answers.
 pub enum Verdict {
     Passed,
     Refused(Refusal),
+}
+
+// What a test of the edges of a path answers: the index within the path of the first edge that fails it,
+// or that all pass.
+pub enum Fault {
+    At(usize),
+    None,
 }
 
 // The number that some bytes begin with: its value and how many bytes it takes; the bytes end

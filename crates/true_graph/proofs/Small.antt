@@ -3,19 +3,21 @@
 use Prim.Native.Nat.{ℕ, suc, _+_, _*_, _≤_, min}
 use native.Mathlib.Omega.{arith}
 use mathlib.Core.Path.{_≡_, refl, subst}
-use mathlib.Core.Bool.{Bool, true, false, cond, not, _&&_}
+use mathlib.Core.Bool.{Bool, true, false, cond, _&&_}
 use mathlib.Core.List.{List, [], _∷_}
-use lib.Dec.{eqb, ltb, leb, leb→le}
+use lib.Dec.{eqb, leb, leb→le}
 use lib.ListN.{length}
 use Rattle.timing.specs.declared.Verdict.{Verdict}
 use Rattle.timing.specs.declared.Verdict.the-variants.{Passed, Refused}
-use Rattle.timing.specs.Lists.{isNil, anyOf, eachNext, upto, sum}
+use Rattle.timing.specs.declared.Fault.{Fault}
+use Rattle.timing.specs.declared.Fault.the-variants.{At, None}
+use Rattle.timing.specs.Lists.{upto, sum}
 use Rattle.timing.specs.Graphs.{Design, Graph, designGraph}
 use Rattle.timing.specs.Marks.{PathList, pathsOf}
 use Rattle.timing.specs.TrueGraphs.{trueGraph}
 use Rattle.timing.specs.WellFormed.{wellFormed}
-use Rattle.timing.specs.Refusals.{refusal, unless, firstBad, _then_}
-use Rattle.timing.specs.Tests.{sameSizes, designSizes, listSizes, nodeCount, designCounts, strays, falls, tooSlow, designTests, listCounts, meets, listTests, allowedTest, graphTest, candidates, scratchTest, Room, roomSizes, roomTests}
+use Rattle.timing.specs.Refusals.{refusal, unless, firstBad, unlessFault, firstFault, _then_}
+use Rattle.timing.specs.Tests.{sameSizes, designSizes, listSizes, nodeCount, designCounts, strays, falls, tooSlow, designTests, listCounts, meets, emptyAt, firstUnknown, firstBreak, listTests, allowedTest, graphTest, candidates, scratchTest, Room, roomSizes, roomTests}
 use Rattle.timing.specs.Calls.{GraphSlices, graphOf, graphSizes, outcome, Removal, removeFromDesign, removeFromGraph, graphAnswer, testTimes}
 use Rattle.theorems.proofs.Lists.{holds, length-upto}
 use Rattle.timing.proofs.Verdicts.{then-passed, unless-passed}
@@ -37,6 +39,15 @@ small-first {A} k h bad i (x ∷ xs) l = go (bad x) (small-first k h bad (suc i)
     go : (b : Bool) → Small (firstBad k bad (suc i) xs) → Small (cond b (Refused (refusal k i)) (firstBad k bad (suc i) xs))
     go true r = (h, omega arith)
     go false r = r
+
+small-fault : (k : ℕ) → k ≤ 36 → (fault : List ℕ → Fault) (i : ℕ) (paths : List (List ℕ)) → i + length paths ≤ 65536 → Small (firstFault k fault i paths)
+small-fault k h fault i [] l = tt
+small-fault k h fault i (p ∷ paths) l =
+    small-then (unlessFault k i (fault p)) (firstFault k fault (suc i) paths) (go (fault p)) (λ e. small-fault k h fault (suc i) paths (omega arith))
+  where
+    go : (f : Fault) → Small (unlessFault k i f)
+    go None = tt
+    go (At j) = (h, omega arith)
 
 pub small-sizes : (a b c : ℕ) → Small (sameSizes a b c)
 small-sizes a b c = small-unless 30 (omega arith) (eqb a b && eqb a c)
@@ -60,15 +71,15 @@ pub small-list : (D : Design) (L : PathList) → Small (listTests D L)
 unfolding listTests
 small-list D L =
     let K = pathsOf L in
-    let named : List ℕ → Bool = anyOf (λ k. not (ltb k (length (D .starts)))) in
-    let joined : List ℕ → Bool = λ p. not (eachNext (meets D) p) in
-    small-then (listCounts L) (firstBad 22 isNil 0 K then (firstBad 23 named 0 K then firstBad 24 joined 0 K))
+    let unknown : List ℕ → Fault = firstUnknown (length (D .starts)) 0 in
+    let broken : List ℕ → Fault = firstBreak (meets D) 0 in
+    small-then (listCounts L) (firstFault 22 emptyAt 0 K then (firstFault 23 unknown 0 K then firstFault 24 broken 0 K))
     (small-then (unless 20 (leb (length (L .lengths)) 1024)) (unless 21 (leb (length (L .edges)) 8192)) (small-unless 20 (omega arith) (leb (length (L .lengths)) 1024)) (λ e. small-unless 21 (omega arith) (leb (length (L .edges)) 8192)))
     (λ p.
     let m = passes-le 20 (length (L .lengths)) 1024 (then-passed (unless 20 (leb (length (L .lengths)) 1024)) (unless 21 (leb (length (L .edges)) 8192)) p .0) in
     let few : 0 + length K ≤ 65536 = omega (arith, length-cut (L .edges) (L .lengths)) in
-    small-then (firstBad 22 isNil 0 K) (firstBad 23 named 0 K then firstBad 24 joined 0 K) (small-first 22 (omega arith) isNil 0 K few)
-    (λ e. small-then (firstBad 23 named 0 K) (firstBad 24 joined 0 K) (small-first 23 (omega arith) named 0 K few) (λ e. small-first 24 (omega arith) joined 0 K few)))
+    small-then (firstFault 22 emptyAt 0 K) (firstFault 23 unknown 0 K then firstFault 24 broken 0 K) (small-fault 22 (omega arith) emptyAt 0 K few)
+    (λ e. small-then (firstFault 23 unknown 0 K) (firstFault 24 broken 0 K) (small-fault 23 (omega arith) unknown 0 K few) (λ e. small-fault 24 (omega arith) broken 0 K few)))
 
 pub small-scratch : (D : Design) (G : Graph) (L : PathList) (words : ℕ) → Small (scratchTest D G L words)
 unfolding scratchTest

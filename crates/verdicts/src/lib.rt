@@ -1,16 +1,28 @@
 // Refusals, and tests one after the other: the first that does not pass is the verdict.
 ghost use mathlib.Core.Path.{_≡_};
-ghost use Rattle.timing.specs.Refusals.{refusal, _then_};
+ghost use Rattle.timing.specs.Refusals.{refusal, refusalWithin, unlessFault, _then_};
 ghost use Rattle.timing.specs.Refusals.{unless as passedIf};
 ghost use Rattle.timing.specs.Tests.{sameSizes};
+use timing::Fault;
 use timing::Refusal;
 use timing::Verdict;
 
-// Every refusal is made here, so that a further place of a fault is added in one function.
+// Every refusal is made here.
+pub fn refuse_within(number: u32, place: usize, index: usize) -> Refusal
+    ensures { λ r. ⌜ r ≡ refusalWithin number place index ⌝ }
+{
+    Refusal {
+        number,
+        place,
+        index,
+    }
+}
+
+// One with a single place.
 pub fn refuse(number: u32, place: usize) -> Refusal
     ensures { λ r. ⌜ r ≡ refusal number place ⌝ }
 {
-    Refusal { number, place }
+    refuse_within(number, place, 0)
 }
 
 // A test whose place is 0.
@@ -32,6 +44,16 @@ pub fn and_unless(before: Verdict, number: u32, fit: bool) -> Verdict
         return before;
     };
     unless(number, fit)
+}
+
+// A test of one path, by its number and the first fault that it has.
+pub fn unless_fault(number: u32, place: usize, fault: Fault) -> Verdict
+    ensures { λ r. ⌜ r ≡ unlessFault number place fault ⌝ }
+{
+    match fault {
+        Fault::At(index) => Verdict::Refused(refuse_within(number, place, index)),
+        Fault::None => Verdict::Passed,
+    }
 }
 
 // One test, and the next where it passes.

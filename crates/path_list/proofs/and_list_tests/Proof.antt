@@ -1,11 +1,8 @@
-use mathlib.Core.Bool.{not}
-use lib.Dec.{ltb}
 use lib.ListN.{length}
-use Rattle.timing.specs.Lists.{isNil, anyOf, eachNext}
-use Rattle.timing.specs.Refusals.{firstBad}
+use Rattle.timing.specs.Refusals.{firstFault}
 use Rattle.timing.specs.Graphs.{design}
 use Rattle.timing.specs.Marks.{pathList, pathsOf}
-use Rattle.timing.specs.Tests.{listCounts, meets, listTests}
+use Rattle.timing.specs.Tests.{listCounts, meets, emptyAt, firstUnknown, firstBreak, listTests}
 use Rattle.timing.proofs.Verdicts.{chain-four}
 use borrow.Author.Needs.{needs}
 use Rattle.path_list.proofs.and_list_tests.Statement.{statement}
@@ -33,8 +30,8 @@ returns c =
     let L = pathList (a .listed .now) (a .lengths .now) in
     λ n delays.
     let D = design n (a .starts .now) (a .ends .now) delays in
-    chain-four (a .before) (listCounts L) (firstBad 22 isNil 0 (pathsOf L)) (firstBad 23 (anyOf (λ k. not (ltb k (length (a .starts .now))))) 0 (pathsOf L))
-    (firstBad 24 (λ p. not (eachNext (meets D) p)) 0 (pathsOf L))
+    chain-four (a .before) (listCounts L) (firstFault 22 emptyAt 0 (pathsOf L)) (firstFault 23 (firstUnknown (length (a .starts .now)) 0) 0 (pathsOf L))
+    (firstFault 24 (firstBreak (meets D) 0) 0 (pathsOf L))
     (counts .and-list-counts .ensures) (filled .and-filled .ensures) (named .and-named .ensures) (c .and-joined .ensures)
 
 pub and-list-tests-spec : {M : Type 1} → statement M

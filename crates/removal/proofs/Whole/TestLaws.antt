@@ -3,9 +3,9 @@ use Prim.Native.Nat.{ℕ, zero, suc, _+_, _≤_, _<_}
 use native.Mathlib.Omega.{arith}
 use native.Mathlib.Decide.{decLt}
 use mathlib.Core.Path.{_≡_, refl, sym, ap, _∙_, subst}
-use mathlib.Core.Bool.{Bool, true, false, cond, not, _&&_, _||_}
+use mathlib.Core.Bool.{Bool, true, false, cond, _&&_, _||_}
 use mathlib.Core.List.{List, [], _∷_, map}
-use lib.Dec.{eqb, ltb, leb, eqb→eq, leb→le}
+use lib.Dec.{eqb, leb, eqb→eq, leb→le}
 use lib.IntN.{ℤ}
 use lib.ListN.{length, getD, set, take}
 use lib.Seq.{getD-set-same, getD-set-other}
@@ -14,13 +14,15 @@ use Rattle.timing.specs.declared.GraphMade.{GraphMade}
 use Rattle.timing.specs.declared.GraphMade.the-variants.{Refused as NoGraph}
 use Rattle.timing.specs.declared.Verdict.{Verdict}
 use Rattle.timing.specs.declared.Verdict.the-variants.{Passed, Refused}
-use Rattle.timing.specs.Lists.{isNil, anyOf, eachNext, upto, sum}
+use Rattle.timing.specs.declared.Fault.{Fault}
+use Rattle.timing.specs.declared.Fault.the-variants.{At, None}
+use Rattle.timing.specs.Lists.{upto, sum}
 use Rattle.timing.specs.Graphs.{Design, design, Graph, designGraph, edgesOf}
 use Rattle.timing.specs.Marks.{PathList, pathsOf, pathList}
 use Rattle.timing.specs.TrueGraphs.{trueGraph}
 use Rattle.timing.specs.WellFormed.{wellFormed}
-use Rattle.timing.specs.Refusals.{refusal, unless, firstBad, _then_}
-use Rattle.timing.specs.Tests.{sameSizes, designSizes, listSizes, nodeCount, designCounts, strays, falls, tooSlow, designTests, listCounts, meets, listTests, graphTest}
+use Rattle.timing.specs.Refusals.{refusal, unless, firstBad, unlessFault, firstFault, _then_}
+use Rattle.timing.specs.Tests.{sameSizes, designSizes, listSizes, nodeCount, designCounts, strays, falls, tooSlow, designTests, listCounts, meets, emptyAt, firstUnknown, firstBreak, listTests, graphTest}
 use Rattle.timing.specs.Calls.{GraphSlices, graphSlices, graphOf, graphSizes, Outcome, refused, outcome, Removal, lentRemoval, removalTests, removeFromDesign, removeFromGraph, graphAnswer, nodesAfter, startsAfter, endsAfter, namesAfter, scratchAfter}
 use Rattle.theorems.proofs.Lists.{and-left, and-right, holds, length-upto}
 use Rattle.timing.proofs.Verdicts.{then-passed, unless-passed}
@@ -104,6 +106,14 @@ early-first {A} k e bad i (x ∷ xs) = go (bad x) (early-first k e bad (suc i) x
     go true r = e
     go false r = r
 
+early-fault : (k : ℕ) → keeps k → (fault : List ℕ → Fault) (i : ℕ) (paths : List (List ℕ)) → Early (firstFault k fault i paths)
+early-fault k e fault i [] = tt
+early-fault k e fault i (p ∷ paths) = early-then (unlessFault k i (fault p)) (firstFault k fault (suc i) paths) (go (fault p)) (early-fault k e fault (suc i) paths)
+  where
+    go : (f : Fault) → Early (unlessFault k i f)
+    go None = tt
+    go (At j) = e
+
 design-early : (D : Design) → Early (designTests D)
 unfolding designTests
 design-early D =
@@ -117,12 +127,12 @@ list-early : (D : Design) (L : PathList) → Early (listTests D L)
 unfolding listTests
 list-early D L =
     let K = pathsOf L in
-    let named : List ℕ → Bool = anyOf (λ k. not (ltb k (length (D .starts)))) in
-    let joined : List ℕ → Bool = λ p. not (eachNext (meets D) p) in
-    early-then (listCounts L) (firstBad 22 isNil 0 K then firstBad 23 named 0 K then firstBad 24 joined 0 K)
+    let unknown : List ℕ → Fault = firstUnknown (length (D .starts)) 0 in
+    let broken : List ℕ → Fault = firstBreak (meets D) 0 in
+    early-then (listCounts L) (firstFault 22 emptyAt 0 K then firstFault 23 unknown 0 K then firstFault 24 broken 0 K)
     (early-then (unless 20 (leb (length (L .lengths)) 1024)) (unless 21 (leb (length (L .edges)) 8192)) (early-unless 20 refl (leb (length (L .lengths)) 1024)) (early-unless 21 refl (leb (length (L .edges)) 8192)))
-    (early-then (firstBad 22 isNil 0 K) (firstBad 23 named 0 K then firstBad 24 joined 0 K) (early-first 22 refl isNil 0 K)
-    (early-then (firstBad 23 named 0 K) (firstBad 24 joined 0 K) (early-first 23 refl named 0 K) (early-first 24 refl joined 0 K)))
+    (early-then (firstFault 22 emptyAt 0 K) (firstFault 23 unknown 0 K then firstFault 24 broken 0 K) (early-fault 22 refl emptyAt 0 K)
+    (early-then (firstFault 23 unknown 0 K) (firstFault 24 broken 0 K) (early-fault 23 refl unknown 0 K) (early-fault 24 refl broken 0 K)))
 
 chain-early : (D : Design) (L : PathList) (o : Verdict) → Early o → Early (designSizes D then (listSizes L then (o then (designTests D then listTests D L))))
 chain-early D L o e =

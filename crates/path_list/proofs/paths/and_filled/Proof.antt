@@ -1,14 +1,14 @@
--- The first bad path of all is the first of the paths from p on, which are what is left of the flat list from `from` on.
+-- The first empty path of all is the first of the paths from p on, which are what is left of the flat list from `from` on.
 use Prim.Native.Nat.{_-_, _≤_}
 use native.Mathlib.Omega.{arith}
-use mathlib.Core.Path.{_≡_, refl, sym, _∙_, ap}
-use Rattle.timing.specs.Lists.{isNil}
+use mathlib.Core.Path.{_≡_, refl, sym, _∙_}
 use lib.ListN.{length, drop}
 use borrow.Author.Needs.{needs}
-use Rattle.timing.specs.declared.Verdict.the-variants.{Refused}
-use Rattle.timing.specs.Refusals.{firstBad}
+use Rattle.timing.specs.declared.Fault.the-variants.{At, None}
+use Rattle.timing.specs.Refusals.{firstFault}
 use Rattle.timing.specs.Marks.{cut}
-use Rattle.path_list.proofs.Laws.{part-empty, part-filled, no-path-left, bad-path, good-path}
+use Rattle.timing.specs.Tests.{emptyAt}
+use Rattle.path_list.proofs.Laws.{part-empty, part-filled, no-path-left, fault-path, sound-path}
 use Rattle.path_list.proofs.paths.and_filled.Statement.{statement}
 use Rattle.path_list.proofs.paths.and_filled.Tie as tie
 
@@ -16,7 +16,7 @@ abbrev Inv-loop : tie.InvT-loop
 Inv-loop listed lengths p₀ from₀ p from =
     (p ≤ length lengths)
     × (from ≤ length listed)
-    × (firstBad 22 isNil p (cut (drop from listed) (drop p lengths)) ≡ firstBad 22 isNil 0 (cut listed lengths))
+    × (firstFault 22 emptyAt p (cut (drop from listed) (drop p lengths)) ≡ firstFault 22 emptyAt 0 (cut listed lengths))
 
 abbrev μ-loop : tie.MeasureT-loop
 μ-loop listed lengths p₀ from₀ p from = length lengths - p
@@ -42,8 +42,8 @@ shared-slice-read-path-end c = omega arith
 path-end-requires : tie.Need-path-end-requires Inv-loop μ-loop
 path-end-requires c κs = omega arith
 
-refuse-requires : tie.Need-refuse-requires Inv-loop μ-loop
-refuse-requires c κs = search needs
+unless-fault-requires : tie.Need-unless-fault-requires Inv-loop μ-loop
+unless-fault-requires c κs = search needs
 
 returns-2 : tie.Need-returns-2 Inv-loop μ-loop
 returns-2 c =
@@ -52,9 +52,9 @@ returns-2 c =
     let l = i .before in
     let a = l .before .before .before .before .before .args in
     rw (l .before .enum-told .given .1)
-    (ap Refused (c .refuse .ensures)
-    ∙ sym (bad-path 22 isNil (a .listed .now) (a .lengths .now) (l .loop .p) (l .loop .from) (e .path-end .result) (i .loop-test .taken) (l .loop .inv .1) (e .path-end .ensures)
-    (part-empty (a .listed .now) (l .loop .from) (e .path-end .result) (omega arith)))
+    (c .unless-fault .ensures
+    ∙ sym (fault-path 22 emptyAt (a .listed .now) (a .lengths .now) (l .loop .p) (l .loop .from) (e .path-end .result) (i .loop-test .taken) (l .loop .inv .1) (e .path-end .ensures)
+    (At 0) (sym (part-empty (a .listed .now) (l .loop .from) (e .path-end .result) (omega arith))) refl)
     ∙ l .loop .inv .2)
 
 add-p : tie.Need-add-p Inv-loop μ-loop
@@ -71,8 +71,8 @@ loop-again c =
     let a = l .before .before .before .before .before .args in (
       omega arith,
       omega arith,
-      good-path 22 isNil (a .listed .now) (a .lengths .now) (l .loop .p) (l .loop .from) (e .path-end .result) (i .loop-test .taken) (l .loop .inv .1) (e .path-end .ensures)
-          (part-filled (a .listed .now) (l .loop .from) (e .path-end .result) (omega arith) (omega arith))
+      sound-path 22 emptyAt (a .listed .now) (a .lengths .now) (l .loop .p) (l .loop .from) (e .path-end .result) (i .loop-test .taken) (l .loop .inv .1) (e .path-end .ensures)
+          None (sym (part-filled (a .listed .now) (l .loop .from) (e .path-end .result) (omega arith) (omega arith))) refl
           ∙ l .loop .inv .2,
     )
 
@@ -80,7 +80,7 @@ returns-3 : tie.Need-returns-3 Inv-loop μ-loop
 returns-3 c =
     let l = c .before in
     let a = l .before .before .before .before .before .args in
-    rw (l .before .enum-told .given .1) (sym (no-path-left 22 isNil (a .listed .now) (a .lengths .now) (l .loop .p) (l .loop .from) (c .loop-test .left)) ∙ l .loop .inv .2)
+    rw (l .before .enum-told .given .1) (sym (no-path-left 22 emptyAt (a .listed .now) (a .lengths .now) (l .loop .p) (l .loop .from) (c .loop-test .left)) ∙ l .loop .inv .2)
 
 pub and-filled-spec : {M : Type 1} → statement M
 and-filled-spec =
@@ -95,7 +95,7 @@ and-filled-spec =
     mul-path-end
     shared-slice-read-path-end
     path-end-requires
-    refuse-requires
+    unless-fault-requires
     returns-2
     add-p
     loop-less

@@ -1,16 +1,14 @@
--- The first bad path of all is the first of the paths from p on, which are what is left of the flat list from `from` on.
+-- The first path of all that names an unknown edge is the first of the paths from p on, which are what is left of the flat list from
+-- `from` on.
 use Prim.Native.Nat.{_-_, _≤_}
 use native.Mathlib.Omega.{arith}
-use mathlib.Core.Path.{_≡_, refl, sym, _∙_, ap}
-use mathlib.Core.Bool.{not}
-use lib.Dec.{ltb}
-use Rattle.timing.specs.Lists.{anyOf}
+use mathlib.Core.Path.{_≡_, refl, sym, _∙_}
 use lib.ListN.{length, drop}
 use borrow.Author.Needs.{needs}
-use Rattle.timing.specs.declared.Verdict.the-variants.{Refused}
-use Rattle.timing.specs.Refusals.{firstBad}
+use Rattle.timing.specs.Refusals.{firstFault}
 use Rattle.timing.specs.Marks.{cut}
-use Rattle.path_list.proofs.Laws.{no-path-left, bad-path, good-path}
+use Rattle.timing.specs.Tests.{firstUnknown}
+use Rattle.path_list.proofs.Laws.{no-path-left, fault-path, sound-path}
 use Rattle.path_list.proofs.paths.and_named.Statement.{statement}
 use Rattle.path_list.proofs.paths.and_named.Tie as tie
 
@@ -18,7 +16,7 @@ abbrev Inv-loop : tie.InvT-loop
 Inv-loop m listed lengths p₀ from₀ p from =
     (p ≤ length lengths)
     × (from ≤ length listed)
-    × (firstBad 23 (anyOf (λ k. not (ltb k m))) p (cut (drop from listed) (drop p lengths)) ≡ firstBad 23 (anyOf (λ k. not (ltb k m))) 0 (cut listed lengths))
+    × (firstFault 23 (firstUnknown m 0) p (cut (drop from listed) (drop p lengths)) ≡ firstFault 23 (firstUnknown m 0) 0 (cut listed lengths))
 
 abbrev μ-loop : tie.MeasureT-loop
 μ-loop m listed lengths p₀ from₀ p from = length lengths - p
@@ -44,35 +42,42 @@ shared-slice-read-path-end c = omega arith
 path-end-requires : tie.Need-path-end-requires Inv-loop μ-loop
 path-end-requires c κs = omega arith
 
-mul-names-unknown : tie.Need-mul-names-unknown Inv-loop μ-loop
-mul-names-unknown c = omega arith
+mul-first-unknown : tie.Need-mul-first-unknown Inv-loop μ-loop
+mul-first-unknown c = omega arith
 
-sub-names-unknown : tie.Need-sub-names-unknown Inv-loop μ-loop
-sub-names-unknown c = omega arith
+sub-first-unknown : tie.Need-sub-first-unknown Inv-loop μ-loop
+sub-first-unknown c = omega arith
 
-part-names-unknown-start : tie.Need-part-names-unknown-start Inv-loop μ-loop
-part-names-unknown-start c = omega arith
+part-first-unknown-start : tie.Need-part-first-unknown-start Inv-loop μ-loop
+part-first-unknown-start c = omega arith
 
-part-names-unknown-end : tie.Need-part-names-unknown-end Inv-loop μ-loop
-part-names-unknown-end c = omega arith
+part-first-unknown-end : tie.Need-part-first-unknown-end Inv-loop μ-loop
+part-first-unknown-end c = omega arith
 
-names-unknown-requires : tie.Need-names-unknown-requires Inv-loop μ-loop
-names-unknown-requires c κs = search needs
+first-unknown-requires : tie.Need-first-unknown-requires Inv-loop μ-loop
+first-unknown-requires c κs = search needs
 
-refuse-requires : tie.Need-refuse-requires Inv-loop μ-loop
-refuse-requires c κs = search needs
+enum-told-3 : tie.Need-enum-told-3 Inv-loop μ-loop
+enum-told-3 c = search needs
+
+enum-told-4 : tie.Need-enum-told-4 Inv-loop μ-loop
+enum-told-4 c = search needs
+
+unless-fault-requires : tie.Need-unless-fault-requires Inv-loop μ-loop
+unless-fault-requires c κs = search needs
 
 returns-2 : tie.Need-returns-2 Inv-loop μ-loop
 returns-2 c =
-    let u = c .before .before in
+    let t = c .before in
+    let u = t .before .before in
     let e = u .before .before in
     let i = e .before .before in
     let l = i .before in
     let a = l .before .before .before .before .before .args in
     rw (l .before .enum-told .given .1)
-    (ap Refused (c .refuse .ensures)
-    ∙ sym (bad-path 23 (anyOf (λ k. not (ltb k (a .m)))) (a .listed .now) (a .lengths .now) (l .loop .p) (l .loop .from) (e .path-end .result) (i .loop-test .taken) (l .loop .inv .1) (e .path-end .ensures)
-    (sym (u .names-unknown .ensures) ∙ c .before .if1 .taken))
+    (c .unless-fault .ensures
+    ∙ sym (fault-path 23 (firstUnknown (a .m) 0) (a .listed .now) (a .lengths .now) (l .loop .p) (l .loop .from) (e .path-end .result) (i .loop-test .taken) (l .loop .inv .1) (e .path-end .ensures)
+    (u .first-unknown .result) (u .first-unknown .ensures) (t .enum-told4 .given .1))
     ∙ l .loop .inv .2)
 
 add-p : tie.Need-add-p Inv-loop μ-loop
@@ -83,15 +88,15 @@ loop-less c = omega arith
 
 loop-again : tie.Need-loop-again Inv-loop μ-loop
 loop-again c =
-    let u = c .before in
+    let u = c .before .before in
     let e = u .before .before in
     let i = e .before .before in
     let l = i .before in
     let a = l .before .before .before .before .before .args in (
       omega arith,
       omega arith,
-      good-path 23 (anyOf (λ k. not (ltb k (a .m)))) (a .listed .now) (a .lengths .now) (l .loop .p) (l .loop .from) (e .path-end .result) (i .loop-test .taken) (l .loop .inv .1) (e .path-end .ensures)
-          (sym (u .names-unknown .ensures) ∙ c .if1 .left)
+      sound-path 23 (firstUnknown (a .m) 0) (a .listed .now) (a .lengths .now) (l .loop .p) (l .loop .from) (e .path-end .result) (i .loop-test .taken) (l .loop .inv .1) (e .path-end .ensures)
+          (u .first-unknown .result) (u .first-unknown .ensures) (c .enum-told3 .given .1)
           ∙ l .loop .inv .2,
     )
 
@@ -99,7 +104,7 @@ returns-3 : tie.Need-returns-3 Inv-loop μ-loop
 returns-3 c =
     let l = c .before in
     let a = l .before .before .before .before .before .args in
-    rw (l .before .enum-told .given .1) (sym (no-path-left 23 (anyOf (λ k. not (ltb k (a .m)))) (a .listed .now) (a .lengths .now) (l .loop .p) (l .loop .from) (c .loop-test .left)) ∙ l .loop .inv .2)
+    rw (l .before .enum-told .given .1) (sym (no-path-left 23 (firstUnknown (a .m) 0) (a .listed .now) (a .lengths .now) (l .loop .p) (l .loop .from) (c .loop-test .left)) ∙ l .loop .inv .2)
 
 pub and-named-spec : {M : Type 1} → statement M
 and-named-spec =
@@ -114,12 +119,14 @@ and-named-spec =
     mul-path-end
     shared-slice-read-path-end
     path-end-requires
-    mul-names-unknown
-    sub-names-unknown
-    part-names-unknown-start
-    part-names-unknown-end
-    names-unknown-requires
-    refuse-requires
+    mul-first-unknown
+    sub-first-unknown
+    part-first-unknown-start
+    part-first-unknown-end
+    first-unknown-requires
+    enum-told-3
+    enum-told-4
+    unless-fault-requires
     returns-2
     add-p
     loop-less
