@@ -92,7 +92,8 @@ fn join_test(starts: &[u32], ends: &[u32], path: &[u32], i: usize) -> Fault
         let D = design 0 (now (starts .entry)) (now (ends .entry)) [] in
         ⌜ r ≡ firstBreak (meets D) 0 (take (i + 1) (now (path .entry))) ⌝ }
 {
-    let j = number_at(path, i - 1) as usize;
+    let h = i - 1;
+    let j = number_at(path, h) as usize;
     let k = number_at(path, i) as usize;
     if number_at(ends, j) == number_at(starts, k) {
         Fault::None

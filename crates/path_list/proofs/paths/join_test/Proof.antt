@@ -9,8 +9,8 @@ use borrow.Author.Needs.{needs}
 use Rattle.path_list.proofs.paths.join_test.Statement.{statement}
 use Rattle.path_list.proofs.paths.join_test.Tie as tie
 
-sub-number-at : tie.Need-sub-number-at
-sub-number-at c = search needs
+sub-h : tie.Need-sub-h
+sub-h c = search needs
 
 number-at-requires : tie.Need-number-at-requires
 number-at-requires c κs = search needs
@@ -62,7 +62,7 @@ pub join-test-spec : {M : Type 1} → statement M
 join-test-spec =
     tie.close
     (tie.spec
-    sub-number-at
+    sub-h
     number-at-requires
     cast-j
     number-at-requires-2
