@@ -10,6 +10,7 @@ pub mod Stands
 pub mod Parts
 -- what passing the tests gives
 pub mod Refusals
+pub mod Tests
 pub mod Faults
 pub mod Placed
 pub mod Tested

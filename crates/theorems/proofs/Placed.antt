@@ -1,10 +1,10 @@
 -- A refusal with one of the numbers 22 to 24 is by the test that has this number, whatever else a call tests: no other test gives it. So its
 -- places are those of that test.
-use Prim.Native.Nat.{ℕ, suc, _+_, _*_, _≤_, min}
+use Prim.Native.Nat.{ℕ, _+_, _*_, _≤_, min}
 use native.Mathlib.Omega.{arith}
 use mathlib.Core.Path.{_≡_, sym, _∙_, ap}
-use mathlib.Core.Bool.{Bool, true, false, cond, _&&_}
-use mathlib.Core.List.{List, [], _∷_}
+use mathlib.Core.Bool.{Bool, _&&_}
+use mathlib.Core.List.{List}
 use mathlib.Core.Option.{Option, none, some}
 use lib.Dec.{eqb, leb}
 use lib.ListN.{length}
@@ -12,49 +12,33 @@ use Rattle.timing.specs.declared.Refusal.{Refusal}
 use Rattle.timing.specs.declared.Verdict.{Verdict}
 use Rattle.timing.specs.declared.Verdict.the-variants.{Passed, Refused}
 use Rattle.timing.specs.declared.Fault.{Fault}
-use Rattle.timing.specs.declared.Fault.the-variants.{At, None}
-use Rattle.timing.specs.Lists.{upto, sum}
+use Rattle.timing.specs.Lists.{sum}
 use Rattle.timing.specs.Graphs.{Design, Graph, designGraph}
 use Rattle.timing.specs.Marks.{PathList, pathsOf}
 use Rattle.timing.specs.TrueGraphs.{trueGraph}
 use Rattle.timing.specs.WellFormed.{wellFormed}
-use Rattle.timing.specs.Refusals.{refusal, unless, firstBad, unlessFault, firstFault, _then_}
-use Rattle.timing.specs.Tests.{sameSizes, designSizes, listSizes, nodeCount, designCounts, strays, falls, tooSlow, designTests, listCounts, meets, emptyAt, firstUnknown, firstBreak, listTests, allowedTest, graphTest, candidates, scratchTest, roomSizes, roomTests}
+use Rattle.timing.specs.Refusals.{unless, firstFault, _then_}
+use Rattle.timing.specs.Tests.{sameSizes, designSizes, listSizes, designTests, listCounts, meets, emptyAt, firstUnknown, firstBreak, listTests, allowedTest, graphTest, candidates, scratchTest, roomSizes, roomTests}
 use Rattle.timing.specs.Calls.{GraphSlices, graphOf, graphSizes, testDeck, refused, outcome, Removal, removalTests, removeFromDesign, removeFromGraph}
 use Rattle.timing.specs.Called.{removeOn}
 use Rattle.timing.specs.Faults.{Empty, Unknown, Broken, Placed}
-use Rattle.timing.proofs.Verdicts.{refused-passed, then-assoc}
+use Rattle.timing.proofs.Verdicts.{refused-passed, then-assoc, Every, every-then, every-unless, every-fault}
+use Rattle.theorems.proofs.Tests.{every-design, every-counts}
 use Rattle.theorems.proofs.Faults.{finds-empty, finds-unknown, finds-break, firstFault-at}
 
 -- a test that gives other numbers than n
 abbrev Other : ℕ → Verdict → Type 0
-Other n Passed = Unit {0}
-Other n (Refused x) = x .number ≡ n → ⊥
+Other n v = Every (λ x. x .number ≡ n → ⊥) v
 
 module _ (n : ℕ) where
   other-then : (v w : Verdict) → Other n v → Other n w → Other n (v then w)
-  other-then Passed w a b = b
-  other-then (Refused x) w a b = a
+  other-then v w a b = every-then (λ x. x .number ≡ n → ⊥) v w a (λ e. b)
 
   other-unless : (k : ℕ) → (k ≡ n → ⊥) → (fit : Bool) → Other n (unless k fit)
-  other-unless k h true = tt
-  other-unless k h false = h
-
-  other-first : {A : Type 0} (k : ℕ) → (k ≡ n → ⊥) → (bad : A → Bool) (i : ℕ) (xs : List A) → Other n (firstBad k bad i xs)
-  other-first k h bad i [] = tt
-  other-first {A} k h bad i (x ∷ xs) = go (bad x) (other-first k h bad (suc i) xs)
-    where
-      go : (b : Bool) → Other n (firstBad k bad (suc i) xs) → Other n (cond b (Refused (refusal k i)) (firstBad k bad (suc i) xs))
-      go true r = h
-      go false r = r
+  other-unless k h fit = every-unless (λ x. x .number ≡ n → ⊥) k h fit
 
   other-fault : (k : ℕ) → (k ≡ n → ⊥) → (fault : List ℕ → Fault) (i : ℕ) (paths : List (List ℕ)) → Other n (firstFault k fault i paths)
-  other-fault k h fault i [] = tt
-  other-fault k h fault i (p ∷ paths) = other-then (unlessFault k i (fault p)) (firstFault k fault (suc i) paths) (go (fault p)) (other-fault k h fault (suc i) paths)
-    where
-      go : (f : Fault) → Other n (unlessFault k i f)
-      go None = tt
-      go (At j) = h
+  other-fault k h fault i paths = every-fault (λ x. x .number ≡ n → ⊥) k fault i paths (λ j d l. h)
 
   -- a refusal with the number n is by none of these: it is by the rest of the chain
   module _ (x : Refusal) (number : x .number ≡ n) where
@@ -75,18 +59,10 @@ module _ (n : ℕ) where
 -- what a call tests besides 22 to 24
 module _ (n : ℕ) (low : 22 ≤ n) (high : n ≤ 24) where
   other-design : (D : Design) → Other n (designTests D)
-  unfolding designTests
-  other-design D =
-      let ks = upto (length (D .starts)) 0 in
-      other-then n (designCounts D) (firstBad 12 (strays D) 0 ks then firstBad 13 (falls D) 0 ks then firstBad 14 (tooSlow D) 0 ks)
-      (other-then n (nodeCount (D .nodes)) (unless 11 (leb (length (D .starts)) 16384)) (other-unless n 10 (λ h. omega arith) (leb (D .nodes) 4096)) (other-unless n 11 (λ h. omega arith) (leb (length (D .starts)) 16384)))
-      (other-then n (firstBad 12 (strays D) 0 ks) (firstBad 13 (falls D) 0 ks then firstBad 14 (tooSlow D) 0 ks) (other-first n 12 (λ h. omega arith) (strays D) 0 ks)
-      (other-then n (firstBad 13 (falls D) 0 ks) (firstBad 14 (tooSlow D) 0 ks) (other-first n 13 (λ h. omega arith) (falls D) 0 ks) (other-first n 14 (λ h. omega arith) (tooSlow D) 0 ks)))
+  other-design D = every-design (λ x. x .number ≡ n → ⊥) D (λ k j a b l h. omega arith)
 
   other-counts : (L : PathList) → Other n (listCounts L)
-  other-counts L =
-      other-then n (unless 20 (leb (length (L .lengths)) 1024)) (unless 21 (leb (length (L .edges)) 8192))
-      (other-unless n 20 (λ h. omega arith) (leb (length (L .lengths)) 1024)) (other-unless n 21 (λ h. omega arith) (leb (length (L .edges)) 8192))
+  other-counts L = every-counts (λ x. x .number ≡ n → ⊥) L (λ k a b h. omega arith)
 
   other-same : (a b c : ℕ) → Other n (sameSizes a b c)
   other-same a b c = other-unless n 30 (λ h. omega arith) (eqb a b && eqb a c)

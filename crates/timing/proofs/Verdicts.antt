@@ -1,13 +1,18 @@
--- What it says that a test passed.
-use Prim.Native.Nat.{ℕ}
+-- What it says that a test passed, and what is true of its refusals.
+use Prim.Native.Nat.{ℕ, suc, _+_, _<_}
+use native.Mathlib.Omega.{arith}
 use mathlib.Core.Path.{_≡_, refl, sym, _∙_, ap, subst}
-use mathlib.Core.Bool.{Bool, true, false, _&&_}
+use mathlib.Core.Bool.{Bool, true, false, cond, _&&_}
+use mathlib.Core.List.{List, [], _∷_}
 use lib.Dec.{T, eqb}
+use lib.ListN.{length}
 use borrow.Author.Tests.{eqb-true}
 use Rattle.timing.specs.declared.Refusal.{Refusal}
 use Rattle.timing.specs.declared.Verdict.{Verdict}
 use Rattle.timing.specs.declared.Verdict.the-variants.{Passed, Refused}
-use Rattle.timing.specs.Refusals.{refusal, _then_, unless}
+use Rattle.timing.specs.declared.Fault.{Fault}
+use Rattle.timing.specs.declared.Fault.the-variants.{At, None}
+use Rattle.timing.specs.Refusals.{refusal, refusalWithin, _then_, unless, firstBad, unlessFault, firstFault}
 use Rattle.timing.specs.Tests.{sameSizes}
 
 abbrev Pass : Verdict → Type 0
@@ -55,3 +60,36 @@ pub same-passed : (a b c : ℕ) → sameSizes a b c ≡ Passed → (b ≡ a) × 
 same-passed a b c e =
     let s = both-true (eqb a b) (eqb a c) (unless-passed 30 (eqb a b && eqb a c) e) in
     (sym (eqb-true a b (s .0)), sym (eqb-true a c (s .1)))
+
+-- P is true of the refusal, if there is one.
+abbrev pub Every : (Refusal → Type 0) → Verdict → Type 0
+Every P Passed = Unit {0}
+Every P (Refused r) = P r
+
+-- Whatever can be refused by a chain of tests, by a test whose place is 0, and by a test over everything, at each of its places.
+module _ (P : Refusal → Type 0) where
+  pub every-then : (v w : Verdict) → Every P v → (v ≡ Passed → Every P w) → Every P (v then w)
+  every-then Passed w a b = b refl
+  every-then (Refused r) w a b = a
+
+  pub every-unless : (k : ℕ) → P (refusal k 0) → (fit : Bool) → Every P (unless k fit)
+  every-unless k h true = tt
+  every-unless k h false = h
+
+  pub every-bad : {A : Type 0} (k : ℕ) (bad : A → Bool) (i : ℕ) (xs : List A) → ((j : ℕ) → j < i + length xs → P (refusal k j)) → Every P (firstBad k bad i xs)
+  every-bad k bad i [] h = tt
+  every-bad {A} k bad i (x ∷ xs) h = go (bad x) (every-bad k bad (suc i) xs (λ j l. h j (omega arith)))
+    where
+      go : (b : Bool) → Every P (firstBad k bad (suc i) xs) → Every P (cond b (Refused (refusal k i)) (firstBad k bad (suc i) xs))
+      go true r = h i (omega arith)
+      go false r = r
+
+  pub every-fault : (k : ℕ) (fault : List ℕ → Fault) (i : ℕ) (paths : List (List ℕ)) → ((j d : ℕ) → j < i + length paths → P (refusalWithin k j d))
+      → Every P (firstFault k fault i paths)
+  every-fault k fault i [] h = tt
+  every-fault k fault i (p ∷ paths) h =
+      every-then (unlessFault k i (fault p)) (firstFault k fault (suc i) paths) (go (fault p)) (λ e. every-fault k fault (suc i) paths (λ j d l. h j d (omega arith)))
+    where
+      go : (f : Fault) → Every P (unlessFault k i f)
+      go None = tt
+      go (At d) = h i d (omega arith)

@@ -1,85 +1,42 @@
 -- Every refusal and every count fits one number of 64 bits: a place is that of an edge or a path, which are counted before they
 -- are looked at, and what is made has passed 33 and 34.
-use Prim.Native.Nat.{ℕ, suc, _+_, _*_, _≤_, min}
+use Prim.Native.Nat.{ℕ, _+_, _*_, _≤_, min}
 use native.Mathlib.Omega.{arith}
 use mathlib.Core.Path.{_≡_, refl, subst}
-use mathlib.Core.Bool.{Bool, true, false, cond, _&&_}
-use mathlib.Core.List.{List, [], _∷_}
+use mathlib.Core.Bool.{Bool, true, false, _&&_}
 use lib.Dec.{eqb, leb, leb→le}
 use lib.ListN.{length}
 use Rattle.timing.specs.declared.Verdict.{Verdict}
 use Rattle.timing.specs.declared.Verdict.the-variants.{Passed, Refused}
-use Rattle.timing.specs.declared.Fault.{Fault}
-use Rattle.timing.specs.declared.Fault.the-variants.{At, None}
-use Rattle.timing.specs.Lists.{upto, sum}
+use Rattle.timing.specs.Lists.{sum}
 use Rattle.timing.specs.Graphs.{Design, Graph, designGraph}
 use Rattle.timing.specs.Marks.{PathList, pathsOf}
 use Rattle.timing.specs.TrueGraphs.{trueGraph}
 use Rattle.timing.specs.WellFormed.{wellFormed}
-use Rattle.timing.specs.Refusals.{refusal, unless, firstBad, unlessFault, firstFault, _then_}
-use Rattle.timing.specs.Tests.{sameSizes, designSizes, listSizes, nodeCount, designCounts, strays, falls, tooSlow, designTests, listCounts, meets, emptyAt, firstUnknown, firstBreak, listTests, allowedTest, graphTest, candidates, scratchTest, Room, roomSizes, roomTests}
+use Rattle.timing.specs.Refusals.{unless, _then_}
+use Rattle.timing.specs.Tests.{sameSizes, designSizes, listSizes, designTests, listTests, allowedTest, graphTest, candidates, scratchTest, Room, roomSizes, roomTests}
 use Rattle.timing.specs.Calls.{GraphSlices, graphOf, graphSizes, outcome, Removal, removeFromDesign, removeFromGraph, graphAnswer, testTimes}
-use Rattle.theorems.proofs.Lists.{holds, length-upto}
-use Rattle.timing.proofs.Verdicts.{then-passed, unless-passed}
+use Rattle.theorems.proofs.Lists.{holds}
+use Rattle.timing.proofs.Verdicts.{every-then, every-unless}
+use Rattle.theorems.proofs.Tests.{every-design, every-list}
 use Rattle.path_list.proofs.Laws.{length-cut}
-use Rattle.true_graph.specs.Small.{SmallGraph, Small}
+use Rattle.true_graph.specs.Small.{SmallRefusal, SmallGraph, Small}
 
 pub small-then : (v w : Verdict) → Small v → (v ≡ Passed → Small w) → Small (v then w)
-small-then Passed w a b = b refl
-small-then (Refused x) w a b = a
+small-then v w a b = every-then SmallRefusal v w a b
 
 pub small-unless : (k : ℕ) → k ≤ 36 → (fit : Bool) → Small (unless k fit)
-small-unless k h true = tt
-small-unless k h false = (h, omega arith)
-
-small-first : {A : Type 0} (k : ℕ) → k ≤ 36 → (bad : A → Bool) (i : ℕ) (xs : List A) → i + length xs ≤ 65536 → Small (firstBad k bad i xs)
-small-first k h bad i [] l = tt
-small-first {A} k h bad i (x ∷ xs) l = go (bad x) (small-first k h bad (suc i) xs (omega arith))
-  where
-    go : (b : Bool) → Small (firstBad k bad (suc i) xs) → Small (cond b (Refused (refusal k i)) (firstBad k bad (suc i) xs))
-    go true r = (h, omega arith)
-    go false r = r
-
-small-fault : (k : ℕ) → k ≤ 36 → (fault : List ℕ → Fault) (i : ℕ) (paths : List (List ℕ)) → i + length paths ≤ 65536 → Small (firstFault k fault i paths)
-small-fault k h fault i [] l = tt
-small-fault k h fault i (p ∷ paths) l =
-    small-then (unlessFault k i (fault p)) (firstFault k fault (suc i) paths) (go (fault p)) (λ e. small-fault k h fault (suc i) paths (omega arith))
-  where
-    go : (f : Fault) → Small (unlessFault k i f)
-    go None = tt
-    go (At j) = (h, omega arith)
+small-unless k h fit = every-unless SmallRefusal k (h, omega arith) fit
 
 pub small-sizes : (a b c : ℕ) → Small (sameSizes a b c)
 small-sizes a b c = small-unless 30 (omega arith) (eqb a b && eqb a c)
 
-passes-le : (k a b : ℕ) → unless k (leb a b) ≡ Passed → a ≤ b
-passes-le k a b e = leb→le a b (holds (leb a b) (unless-passed k (leb a b) e))
-
 pub small-design : (D : Design) → Small (designTests D)
-unfolding designTests
-small-design D =
-    let ks = upto (length (D .starts)) 0 in
-    small-then (designCounts D) (firstBad 12 (strays D) 0 ks then (firstBad 13 (falls D) 0 ks then firstBad 14 (tooSlow D) 0 ks))
-    (small-then (nodeCount (D .nodes)) (unless 11 (leb (length (D .starts)) 16384)) (small-unless 10 (omega arith) (leb (D .nodes) 4096)) (λ e. small-unless 11 (omega arith) (leb (length (D .starts)) 16384)))
-    (λ p.
-    let m = passes-le 11 (length (D .starts)) 16384 (then-passed (nodeCount (D .nodes)) (unless 11 (leb (length (D .starts)) 16384)) p .1) in
-    let few : 0 + length ks ≤ 65536 = omega (arith, length-upto (length (D .starts)) 0) in
-    small-then (firstBad 12 (strays D) 0 ks) (firstBad 13 (falls D) 0 ks then firstBad 14 (tooSlow D) 0 ks) (small-first 12 (omega arith) (strays D) 0 ks few)
-    (λ e. small-then (firstBad 13 (falls D) 0 ks) (firstBad 14 (tooSlow D) 0 ks) (small-first 13 (omega arith) (falls D) 0 ks few) (λ e. small-first 14 (omega arith) (tooSlow D) 0 ks few)))
+small-design D = every-design SmallRefusal D (λ k j a b l. (omega arith, omega arith))
 
 pub small-list : (D : Design) (L : PathList) → Small (listTests D L)
-unfolding listTests
 small-list D L =
-    let K = pathsOf L in
-    let unknown : List ℕ → Fault = firstUnknown (length (D .starts)) 0 in
-    let broken : List ℕ → Fault = firstBreak (meets D) 0 in
-    small-then (listCounts L) (firstFault 22 emptyAt 0 K then (firstFault 23 unknown 0 K then firstFault 24 broken 0 K))
-    (small-then (unless 20 (leb (length (L .lengths)) 1024)) (unless 21 (leb (length (L .edges)) 8192)) (small-unless 20 (omega arith) (leb (length (L .lengths)) 1024)) (λ e. small-unless 21 (omega arith) (leb (length (L .edges)) 8192)))
-    (λ p.
-    let m = passes-le 20 (length (L .lengths)) 1024 (then-passed (unless 20 (leb (length (L .lengths)) 1024)) (unless 21 (leb (length (L .edges)) 8192)) p .0) in
-    let few : 0 + length K ≤ 65536 = omega (arith, length-cut (L .edges) (L .lengths)) in
-    small-then (firstFault 22 emptyAt 0 K) (firstFault 23 unknown 0 K then firstFault 24 broken 0 K) (small-fault 22 (omega arith) emptyAt 0 K few)
-    (λ e. small-then (firstFault 23 unknown 0 K) (firstFault 24 broken 0 K) (small-fault 23 (omega arith) unknown 0 K few) (λ e. small-fault 24 (omega arith) broken 0 K few)))
+    every-list SmallRefusal D L (λ k a b. (omega arith, omega arith)) (λ k j d a b few l. (omega arith, omega (arith, length-cut (L .edges) (L .lengths))))
 
 pub small-scratch : (D : Design) (G : Graph) (L : PathList) (words : ℕ) → Small (scratchTest D G L words)
 unfolding scratchTest

@@ -2,20 +2,19 @@
 use Prim.Native.Nat.{_≤_, _<_}
 use Rattle.timing.specs.declared.Refusal.{Refusal}
 use Rattle.timing.specs.declared.Verdict.{Verdict}
-use Rattle.timing.specs.declared.Verdict.the-variants.{Passed, Refused}
 use Rattle.timing.specs.declared.Written.{Written}
 use Rattle.timing.specs.declared.Written.the-variants.{End}
 use Rattle.timing.specs.declared.Written.the-variants.{Refused as NotWritten}
 use Rattle.timing.specs.declared.GraphMade.{GraphMade}
 use Rattle.timing.specs.declared.GraphMade.the-variants.{Counts}
 use Rattle.timing.specs.declared.GraphMade.the-variants.{Refused as NoGraph}
+use Rattle.timing.proofs.Verdicts.{Every}
 
 abbrev pub SmallRefusal : Refusal → Type 0
 SmallRefusal r = (r .number ≤ 36) × (r .place ≤ 65536)
 
 abbrev pub Small : Verdict → Type 0
-Small Passed = Unit {0}
-Small (Refused r) = SmallRefusal r
+Small v = Every SmallRefusal v
 
 abbrev pub SmallGraph : GraphMade → Type 0
 SmallGraph (Counts copies edges) = (copies ≤ 16384) × (edges ≤ 65536)

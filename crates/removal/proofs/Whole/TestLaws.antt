@@ -3,9 +3,10 @@ use Prim.Native.Nat.{ℕ, zero, suc, _+_, _≤_, _<_}
 use native.Mathlib.Omega.{arith}
 use native.Mathlib.Decide.{decLt}
 use mathlib.Core.Path.{_≡_, refl, sym, ap, _∙_, subst}
-use mathlib.Core.Bool.{Bool, true, false, cond, _&&_, _||_}
+use mathlib.Core.Bool.{Bool, false, cond, _&&_, _||_}
 use mathlib.Core.List.{List, [], _∷_, map}
 use lib.Dec.{eqb, leb, eqb→eq, leb→le}
+use borrow.Author.Tests.{ne-eqb}
 use lib.IntN.{ℤ}
 use lib.ListN.{length, getD, set, take}
 use lib.Seq.{getD-set-same, getD-set-other}
@@ -14,18 +15,17 @@ use Rattle.timing.specs.declared.GraphMade.{GraphMade}
 use Rattle.timing.specs.declared.GraphMade.the-variants.{Refused as NoGraph}
 use Rattle.timing.specs.declared.Verdict.{Verdict}
 use Rattle.timing.specs.declared.Verdict.the-variants.{Passed, Refused}
-use Rattle.timing.specs.declared.Fault.{Fault}
-use Rattle.timing.specs.declared.Fault.the-variants.{At, None}
 use Rattle.timing.specs.Lists.{upto, sum}
 use Rattle.timing.specs.Graphs.{Design, design, Graph, designGraph, edgesOf}
 use Rattle.timing.specs.Marks.{PathList, pathsOf, pathList}
 use Rattle.timing.specs.TrueGraphs.{trueGraph}
 use Rattle.timing.specs.WellFormed.{wellFormed}
-use Rattle.timing.specs.Refusals.{refusal, unless, firstBad, unlessFault, firstFault, _then_}
-use Rattle.timing.specs.Tests.{sameSizes, designSizes, listSizes, nodeCount, designCounts, strays, falls, tooSlow, designTests, listCounts, meets, emptyAt, firstUnknown, firstBreak, listTests, graphTest}
+use Rattle.timing.specs.Refusals.{unless, _then_}
+use Rattle.timing.specs.Tests.{sameSizes, designSizes, listSizes, nodeCount, designTests, listTests, graphTest}
 use Rattle.timing.specs.Calls.{GraphSlices, graphSlices, graphOf, graphSizes, Outcome, refused, outcome, Removal, lentRemoval, removalTests, removeFromDesign, removeFromGraph, graphAnswer, nodesAfter, startsAfter, endsAfter, namesAfter, scratchAfter}
 use Rattle.theorems.proofs.Lists.{and-left, and-right, holds, length-upto}
-use Rattle.timing.proofs.Verdicts.{then-passed, unless-passed}
+use Rattle.timing.proofs.Verdicts.{then-passed, unless-passed, Every, every-then, every-unless}
+use Rattle.theorems.proofs.Tests.{every-design, every-list}
 use Rattle.theorems.proofs.Tested.{DesignFits, design-fits, ListFits, list-fits, formed, tests-count, no-delays}
 use Rattle.theorems.proofs.Legal.{fits-legal, formed-legal}
 use Rattle.removal.specs.Fill.{SameRooms}
@@ -86,53 +86,23 @@ tested d l o t u e =
 abbrev keeps : ℕ → Type 0
 keeps k = (eqb k 33 || eqb k 34 || eqb k 35) ≡ false
 
+keeps-below : (k : ℕ) → k ≤ 32 → keeps k
+keeps-below k h = rw (ne-eqb k 33 (λ e. omega arith), ne-eqb k 34 (λ e. omega arith), ne-eqb k 35 (λ e. omega arith))
+
 abbrev pub Early : Verdict → Type 0
-Early Passed = Unit {0}
-Early (Refused x) = keeps (x .number)
+Early v = Every (λ x. keeps (x .number)) v
 
 early-then : (v w : Verdict) → Early v → Early w → Early (v then w)
-early-then Passed w a b = b
-early-then (Refused x) w a b = a
+early-then v w a b = every-then (λ x. keeps (x .number)) v w a (λ e. b)
 
 early-unless : (k : ℕ) → keeps k → (fit : Bool) → Early (unless k fit)
-early-unless k e true = tt
-early-unless k e false = e
-
-early-first : {A : Type 0} (k : ℕ) → keeps k → (bad : A → Bool) (i : ℕ) (xs : List A) → Early (firstBad k bad i xs)
-early-first k e bad i [] = tt
-early-first {A} k e bad i (x ∷ xs) = go (bad x) (early-first k e bad (suc i) xs)
-  where
-    go : (b : Bool) → Early (firstBad k bad (suc i) xs) → Early (cond b (Refused (refusal k i)) (firstBad k bad (suc i) xs))
-    go true r = e
-    go false r = r
-
-early-fault : (k : ℕ) → keeps k → (fault : List ℕ → Fault) (i : ℕ) (paths : List (List ℕ)) → Early (firstFault k fault i paths)
-early-fault k e fault i [] = tt
-early-fault k e fault i (p ∷ paths) = early-then (unlessFault k i (fault p)) (firstFault k fault (suc i) paths) (go (fault p)) (early-fault k e fault (suc i) paths)
-  where
-    go : (f : Fault) → Early (unlessFault k i f)
-    go None = tt
-    go (At j) = e
+early-unless k e fit = every-unless (λ x. keeps (x .number)) k e fit
 
 design-early : (D : Design) → Early (designTests D)
-unfolding designTests
-design-early D =
-    let ks = upto (length (D .starts)) 0 in
-    early-then (designCounts D) (firstBad 12 (strays D) 0 ks then firstBad 13 (falls D) 0 ks then firstBad 14 (tooSlow D) 0 ks)
-    (early-then (nodeCount (D .nodes)) (unless 11 (leb (length (D .starts)) 16384)) (early-unless 10 refl (leb (D .nodes) 4096)) (early-unless 11 refl (leb (length (D .starts)) 16384)))
-    (early-then (firstBad 12 (strays D) 0 ks) (firstBad 13 (falls D) 0 ks then firstBad 14 (tooSlow D) 0 ks) (early-first 12 refl (strays D) 0 ks)
-    (early-then (firstBad 13 (falls D) 0 ks) (firstBad 14 (tooSlow D) 0 ks) (early-first 13 refl (falls D) 0 ks) (early-first 14 refl (tooSlow D) 0 ks)))
+design-early D = every-design (λ x. keeps (x .number)) D (λ k j a b l. keeps-below k (omega arith))
 
 list-early : (D : Design) (L : PathList) → Early (listTests D L)
-unfolding listTests
-list-early D L =
-    let K = pathsOf L in
-    let unknown : List ℕ → Fault = firstUnknown (length (D .starts)) 0 in
-    let broken : List ℕ → Fault = firstBreak (meets D) 0 in
-    early-then (listCounts L) (firstFault 22 emptyAt 0 K then firstFault 23 unknown 0 K then firstFault 24 broken 0 K)
-    (early-then (unless 20 (leb (length (L .lengths)) 1024)) (unless 21 (leb (length (L .edges)) 8192)) (early-unless 20 refl (leb (length (L .lengths)) 1024)) (early-unless 21 refl (leb (length (L .edges)) 8192)))
-    (early-then (firstFault 22 emptyAt 0 K) (firstFault 23 unknown 0 K then firstFault 24 broken 0 K) (early-fault 22 refl emptyAt 0 K)
-    (early-then (firstFault 23 unknown 0 K) (firstFault 24 broken 0 K) (early-fault 23 refl unknown 0 K) (early-fault 24 refl broken 0 K)))
+list-early D L = every-list (λ x. keeps (x .number)) D L (λ k a b. keeps-below k (omega arith)) (λ k j d a b few l. keeps-below k (omega arith))
 
 chain-early : (D : Design) (L : PathList) (o : Verdict) → Early o → Early (designSizes D then (listSizes L then (o then (designTests D then listTests D L))))
 chain-early D L o e =

@@ -1,0 +1,61 @@
+-- What the tests of a design and of a list can refuse with: their numbers, and places that are counted before they are looked at.
+use Prim.Native.Nat.{ℕ, _+_, _≤_, _<_}
+use native.Mathlib.Omega.{arith}
+use mathlib.Core.Path.{_≡_}
+use lib.Dec.{leb, leb→le}
+use lib.ListN.{length}
+use Rattle.timing.specs.declared.Refusal.{Refusal}
+use Rattle.timing.specs.declared.Verdict.{Verdict}
+use Rattle.timing.specs.declared.Verdict.the-variants.{Passed}
+use Rattle.timing.specs.Lists.{upto}
+use Rattle.timing.specs.Graphs.{Design}
+use Rattle.timing.specs.Marks.{PathList, pathsOf}
+use Rattle.timing.specs.Refusals.{refusal, refusalWithin, unless, firstBad, firstFault, _then_}
+use Rattle.timing.specs.Tests.{nodeCount, designCounts, strays, falls, tooSlow, designTests, listCounts, meets, emptyAt, firstUnknown, firstBreak, listTests}
+use Rattle.timing.proofs.Verdicts.{then-passed, unless-passed, Every, every-then, every-unless, every-bad, every-fault}
+use Rattle.theorems.proofs.Lists.{holds, length-upto}
+
+passes-le : (k a b : ℕ) → unless k (leb a b) ≡ Passed → a ≤ b
+passes-le k a b e = leb→le a b (holds (leb a b) (unless-passed k (leb a b) e))
+
+module _ (P : Refusal → Type 0) where
+  pub every-design : (D : Design) → ((k j : ℕ) → 10 ≤ k → k ≤ 14 → j ≤ 16384 → P (refusal k j)) → Every P (designTests D)
+  unfolding designTests
+  every-design D h =
+      let m = length (D .starts) in
+      let ks = upto m 0 in
+      let t₁₁ : Verdict = unless 11 (leb m 16384) in
+      let t₁₂ : Verdict = firstBad 12 (strays D) 0 ks in
+      let t₁₃ : Verdict = firstBad 13 (falls D) 0 ks in
+      let t₁₄ : Verdict = firstBad 14 (tooSlow D) 0 ks in
+      every-then P (designCounts D) (t₁₂ then t₁₃ then t₁₄)
+      (every-then P (nodeCount (D .nodes)) t₁₁ (every-unless P 10 (h 10 0 (omega arith) (omega arith) (omega arith)) (leb (D .nodes) 4096))
+      (λ e. every-unless P 11 (h 11 0 (omega arith) (omega arith) (omega arith)) (leb m 16384)))
+      (λ e.
+      let few = passes-le 11 m 16384 (then-passed (nodeCount (D .nodes)) t₁₁ e .1) in
+      let at : (k : ℕ) → 10 ≤ k → k ≤ 14 → (j : ℕ) → j < 0 + length ks → P (refusal k j) = λ k a b j l. h k j a b (omega (arith, length-upto m 0)) in
+      every-then P t₁₂ (t₁₃ then t₁₄) (every-bad P 12 (strays D) 0 ks (at 12 (omega arith) (omega arith)))
+      (λ e. every-then P t₁₃ t₁₄ (every-bad P 13 (falls D) 0 ks (at 13 (omega arith) (omega arith)))
+      (λ e. every-bad P 14 (tooSlow D) 0 ks (at 14 (omega arith) (omega arith)))))
+
+  pub every-counts : (L : PathList) → ((k : ℕ) → 20 ≤ k → k ≤ 21 → P (refusal k 0)) → Every P (listCounts L)
+  every-counts L h =
+      every-then P (unless 20 (leb (length (L .lengths)) 1024)) (unless 21 (leb (length (L .edges)) 8192))
+      (every-unless P 20 (h 20 (omega arith) (omega arith)) (leb (length (L .lengths)) 1024))
+      (λ e. every-unless P 21 (h 21 (omega arith) (omega arith)) (leb (length (L .edges)) 8192))
+
+  pub every-list : (D : Design) (L : PathList) → ((k : ℕ) → 20 ≤ k → k ≤ 21 → P (refusal k 0))
+      → ((k j d : ℕ) → 22 ≤ k → k ≤ 24 → length (L .lengths) ≤ 1024 → j < length (pathsOf L) → P (refusalWithin k j d)) → Every P (listTests D L)
+  unfolding listTests
+  every-list D L h i =
+      let K = pathsOf L in
+      let t₂₂ : Verdict = firstFault 22 emptyAt 0 K in
+      let t₂₃ : Verdict = firstFault 23 (firstUnknown (length (D .starts)) 0) 0 K in
+      let t₂₄ : Verdict = firstFault 24 (firstBreak (meets D) 0) 0 K in
+      every-then P (listCounts L) (t₂₂ then t₂₃ then t₂₄) (every-counts L h)
+      (λ e.
+      let few = passes-le 20 (length (L .lengths)) 1024 (then-passed (unless 20 (leb (length (L .lengths)) 1024)) (unless 21 (leb (length (L .edges)) 8192)) e .0) in
+      let at : (k : ℕ) → 22 ≤ k → k ≤ 24 → (j d : ℕ) → j < 0 + length K → P (refusalWithin k j d) = λ k a b j d l. i k j d a b few (omega arith) in
+      every-then P t₂₂ (t₂₃ then t₂₄) (every-fault P 22 emptyAt 0 K (at 22 (omega arith) (omega arith)))
+      (λ e. every-then P t₂₃ t₂₄ (every-fault P 23 (firstUnknown (length (D .starts)) 0) 0 K (at 23 (omega arith) (omega arith)))
+      (λ e. every-fault P 24 (firstBreak (meets D) 0) 0 K (at 24 (omega arith) (omega arith)))))
