@@ -1,4 +1,5 @@
-/* Stands in for the deck program where tests/against_walker.py is itself tried: document 01's lines, by the reference program. */
+/* Stands in for the deck program where tests/against_walker.py is itself tried: the lines of documents 01 and 02, by the reference
+ * program. */
 #include "reference.h"
 
 #include <stdio.h>

@@ -191,15 +191,19 @@ def edges_of_the_ranges():
 
 
 def faults_along_a_path():
-    """A path of twelve edges in a row, behind a sound one. At each index in turn stands an edge that is unknown, or the right one, or one
-    that does not join; and then the same edge stands at the end too."""
+    """A path of twelve edges in a row, behind a sound one. At each index in turn stands an edge that is unknown, or one that does not
+    join; and then the same edge stands at the end too. Then faults in two paths, and of two numbers in one."""
     row = [(k, k + 1, k) for k in range(12)]
+    paths = []
     for at in range(12):
-        for edge in (12, TOP, at, at + 1, (at + 2) % 12):
-            for last in (11, edge):
-                path = list(range(12))
-                path[at], path[11] = edge, last
-                yield Deck(13, row, [[3, 4], path], 10)
+        for edge in (12, TOP, (at + 1) % 12, (at + 2) % 12):
+            for places in ({at}, {at, 11}):
+                paths.append(tuple(edge if index in places else index for index in range(12)))
+    lists = [[[3, 4], path] for path in dict.fromkeys(paths)]
+    lists += [[[0, 12], [12]], [[0], [12, 0], [0, 12]], [[0, 1, 0], [1, 0]], [[0, 1], [2, 1, 0], [1, 0, 1]], [[1, 0, 12]], [[1, 0], [0, 12, 0]],
+              [[1, 0], []], [[12], []]]
+    for paths in lists:
+        yield Deck(13, row, paths, 10)
 
 
 def random_deck(chance):

@@ -1,15 +1,19 @@
--- Where a call of a removal answers a refusal by 22 to 24, its places are the first path with the fault, and the first edge there.
+-- Where a call answers a refusal by 22 to 24, its places are the first path with the fault, and the first edge there: of a removal, of
+-- `test_list` and of `test_deck`.
 use mathlib.Core.Path.{_≡_, sym, _∙_}
 use Prim.Native.Nat.{ℕ}
 use native.Mathlib.Omega.{arith}
 use Rattle.timing.specs.declared.Refusal.{Refusal}
+use Rattle.timing.specs.declared.Verdict.the-variants.{Refused}
 use Rattle.timing.specs.declared.GraphMade.the-variants.{Refused as NoGraph}
 use Rattle.timing.specs.Graphs.{Graph}
+use Rattle.timing.specs.Marks.{pathsOf}
 use Rattle.timing.specs.Calls.{Outcome, made, refused, graphAnswer}
 use Rattle.timing.specs.Called.{removalOf, removeOn}
 use Rattle.timing.specs.Faults.{Placed}
-use Rattle.theorems.proofs.Placed.{removal-placed}
+use Rattle.theorems.proofs.Placed.{removal-placed, deck-placed, list-placed}
 use Rattle.called.specs.Removals.{Call, designOf, earlierOf, calledOf, pathsIn}
+use Rattle.called.specs.Tests.{ListTest, listDesign, listTested, DeckTest, deckDesign, deckTested}
 use Rattle.called.proofs.Series.{meets}
 
 answer-refused : (o : Outcome Graph) (x : Refusal) → graphAnswer o ≡ NoGraph x → o ≡ refused x
@@ -20,3 +24,9 @@ pub call-placed : (c : Call) (x : Refusal) → calledOf c .answer ≡ NoGraph x 
 call-placed c x e =
     let o = removeOn (designOf c) (earlierOf c) (removalOf (calledOf c)) in
     removal-placed (designOf c) (earlierOf c) (removalOf (calledOf c)) x (answer-refused o x (sym (meets c .answer) ∙ e))
+
+pub list-test-placed : (c : ListTest) (x : Refusal) → c .answer ≡ Refused x → Placed (listDesign c) (pathsOf (listTested c)) x
+list-test-placed c x e = list-placed (listDesign c) (listTested c) x (sym (c .learnt) ∙ e)
+
+pub deck-test-placed : (c : DeckTest) (x : Refusal) → c .answer ≡ Refused x → Placed (deckDesign c) (pathsOf (deckTested c)) x
+deck-test-placed c x e = deck-placed (deckDesign c) (deckTested c) (c .passed .1 .1 .1 .1 .1 .1 .0) x (sym (c .learnt) ∙ e)

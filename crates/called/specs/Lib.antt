@@ -1,3 +1,4 @@
--- Calls as a caller has them: of the two removals, and of `times`.
+-- Calls as a caller has them: of the two removals, of `times`, and of the tests of a list and a deck.
 pub mod Removals
 pub mod Times
+pub mod Tests

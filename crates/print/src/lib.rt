@@ -68,7 +68,7 @@ pub fn delay(d: i32) {
     time(d as i64);
 }
 
-// Whether the place of a refusal is a path, and its index that of an edge within it.
+// Whether a refusal with this number has two places, a path and an index within it.
 fn is_of_path(n: u32) -> bool {
     match n {
         22..=24 => true,

@@ -1,5 +1,5 @@
--- `Ran` can be met, with refused calls in it: M6 by parts over deck A. An empty path is refused 22 while no graph is held; 1,2 makes
--- deck A's graph; 0,3 in room for five copies is refused 33, and in room for six it makes the last graph. Rooms and scratch held 9
+-- `Ran` can be met, with refused calls in it: M6 by parts over deck A. The path 2,1 is refused 24 at 0, index 1, while no graph is held; 1,2
+-- makes deck A's graph; 0,3 in room for five copies is refused 33, and in room for six it makes the last graph. Rooms and scratch held 9
 -- before.
 use Prim.Native.Nat.{ℕ}
 use mathlib.Core.Path.{refl}
@@ -13,7 +13,7 @@ use Rattle.timing.specs.Graphs.{designGraph, edgesIn, edgesOut, runsFrom, compl
 use Rattle.timing.specs.Marks.{permitted, tails, mark}
 use Rattle.timing.specs.TrueGraphs.{permittedRuns, copies, joins, trueGraph}
 use Rattle.timing.specs.WellFormed.{wellFormed}
-use Rattle.timing.specs.Refusals.{refusal}
+use Rattle.timing.specs.Refusals.{refusal, refusalWithin}
 use Rattle.timing.specs.Tests.{designTests, listTests, candidates, scratchTest, roomTests}
 use Rattle.timing.specs.Calls.{GraphSlices, graphSlices, removeFromDesign, removeFromGraph}
 use Rattle.timing.specs.Called.{Called, Ran, CalledDemand3}
@@ -41,7 +41,7 @@ called listed lengths room answer after x = record {
 
 abbrev pub series : List Called
 series =
-    called [] (0 ∷ []) (roomFor 6) (NoGraph (refusal 22 0)) (roomFor 6) 9
+    called (2 ∷ 1 ∷ []) (2 ∷ []) (roomFor 6) (NoGraph (refusalWithin 24 0 1)) (roomFor 6) 9
     ∷ called (1 ∷ 2 ∷ []) (2 ∷ []) (roomFor 6) (Counts 6 5)
     (graphSlices (0 ∷ 1 ∷ 2 ∷ 2 ∷ 3 ∷ 4 ∷ []) (0 ∷ 1 ∷ 0 ∷ 3 ∷ 2 ∷ 9 ∷ []) (2 ∷ 2 ∷ 3 ∷ 4 ∷ 5 ∷ 9 ∷ []) (0 ∷ 1 ∷ 0 ∷ 2 ∷ 3 ∷ 9 ∷ [])) 0
     ∷ called (0 ∷ 3 ∷ []) (2 ∷ []) (roomFor 5) (NoGraph (refusal 33 0)) (roomFor 5) 0

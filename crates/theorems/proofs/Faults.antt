@@ -17,7 +17,7 @@ use Rattle.timing.specs.Lists.{isNil, eachNext}
 use Rattle.timing.specs.Graphs.{Design, edgeStart, edgeEnd}
 use Rattle.timing.specs.Refusals.{refusalWithin, unlessFault, firstFault, _then_}
 use Rattle.timing.specs.Tests.{meets, emptyAt, firstUnknown, firstBreak}
-use Rattle.timing.specs.Faults.{Empty, Unknown, Broken, FirstWith}
+use Rattle.timing.specs.Faults.{Empty, Unknown, Broken, FirstWith, NoneWith}
 use Rattle.timing.proofs.Verdicts.{refused-passed, then-passed}
 use Rattle.theorems.proofs.Lists.{and-intro, and-left, and-right, holds, getD-mem}
 
@@ -177,3 +177,7 @@ module _ (number : ℕ) (fault : List ℕ → Fault) where
         let s = first-from 0 paths r e in
         let same : r .place ≡ s .0 = omega (arith, s .1) in
         rw same (s .2)
+
+    -- where the test passes, no path has a fault
+    pub firstFault-none : (paths : List (List ℕ)) → firstFault number fault 0 paths ≡ Passed → NoneWith Bad paths
+    firstFault-none paths e p l = finds .clean (getD paths p []) (firstFault-passed 0 paths e (getD paths p []) (getD-mem paths p [] l))

@@ -8,7 +8,7 @@ pub mod Runs
 pub mod Copies
 pub mod Stands
 pub mod Parts
--- what passing the tests gives
+-- what a refusal says, and what passing the tests gives
 pub mod Refusals
 pub mod Tests
 pub mod Faults

@@ -2,7 +2,7 @@
 -- places are those of that test.
 use Prim.Native.Nat.{ℕ, _+_, _*_, _≤_, min}
 use native.Mathlib.Omega.{arith}
-use mathlib.Core.Path.{_≡_, sym, _∙_, ap}
+use mathlib.Core.Path.{_≡_, refl, sym, _∙_, ap}
 use mathlib.Core.Bool.{Bool, _&&_}
 use mathlib.Core.List.{List}
 use mathlib.Core.Option.{Option, none, some}
@@ -19,12 +19,12 @@ use Rattle.timing.specs.TrueGraphs.{trueGraph}
 use Rattle.timing.specs.WellFormed.{wellFormed}
 use Rattle.timing.specs.Refusals.{unless, firstFault, _then_}
 use Rattle.timing.specs.Tests.{sameSizes, designSizes, listSizes, designTests, listCounts, meets, emptyAt, firstUnknown, firstBreak, listTests, allowedTest, graphTest, candidates, scratchTest, roomSizes, roomTests}
-use Rattle.timing.specs.Calls.{GraphSlices, graphOf, graphSizes, testDeck, refused, outcome, Removal, removalTests, removeFromDesign, removeFromGraph}
+use Rattle.timing.specs.Calls.{GraphSlices, graphOf, graphSizes, testList, testDeck, refused, outcome, Removal, removalTests, removeFromDesign, removeFromGraph}
 use Rattle.timing.specs.Called.{removeOn}
 use Rattle.timing.specs.Faults.{Empty, Unknown, Broken, Placed}
 use Rattle.timing.proofs.Verdicts.{refused-passed, then-assoc, Every, every-then, every-unless, every-fault}
 use Rattle.theorems.proofs.Tests.{every-design, every-counts}
-use Rattle.theorems.proofs.Faults.{finds-empty, finds-unknown, finds-break, firstFault-at}
+use Rattle.theorems.proofs.Faults.{finds-empty, finds-unknown, finds-break, firstFault-at, firstFault-none}
 
 -- a test that gives other numbers than n
 abbrev Other : ℕ → Verdict → Type 0
@@ -48,8 +48,8 @@ module _ (n : ℕ) where
         let same : y ≡ x = cc in
         o (ap (λ (r : Refusal). r .number) same ∙ number)
 
-    behind : (v w : Verdict) → Other n v → (v then w) ≡ Refused x → w ≡ Refused x
-    behind Passed w o e = e
+    behind : (v w : Verdict) → Other n v → (v then w) ≡ Refused x → (v ≡ Passed) × (w ≡ Refused x)
+    behind Passed w o e = (refl, e)
     behind (Refused y) w o e = absurd (impossible (Refused y) o e)
 
     before : (v w : Verdict) → Other n w → (v then w) ≡ Refused x → v ≡ Refused x
@@ -87,11 +87,11 @@ module _ (n : ℕ) (low : 22 ≤ n) (high : n ≤ 24) where
     from-list : (D : Design) (L : PathList) (o w : Verdict) → Other n o → Other n w
         → (designSizes D then (listSizes L then (o then (designTests D then (listTests D L then w))))) ≡ Refused x → listTests D L ≡ Refused x
     from-list D L o w a b e =
-        before n x number (listTests D L) w b
-        (behind n x number (designTests D) (listTests D L then w) (other-design D)
-        (behind n x number o (designTests D then (listTests D L then w)) a
-        (behind n x number (listSizes L) (o then (designTests D then (listTests D L then w))) (other-sums L)
-        (behind n x number (designSizes D) (listSizes L then (o then (designTests D then (listTests D L then w)))) (other-same (length (D .starts)) (length (D .ends)) (length (D .delays))) e))))
+        let sizes = behind n x number (designSizes D) (listSizes L then (o then (designTests D then (listTests D L then w)))) (other-same (length (D .starts)) (length (D .ends)) (length (D .delays))) e in
+        let sums = behind n x number (listSizes L) (o then (designTests D then (listTests D L then w))) (other-sums L) (sizes .1) in
+        let others = behind n x number o (designTests D then (listTests D L then w)) a (sums .1) in
+        let design = behind n x number (designTests D) (listTests D L then w) (other-design D) (others .1) in
+        before n x number (listTests D L) w b (design .1)
 
     outcome-refused : {A : Type 0} (v : Verdict) (y : A) → outcome v y ≡ refused x → v ≡ Refused x
     outcome-refused Passed y e = absurd (let z : _≡_ {A = ℕ} 0 1 = cc in omega arith)
@@ -120,36 +120,59 @@ module _ (n : ℕ) (low : 22 ≤ n) (high : n ≤ 24) where
     unfolding testDeck
     deck-list D L t e = from-list D L Passed (allowedTest t) tt (other-unless n 25 (λ h. omega arith) (leb t 1000000000)) e
 
+    test-list : (D : Design) (L : PathList) → testList D L ≡ Refused x → listTests D L ≡ Refused x
+    unfolding testList
+    test-list D L e =
+        let sizes = behind n x number (designSizes D) (listSizes L then (designTests D then listTests D L)) (other-same (length (D .starts)) (length (D .ends)) (length (D .delays))) e in
+        let sums = behind n x number (listSizes L) (designTests D then listTests D L) (other-sums L) (sizes .1) in
+        behind n x number (designTests D) (listTests D L) (other-design D) (sums .1) .1
+
 -- the three tests of the list, one by one
 module _ (D : Design) (L : PathList) (x : Refusal) (by-list : (n : ℕ) → 22 ≤ n → n ≤ 24 → x .number ≡ n → listTests D L ≡ Refused x) where
-  placed : Placed D (pathsOf L) x
-  unfolding listTests
-  placed =
-      let K = pathsOf L in
-      let t₂₂ : Verdict = firstFault 22 emptyAt 0 K in
-      let t₂₃ : Verdict = firstFault 23 (firstUnknown (length (D .starts)) 0) 0 K in
-      let t₂₄ : Verdict = firstFault 24 (firstBreak (meets D) 0) 0 K in
-      record {
-        empty = λ h.
-            firstFault-at 22 emptyAt Empty finds-empty K x
-            (before 22 x h t₂₂ (t₂₃ then t₂₄) (other-then 22 t₂₃ t₂₄ (other-fault 22 23 (λ e. omega arith) _ 0 K) (other-fault 22 24 (λ e. omega arith) _ 0 K))
-            (behind 22 x h (listCounts L) (t₂₂ then (t₂₃ then t₂₄)) (other-counts 22 (omega arith) (omega arith) L) (by-list 22 (omega arith) (omega arith) h)));
-        unknown = λ h.
-            firstFault-at 23 (firstUnknown (length (D .starts)) 0) (Unknown D) (finds-unknown D) K x
-            (before 23 x h t₂₃ t₂₄ (other-fault 23 24 (λ e. omega arith) _ 0 K)
-            (behind 23 x h t₂₂ (t₂₃ then t₂₄) (other-fault 23 22 (λ e. omega arith) _ 0 K)
-            (behind 23 x h (listCounts L) (t₂₂ then (t₂₃ then t₂₄)) (other-counts 23 (omega arith) (omega arith) L) (by-list 23 (omega arith) (omega arith) h))));
-        broken = λ h.
-            firstFault-at 24 (firstBreak (meets D) 0) (Broken D) (finds-break D) K x
-            (behind 24 x h t₂₃ t₂₄ (other-fault 24 23 (λ e. omega arith) _ 0 K)
-            (behind 24 x h t₂₂ (t₂₃ then t₂₄) (other-fault 24 22 (λ e. omega arith) _ 0 K)
-            (behind 24 x h (listCounts L) (t₂₂ then (t₂₃ then t₂₄)) (other-counts 24 (omega arith) (omega arith) L) (by-list 24 (omega arith) (omega arith) h))));
-      }
+  abbrev K : List (List ℕ)
+  K = pathsOf L
 
--- a removal, from the design or from an earlier graph, and a deck's tests
+  abbrev t₂₂ : Verdict
+  t₂₂ = firstFault 22 emptyAt 0 K
+
+  abbrev t₂₃ : Verdict
+  t₂₃ = firstFault 23 (firstUnknown (length (D .starts)) 0) 0 K
+
+  abbrev t₂₄ : Verdict
+  t₂₄ = firstFault 24 (firstBreak (meets D) 0) 0 K
+
+  after-counts : (n : ℕ) → 22 ≤ n → n ≤ 24 → x .number ≡ n → (t₂₂ then (t₂₃ then t₂₄)) ≡ Refused x
+  unfolding listTests
+  after-counts n low high h = behind n x h (listCounts L) (t₂₂ then (t₂₃ then t₂₄)) (other-counts n low high L) (by-list n low high h) .1
+
+  placed : Placed D K x
+  placed = record {
+    empty = λ h.
+        firstFault-at 22 emptyAt Empty finds-empty K x
+        (before 22 x h t₂₂ (t₂₃ then t₂₄) (other-then 22 t₂₃ t₂₄ (other-fault 22 23 (λ e. omega arith) (firstUnknown (length (D .starts)) 0) 0 K) (other-fault 22 24 (λ e. omega arith) (firstBreak (meets D) 0) 0 K))
+        (after-counts 22 (omega arith) (omega arith) h));
+    unknown = λ h.
+        let filled = behind 23 x h t₂₂ (t₂₃ then t₂₄) (other-fault 23 22 (λ e. omega arith) emptyAt 0 K) (after-counts 23 (omega arith) (omega arith) h) in (
+          firstFault-none 22 emptyAt Empty finds-empty K (filled .0),
+          firstFault-at 23 (firstUnknown (length (D .starts)) 0) (Unknown D) (finds-unknown D) K x
+              (before 23 x h t₂₃ t₂₄ (other-fault 23 24 (λ e. omega arith) (firstBreak (meets D) 0) 0 K) (filled .1)),
+        );
+    broken = λ h.
+        let filled = behind 24 x h t₂₂ (t₂₃ then t₂₄) (other-fault 24 22 (λ e. omega arith) emptyAt 0 K) (after-counts 24 (omega arith) (omega arith) h) in
+        let named = behind 24 x h t₂₃ t₂₄ (other-fault 24 23 (λ e. omega arith) (firstUnknown (length (D .starts)) 0) 0 K) (filled .1) in (
+          firstFault-none 22 emptyAt Empty finds-empty K (filled .0),
+          firstFault-none 23 (firstUnknown (length (D .starts)) 0) (Unknown D) (finds-unknown D) K (named .0),
+          firstFault-at 24 (firstBreak (meets D) 0) (Broken D) (finds-break D) K x (named .1),
+        );
+  }
+
+-- a removal, from the design or from an earlier graph, and the tests of a deck and of a list
 pub removal-placed : (D : Design) (held : Option GraphSlices) (r : Removal) (x : Refusal) → removeOn D held r ≡ refused x → Placed D (pathsOf (r .list)) x
 removal-placed D none r x e = placed D (r .list) x (λ n low high h. design-list n low high x h D r e)
 removal-placed D (some S) r x e = placed D (r .list) x (λ n low high h. graph-list n low high x h D S r e)
 
 pub deck-placed : (D : Design) (L : PathList) (t : ℕ) (x : Refusal) → testDeck D L t ≡ Refused x → Placed D (pathsOf L) x
 deck-placed D L t x e = placed D L x (λ n low high h. deck-list n low high x h D L t e)
+
+pub list-placed : (D : Design) (L : PathList) (x : Refusal) → testList D L ≡ Refused x → Placed D (pathsOf L) x
+list-placed D L x e = placed D L x (λ n low high h. test-list n low high x h D L e)

@@ -227,15 +227,17 @@ marked =
     ∷ removalIs fallingAndUnknown (removal noPaths ample 192) (refused (refusal 12 1))
     ∷ removalIs deckA (removal (pathList (2 ∷ 1 ∷ 9 ∷ []) (2 ∷ 1 ∷ [])) ample 999) (refused (refusalWithin 23 1 0))
     ∷ removalIs deckA (removal (pathList (0 ∷ 2 ∷ 2 ∷ 1 ∷ []) (2 ∷ 2 ∷ [])) ample 999) (refused (refusalWithin 24 1 1))
-    -- Which edge of the path: 02's example, as the deck program and the C call have it; a place of the C call is the path
+    -- Which edge of the path: 02's example, as the deck program has it; the C call's place is the path, 2, and not the index, 1
     ∷ programIs (5 ∷ 4 ∷ 0 ∷ 2 ∷ 6 ∷ 1 ∷ 2 ∷ 10 ∷ 2 ∷ 3 ∷ 4 ∷ 2 ∷ 4 ∷ 2 ∷ 1 ∷ 2 ∷ 2 ∷ 1 ∷ 10 ∷ [])
     (refused (refusalWithin 24 0 1))
-    ∷ cCallIs (5 ∷ 4 ∷ 0 ∷ 2 ∷ 6 ∷ 1 ∷ 2 ∷ 10 ∷ 2 ∷ 3 ∷ 4 ∷ 2 ∷ 4 ∷ 2 ∷ 2 ∷ 2 ∷ 0 ∷ 2 ∷ 2 ∷ 2 ∷ 1 ∷ 10 ∷ []) 64
-    (negsuc 279)
-    -- 23: the first edge is unknown; the last; two are
+    ∷ cCallIs (5 ∷ 4 ∷ 0 ∷ 2 ∷ 6 ∷ 1 ∷ 2 ∷ 10 ∷ 2 ∷ 3 ∷ 4 ∷ 2 ∷ 4 ∷ 2 ∷ 3 ∷ 2 ∷ 0 ∷ 2 ∷ 2 ∷ 1 ∷ 3 ∷ 2 ∷ 2 ∷ 1 ∷ 10 ∷ []) 64
+    (negsuc 535)
+    -- 23: the first edge is unknown; the last; two are, in one path and then in two; one behind a break
     ∷ removalIs deckA (removal (pathList (4 ∷ 2 ∷ []) (2 ∷ [])) ample 999) (refused (refusalWithin 23 0 0))
     ∷ removalIs deckA (removal (pathList (1 ∷ 0 ∷ 2 ∷ 4 ∷ []) (1 ∷ 3 ∷ [])) ample 999) (refused (refusalWithin 23 1 2))
     ∷ removalIs deckA (removal (pathList (1 ∷ 4 ∷ 9 ∷ []) (3 ∷ [])) ample 999) (refused (refusalWithin 23 0 1))
+    ∷ removalIs deckA (removal (pathList (0 ∷ 4 ∷ 4 ∷ []) (2 ∷ 1 ∷ [])) ample 999) (refused (refusalWithin 23 0 1))
+    ∷ removalIs deckA (removal (pathList (2 ∷ 1 ∷ 9 ∷ []) (3 ∷ [])) ample 999) (refused (refusalWithin 23 0 2))
     -- 24: a break at index 1; at the last index; two breaks, in one path and then in two
     ∷ removalIs designM8 (removal (pathList (1 ∷ 3 ∷ 4 ∷ []) (3 ∷ [])) ample 999) (refused (refusalWithin 24 0 1))
     ∷ removalIs designM8 (removal (pathList (0 ∷ 2 ∷ 0 ∷ 2 ∷ 3 ∷ 2 ∷ []) (2 ∷ 4 ∷ [])) ample 999)
@@ -263,4 +265,4 @@ marked-hold =
     refl also refl also refl also refl also refl also refl also refl also refl also refl also refl also refl also
     refl also refl also refl also refl also refl also refl also refl also refl also refl also refl also refl also
     refl also refl also refl also refl also refl also refl also refl also refl also refl also refl also refl also
-    refl also refl also refl also refl also refl also refl also none
+    refl also refl also refl also refl also refl also refl also refl also refl also none

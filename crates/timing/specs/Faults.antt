@@ -28,8 +28,13 @@ abbrev pub FirstWith : (List ℕ → ℕ → Type 0) → List (List ℕ) → ℕ
 FirstWith Bad paths place index =
     (place < length paths) × Bad (getD paths place []) index × ((p : ℕ) → p < place → (i : ℕ) → Bad (getD paths p []) i → ⊥)
 
--- a refusal, where a list was tested against a design
+-- no path has it: "one number over everything before the next"
+abbrev pub NoneWith : (List ℕ → ℕ → Type 0) → List (List ℕ) → Type 0
+NoneWith Bad paths = (p : ℕ) → p < length paths → (i : ℕ) → Bad (getD paths p []) i → ⊥
+
+-- what the number and the two places of a refusal say of the paths that were tested
 pub record Placed (D : Design) (paths : List (List ℕ)) (r : Refusal) : Type 0 where
   pub empty : r .number ≡ 22 → FirstWith Empty paths (r .place) (r .index)
-  pub unknown : r .number ≡ 23 → FirstWith (Unknown D) paths (r .place) (r .index)
-  pub broken : r .number ≡ 24 → FirstWith (Broken D) paths (r .place) (r .index)
+  pub unknown : r .number ≡ 23 → NoneWith Empty paths × FirstWith (Unknown D) paths (r .place) (r .index)
+  pub broken : r .number ≡ 24
+      → NoneWith Empty paths × NoneWith (Unknown D) paths × FirstWith (Broken D) paths (r .place) (r .index)

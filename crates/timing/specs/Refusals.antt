@@ -31,7 +31,7 @@ abbrev pub firstBad : {A : Type 0} → ℕ → (A → Bool) → ℕ → List A �
 firstBad number bad k [] = Passed
 firstBad number bad k (x ∷ xs) = cond (bad x) (Refused (refusal number k)) (firstBad number bad (suc k) xs)
 
--- a test of one path, whose number is the place: it passes unless it has a fault, whose index is then the second place
+-- a test of one path, from where its first fault is; the places are the path and the fault's index
 abbrev pub unlessFault : ℕ → ℕ → Fault → Verdict
 unlessFault number place None = Passed
 unlessFault number place (At index) = Refused (refusalWithin number place index)

@@ -19,8 +19,8 @@ pub const MAX_COPY_EDGES: usize = 65536;
 
 pub const MAX_DECK_BYTES: usize = 65536;
 
-// A refusal: document 01's number, and the place of the fault. Where the place is a path (22 to 24), a
-// second one is the index of an edge within it; for all other numbers it is 0.
+// A refusal: document 01's number, and the place of the fault. Where the place is a path (22 to 24), `index`
+// is a second one: that of an edge within the path, or 0 where the path is empty. Else it is 0.
 pub struct Refusal {
     pub number: u32,
     pub place: usize,
@@ -33,8 +33,8 @@ pub enum Verdict {
     Refused(Refusal),
 }
 
-// What a test of the edges of a path answers: the index within the path of the first edge that fails it,
-// or that all pass.
+// What a test of one path answers: the index within the path of the first edge that fails it (0 where it has
+// none), or that the path passes.
 pub enum Fault {
     At(usize),
     None,

@@ -46,7 +46,7 @@ pub fn and_unless(before: Verdict, number: u32, fit: bool) -> Verdict
     unless(number, fit)
 }
 
-// A test of one path, by its number and the first fault that it has.
+// A test of one path, from where its first fault is; `place` says which path.
 pub fn unless_fault(number: u32, place: usize, fault: Fault) -> Verdict
     ensures { λ r. ⌜ r ≡ unlessFault number place fault ⌝ }
 {
