@@ -25,9 +25,24 @@ int64_t jaqhweni_true_graph(const uint8_t *deck, size_t deck_length, uint8_t *ro
     return made;
 }
 
+/* As reference_remove_from_design, but for 31: takes one word less than it asks. */
+static int64_t remove_with_less(DESIGN_PARAMETERS, LIST_PARAMETERS, ROOM_PARAMETERS)
+{
+    static uint32_t longer[1 << 20];
+    if (scratch_length >= sizeof longer / sizeof *longer) return -31;
+    uint32_t *lent = scratch;
+    size_t lent_length = scratch_length;
+    scratch = longer;
+    scratch_length = lent_length + 1;
+    int64_t made = reference_remove_from_design(DESIGN_SLICES, LIST_SLICES, ROOM_SLICES);
+    if (made != -31) memset(lent, 0, lent_length * sizeof *lent);
+    return made;
+}
+
 int64_t jaqhweni_remove_from_design(DESIGN_PARAMETERS, LIST_PARAMETERS, ROOM_PARAMETERS)
 {
     int64_t made = reference_remove_from_design(DESIGN_SLICES, LIST_SLICES, ROOM_SLICES);
+    if (FAULT == 18 && made == -31) return remove_with_less(DESIGN_SLICES, LIST_SLICES, ROOM_SLICES);
     if (FAULT == 4 && made == -31) memset(scratch, 0, scratch_length * sizeof *scratch);    /* clears where it must not */
     if (FAULT == 5 && made >> 32 > 2) {                                                     /* two edges out of order */
         size_t last = (size_t)(made >> 32) - 1;
@@ -42,6 +57,7 @@ int64_t jaqhweni_remove_from_design(DESIGN_PARAMETERS, LIST_PARAMETERS, ROOM_PAR
 
 int64_t jaqhweni_remove_from_graph(DESIGN_PARAMETERS, LIST_PARAMETERS, GRAPH_PARAMETERS, ROOM_PARAMETERS)
 {
+    if (FAULT == 19) scratch_length /= 2;                                                   /* asks for 16 words, where 8 are enough */
     if (FAULT == 8 && listed_length > 0)                                                    /* cuts on nothing but the first edge's path */
         return reference_remove_from_graph(DESIGN_SLICES, listed, lengths[0], lengths, 1, GRAPH_SLICES, ROOM_SLICES);
     int64_t made = reference_remove_from_graph(DESIGN_SLICES, LIST_SLICES, GRAPH_SLICES, ROOM_SLICES);

@@ -78,7 +78,7 @@ static packed from_deck(void)
     return graph;
 }
 
-/* The scratch has 16 words for each node, for each listed edge but the first, and for each listed edge and edge. */
+/* The scratch has 8 words for each node, for each listed edge but the first, and for each listed edge and edge. */
 static packed from_arrays(void)
 {
     enum { ROOM = 16, SCRATCH = JAQHWENI_WORDS_PER_UNIT * (NODES + LISTED - 1 + LISTED + EDGES) };

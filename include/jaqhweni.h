@@ -61,7 +61,7 @@ extern "C" {
 #define JAQHWENI_MAX_COPIES 16384
 #define JAQHWENI_MAX_COPY_EDGES 65536
 #define JAQHWENI_MAX_DECK_BYTES 65536
-#define JAQHWENI_WORDS_PER_UNIT 16
+#define JAQHWENI_WORDS_PER_UNIT 8
 
 /* The most stack that a call takes, in bytes, whatever it is given: as measured at the limits (tests/stack.c), rounded up. */
 #define JAQHWENI_STACK_TRUE_GRAPH 393216
@@ -79,7 +79,7 @@ extern "C" {
  *
  * Returns the length of the graph, at least 2, of which `room` then holds the bytes; what follows them is unchanged. Takes decks of up
  * to 1,024 edges, 256 paths and 1,024 listed edges (else 36), and results of up to 512 copies and 2,048 edges (else 33, 34); 31 is
- * returned where n + m + 2 * listed edges - paths is above 1,024. For larger designs use the calls below. */
+ * returned where n + m + 2 * listed edges - paths is above 2,048. For larger designs use the calls below. */
 int64_t jaqhweni_true_graph(const uint8_t *deck, size_t deck_length, uint8_t *room, size_t room_length);
 
 /* The true graph of a design and a list of paths.
@@ -89,7 +89,7 @@ int64_t jaqhweni_true_graph(const uint8_t *deck, size_t deck_length, uint8_t *ro
  * `room_to` and its design edge `room_via`; copies go by node, edges by end copy and then design edge. The three slices of edges are of
  * one length.
  *
- * The scratch has at least 16 words for each of: the nodes, the listed edges that are not first in their path, the listed edges, the
+ * The scratch has at least 8 words for each of: the nodes, the listed edges that are not first in their path, the listed edges, the
  * design's edges. It may hold anything; afterwards it is all zero (after success, 33 and 34) or unchanged.
  *
  * Returns copies + edges * 2^32. Places of the room past the result are unchanged. */
@@ -111,7 +111,7 @@ int64_t jaqhweni_remove_from_design(
  * lists so far (up to the numbering of copies within a node). A graph from elsewhere need only be well formed, and what comes out says
  * nothing of the design's other paths. The earlier graph stands in other slices than the room.
  *
- * The scratch has at least 16 words for each of: the copies; for each copy, the listed edges, not first in their path, that start at its
+ * The scratch has at least 8 words for each of: the copies; for each copy, the listed edges, not first in their path, that start at its
  * node; the listed edges; the earlier graph's edges. All else is as above. */
 int64_t jaqhweni_remove_from_graph(
     uint32_t n,

@@ -42,7 +42,7 @@ TRUE_GRAPH, REMOVE_FROM_DESIGN, REMOVE_FROM_GRAPH, TIMES, WRITE_GRAPH = range(5)
 PARTS = ["decks", "fixed", "random"]
 LEAST_DECKS = 2000          # random cases end when the time is over, but not before so many decks
 LEAST = {"decks": {"decks printed": LEAST_DECKS}, "random": {"decks": LEAST_DECKS, "random series": LEAST_DECKS // 4}}
-FAULTS = range(1, 18)       # bench/stand_in.c and bench/reference_deck.c
+FAULTS = range(1, 20)       # bench/stand_in.c and bench/reference_deck.c
 VALGRIND = ["valgrind", "--quiet", "--error-exitcode=9", "--main-stacksize=33554432", "--max-stackframe=16777216"]
 BATCH, BATCH_BYTES = 400, 1 << 24       # requests to the runner at a time
 
@@ -226,15 +226,58 @@ def rooms_above_the_limits():
         yield from (("rooms above the limits", request) for request in series.requests)
 
 
+def rows_of_hops(rows, widths):
+    """Rows of nodes, with so many parallel edges for each hop. Returns the edges, and the numbers of those of each hop of each row."""
+    edges, numbers = [], []
+    for row in range(rows):
+        first, hops = (len(widths) + 1) * row, []
+        for hop, width in enumerate(widths):
+            hops.append(range(len(edges), len(edges) + width))
+            edges += [(first + hop, first + hop + 1, number % 9 - 2) for number in hops[-1]]
+        numbers.append(hops)
+    return edges, numbers
+
+
+def full_design():
+    """4,096 nodes, 16,384 edges, 1,024 paths and 8,192 listed edges; and a further list. Rows of eight hops, and a node by itself."""
+    edges, rows = rows_of_hops(455, (2, 1, 2, 1, 1, 1, 1, 27))
+    edges += [(9 * row + 7, 9 * row + 8, 5) for row in range(4)]
+    both = [[[hop[(k >> at) % len(hop)] for at, hop in enumerate(hops)] for hops in rows] for k in (0, 5, 129)]
+    design = decks.deck_of(4096, edges, [], 0).design
+    assert len(edges) == 16384
+    return design, decks.path_list_of((both[0] + both[1] + both[2])[:1024]), decks.path_list_of([path[2:] for path in both[1][:60]])
+
+
+def full_graph():
+    """A design, a true graph of it of 16,384 copies and 65,536 edges, and a further list. In each of 15 rows of three hops, one edge of
+    the first is listed with each two of the others; the rest are nodes by themselves, and two nodes with the edges that are left."""
+    edges, rows = rows_of_hops(15, (4, 32, 32))
+    edges += [(60, 61, 3)] * 3616
+    design = decks.deck_of(574, edges, [], 0).design
+    earlier = walker.true_graph(design, decks.path_list_of([[one[0], b, c] for one, two, three in rows for b in two for c in three]))
+    assert (len(earlier.copy_nodes), len(earlier.starts)) == (16384, 65536)
+    one, two, three = rows[7]
+    return design, earlier, decks.path_list_of([[one[1], b, c] for b in two[:8] for c in three[:8]])
+
+
 def at_the_limits():
     """Full limits, on designs whose paths can still be walked."""
     def done(series):
         return [("limits", request) for request in series.requests]
 
-    for nodes in (4096, 4097):
+    for nodes, refusal in ((4096, None), (4097, (10, 0))):
         series = Recorded(Design(nodes, [], [], []), "%d isolated nodes" % nodes)
-        series.add(DESIGN, PathList([], []), Room(nodes, 0, 0, 0), 16 * nodes)
+        assert series.add(DESIGN, PathList([], []), Room(nodes, 0, 0, 0), walker.WORDS_PER_UNIT * nodes) == refusal
         yield from done(series)
+    design, path_list, further = full_design()
+    series = Recorded(design, "a design at its limits")
+    thresholds(series, DESIGN, path_list)
+    thresholds(series, HELD, further)
+    yield from done(series)
+    design, earlier, path_list = full_graph()
+    series = Recorded(design, "from a graph at its limits")
+    thresholds(series, GIVEN, path_list, earlier)
+    yield from done(series)
     series = Recorded(Design(2, [0] * 16384, [1] * 16384, [5] * 16384), "16,384 parallel edges")
     thresholds(series, DESIGN, decks.path_list_of([[16 * k] for k in range(1024)]))
     thresholds(series, HELD, decks.path_list_of([[16 * k + 1] for k in range(1024)]))

@@ -9,7 +9,7 @@ seed gives the same files. Designs stay small enough that all their paths can be
 import os
 import random
 import sys
-from walker import Call, Deck, Design, Graph, PathList, Room, deck_numbers, write_number
+from walker import WORDS_PER_UNIT, Call, Deck, Design, Graph, PathList, Room, deck_numbers, write_number
 
 WIDE_ROOM = Room(16384, 65536, 65536, 65536)
 
@@ -235,14 +235,23 @@ def braid(length, doubled, paths):
                    paths, 1000)
 
 
+def full(extra):
+    """2,048 candidates, listed edges and edges, and so many more: 63 nodes, 65 + extra edges, and 128 paths of 8, nine of them different.
+    62, 63 and 64 stand beside 5, 10 and 15; listed are 5 with 10, 10 with 15 and 63 with 64, so that three of eight ways remain."""
+    both = [list(range(start, start + 8)) for start in (3, 4, 5, 8, 9, 10)]
+    beside = [[{10: 63, 15: 64}.get(edge, edge) for edge in path] for path in both[3:]]
+    return braid(62, [5, 10, 15] + [40] * extra, ((both + beside) * 15)[:128])
+
+
 def fixed_decks():
     decks = list(MARKED.values())
     decks += [deck_of(5, A_EDGES, [[2, 1]], 10), deck_of(5, A_EDGES, [], 1_000_000_001),
               deck_of(5, A_EDGES, [], 1_000_000_000), deck_of(5, A_EDGES, [[0, 3], [2, 1], [3, 2]], 10)]
     decks += [deck_of(2, [(0, 1, delay)], [], 10)
               for delay in (-1_000_000, 1_000_000, -1_000_001, 1_000_001, 2 ** 31 - 1, -2 ** 31)]
-    decks += [deck_of(nodes, [], [], 5) for nodes in (511, 512, 513, 1024, 1025, 4096, 4097)]
+    decks += [deck_of(nodes, [], [], 5) for nodes in (511, 512, 513, 2047, 2048, 2049, 4096, 4097)]
     decks += [deck_of(2, parallel(count), [], 5) for count in (1021, 1022, 1023, 1024, 1025, 16384, 16385)]
+    decks += [full(extra) for extra in (0, 1)]                                        # 16,384 words of scratch, and 16,392
     decks += [wide(extra) for extra in (1, 32, 33)]                                   # 2,017, 2,048, 2,049
     decks += [chain(8, [[0]] * count) for count in (255, 256, 257, 1024, 1025)]
     decks += [chain(8, [list(range(8))] * count) for count in (60, 64, 65, 128, 129)]  # 512, 1,024, 1,032 listed
@@ -340,7 +349,7 @@ def random_call(rng, design):
         path_list = PathList(list(path_list.lengths) + [1], path_list.flat)             # 30
     copies = rng.choice([16384] * 4 + [20000, rng.randint(0, 15)])
     edges = rng.choice([65536] * 4 + [70000, rng.randint(0, 20)])
-    scratch = rng.choice([100_000] * 4 + [16 * rng.randint(0, 40), 16 * rng.randint(10, 40) - 1])
+    scratch = rng.choice([100_000] * 4 + [WORDS_PER_UNIT * rng.randint(0, 40), WORDS_PER_UNIT * rng.randint(10, 40) - 1])
     room = Room(copies, edges, edges, edges + (1 if rng.random() < 0.03 else 0))
     return Call(path_list, room, scratch)
 

@@ -42,12 +42,13 @@ M8_LIST = listed((0, 2, 3), (1, 2, 3, 4))
 SPLIT_SOURCE = w.Graph([0, 0, 1, 1, 2, 3], [0, 1, 2, 3], [2, 3, 4, 5], [0, 0, 1, 2])
 OUT_OF_ORDER = w.Graph([0, 0, 1, 1, 2, 3], [1, 0, 2, 3], [3, 2, 4, 5], [0, 0, 1, 2])
 AMPLE = w.Room(512, 2048, 2048, 2048)
+GRAPH_A = w.run_series(A, [w.Call(LIST_A, AMPLE, 16384)])[1]
 
 # What has a name in the table: the name, what it is, and the comment there.
 NAMES = [
     ("deckA", A, "Deck A: its design, its list, its true graph and its bytes with T 10."),
     ("listA", LIST_A, None),
-    ("graphA", w.run_series(A, [w.Call(LIST_A, AMPLE, 16384)])[1], None),
+    ("graphA", GRAPH_A, None),
     ("bytesA", w.write_deck(w.Deck(A, LIST_A, 10), 65536), None),
     ("noPaths", NONE, "The other designs, lists and graphs that rows are about."),
     ("noNodes", NO_NODES, None),
@@ -93,13 +94,17 @@ ROWS = [
     ("An isolated node keeps its copy: shuts out copies by edges alone", [("graph", ISOLATED, [listed((0,))])]),
     ("A listed path inside another, and one listed twice: shuts out a mark by the first path that fits",
      [("graph", M8, [listed((0, 2, 3), (2, 3), (0, 2, 3))])]),
-    ("Scratch: 16 words for 6 candidates, 2 listed edges and 4 edges, and one word less",
-     [("removal", A, LIST_A, AMPLE, 192), ("removal", A, LIST_A, AMPLE, 191)]),
+    ("Scratch: 8 words for 6 candidates, 2 listed edges and 4 edges, and one word less",
+     [("removal", A, LIST_A, AMPLE, 96), ("removal", A, LIST_A, AMPLE, 95)]),
+    ("Scratch for an earlier graph: 8 words for 8 candidates (2 copies of node 2), 2 listed edges and 5 edges, and one word less",
+     [("again", A, GRAPH_A, listed((0, 3)), AMPLE, 120), ("again", A, GRAPH_A, listed((0, 3)), AMPLE, 119)]),
+    ("Scratch: 8 words for a node, and one word less; none for no nodes",
+     [("removal", ONE_NODE, NONE, AMPLE, 8), ("removal", ONE_NODE, NONE, AMPLE, 7), ("removal", NO_NODES, NONE, AMPLE, 0)]),
     ("Room: 5 copies on A; 4 edges on A; rooms that differ in length come before a bad edge",
-     [("removal", A, LIST_A, w.Room(5, 9, 9, 9), 192), ("removal", A, LIST_A, w.Room(6, 4, 4, 4), 192),
-      ("removal", FALLING, NONE, w.Room(6, 4, 3, 4), 192)]),
+     [("removal", A, LIST_A, w.Room(5, 9, 9, 9), 96), ("removal", A, LIST_A, w.Room(6, 4, 4, 4), 96),
+      ("removal", FALLING, NONE, w.Room(6, 4, 3, 4), 96)]),
     ("One number over everything before the next: 12 at edge 1 before 13 at edge 0; 23 at path 1 before 24 at path 0",
-     [("removal", FALLING_AND_UNKNOWN, NONE, AMPLE, 192),
+     [("removal", FALLING_AND_UNKNOWN, NONE, AMPLE, 96),
       ("removal", A, listed((2, 1), (9,)), AMPLE, 999), ("removal", A, listed((0, 2), (2, 1)), AMPLE, 999)]),
     ("Which edge of the path: 02's example, as the deck program has it; the C call's place is the path, 2, and not the index, 1",
      [("deck", A, listed((2, 1)), 10), ("c", A, listed((0, 2), (1, 3), (2, 1)), 10, 64)]),

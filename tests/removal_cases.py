@@ -123,8 +123,7 @@ class Series:
 
 def words_needed(design, path_list, graph):
     """The least scratch that test 31 takes."""
-    worked_on = walker.design_as_graph(design) if graph is None else graph
-    return 16 * (walker.candidates(design, path_list, worked_on) + len(path_list.flat) + len(worked_on.starts))
+    return walker.words_needed(design, path_list, walker.design_as_graph(design) if graph is None else graph)
 
 
 def result_sizes(design, path_list, graph):
@@ -368,7 +367,7 @@ def random_removal(rng, series, where, given=None):
         if kind == "list":
             path_list = damaged_list(rng, design, paths)
         elif kind == "words":
-            words = max(0, words - rng.choice((1, 1, 16, 30)))
+            words = max(0, words - rng.choice((1, 1, walker.WORDS_PER_UNIT, 30)))
         elif kind == "copies":
             room = room._replace(copies=max(0, room.copies - rng.choice((1, 1, 2, 5))))
         elif kind == "edges":

@@ -226,11 +226,11 @@ class Ranges(unittest.TestCase):
         self.assertEqual(refusal(design, path_list_of([[2, 1]]), bad_graph, 0), (24, 0, 1))
         self.assertEqual(refusal(design, NO_LIST, w.Graph([9], [1], [], []), 0), (30, 0))
         # on A with 1,2: 5 nodes + 1 tail, 2 listed edges, 4 edges
-        self.assertEqual(refusal(design, path_list_of([[1, 2]]), None, 12 * 16 - 1), (31, 0))
-        self.assertIsNone(refusal(design, path_list_of([[1, 2]]), None, 12 * 16))
+        self.assertEqual(refusal(design, path_list_of([[1, 2]]), None, 12 * 8 - 1), (31, 0))
+        self.assertIsNone(refusal(design, path_list_of([[1, 2]]), None, 12 * 8))
         earlier = graph_of(MARKED["M1"])      # two copies of node 2: 6 + 2 * 1, 2, 5
-        self.assertEqual(refusal(design, path_list_of([[0, 3]]), earlier, 15 * 16 - 1), (31, 0))
-        self.assertIsNone(refusal(design, path_list_of([[0, 3]]), earlier, 15 * 16))
+        self.assertEqual(refusal(design, path_list_of([[0, 3]]), earlier, 15 * 8 - 1), (31, 0))
+        self.assertIsNone(refusal(design, path_list_of([[0, 3]]), earlier, 15 * 8))
         self.assertEqual(w.refusal_of(w.times, design, earlier, 2 ** 31, [6, 6, 5]), (30, 0))
         self.assertEqual(w.refusal_of(w.times, design, bad_graph, 2 ** 31, [1, 1, 1]), (25, 0))
         self.assertEqual(w.refusal_of(w.times, design, bad_graph, 10, [1, 1, 1]), (32, 0))
@@ -264,10 +264,10 @@ class Ranges(unittest.TestCase):
             self.assertEqual(w.deck_program(data), "refused %d at %d\n" % wanted, data[:8])
             self.assertEqual(w.c_call(data, 0), (-(wanted[0] + 256 * wanted[1]), b""))
         self.assertEqual(w.refusal_of(w.read_deck, b"", w.Tables(1, 1, 2, 0, 0)), (30, 0))
-        units = [printed(deck_of(2, decks.parallel(m), [], 5)).split()[:2] for m in (1022, 1023, 1024)]
-        self.assertEqual(units, [["copies", "2"], ["refused", "31"], ["refused", "31"]])
-        self.assertEqual([printed(deck_of(n, [], [], 5)).split()[:2] for n in (512, 513, 1025)],
-                         [["copies", "512"], ["refused", "33"], ["refused", "31"]])
+        # 16,384 words are 2,048 units
+        self.assertEqual([printed(decks.full(extra)).split()[:2] for extra in (0, 1)], [["copies", "73"], ["refused", "31"]])
+        self.assertEqual([printed(deck_of(n, [], [], 5)).split()[:2] for n in (512, 513, 2048, 2049)],
+                         [["copies", "512"], ["refused", "33"], ["refused", "33"], ["refused", "31"]])
         self.assertEqual([printed(decks.wide(extra)).split("\n")[0] for extra in (32, 33)],
                          ["copies 34 edges 2048", "refused 34 at 0"])
         length = w.c_call(DECK_A, 100)[0]

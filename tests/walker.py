@@ -1,7 +1,7 @@
 #!/usr/bin/env python3
 """Reference program: true timing graphs by walking all paths.
 
-Written from document 01, the specification, with request 4 of document 02, and from no code
+Written from document 01, the specification, with requests 4 and 9 of document 02, and from no code
 or definition of this repository; points that they leave open are read as docs/DECISIONS.md
 says ("How document 01 is read"). Naive on purpose: every complete path is written out, the false ones are struck
 out, and copies, edges and times are read off the paths that remain. Text in double quotes in
@@ -11,13 +11,14 @@ the comments is a sentence of these documents; docs/REVIEW.md lists them.
     python3 walker.py --c ROOM < deck     the C call: its number, then the bytes in hex
 """
 import sys
-from collections import namedtuple
+from collections import Counter, namedtuple
 
 MOST_NODES, MOST_EDGES = 4096, 16384
 MOST_DELAY, MOST_ALLOWED_TIME = 1_000_000, 1_000_000_000
 MOST_PATHS, MOST_LISTED_EDGES = 1024, 8192
 MOST_COPIES, MOST_GRAPH_EDGES = 16384, 65536
 MOST_DECK_BYTES = 65536
+WORDS_PER_UNIT = 8         # "8 words per candidate, listed edge and graph edge, where it was 16"
 MOST_WALKED = 200_000      # no limit of the document: more paths than this are not walked
 
 Design = namedtuple("Design", "nodes starts ends delays")             # delay of each edge
@@ -254,15 +255,16 @@ def graph_refusal(design, graph):
 def candidates(design, path_list, worked_on):
     """"a candidate is one per copy (or node), and one more per listed edge, not first in its
     path, that starts at its node" """
-    not_first = [edge for path in listed_paths(path_list) for edge in path[1:]]
-    return sum(1 + sum(1 for edge in not_first if design.starts[edge] == node)
-               for node in worked_on.copy_nodes)
+    not_first = Counter(design.starts[edge] for path in listed_paths(path_list) for edge in path[1:])
+    return sum(1 + not_first[node] for node in worked_on.copy_nodes)
+
+def words_needed(design, path_list, worked_on):
+    """What 31 asks: words of 32 bits "for each candidate, listed edge and edge of the graph worked on" """
+    return WORDS_PER_UNIT * (candidates(design, path_list, worked_on) + len(path_list.flat) + len(worked_on.starts))
 
 def scratch_refusal(design, path_list, worked_on, scratch_words):
-    """31: "shorter than 16 words of 32 bits for each candidate, listed edge and edge of the
-    graph worked on" """
-    units = candidates(design, path_list, worked_on) + len(path_list.flat) + len(worked_on.starts)
-    return (31, 0) if scratch_words < 16 * units else None
+    """31: scratch "shorter than" that"""
+    return (31, 0) if scratch_words < words_needed(design, path_list, worked_on) else None
 
 def room_refusal(graph, room):
     """33, 34: "Room is the lent length, at most 16,384 and 65,536." """

@@ -1,6 +1,7 @@
 -- Theorems over calls, and calls that meet their hypotheses.
 pub mod Series
 pub mod Faults
+pub mod Scratch
 pub mod Demand2
 pub mod Times
 pub mod Example

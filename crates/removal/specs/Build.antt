@@ -12,7 +12,11 @@ use Rattle.removal.specs.declared.rows.Layout.{Layout}
 use Rattle.removal.specs.Slots.{slots}
 use Rattle.removal.specs.Rows.{boundsIn, flagIn, Tabled, Ready}
 
--- the tables for c copies, e edges and n listed edges, one after the other
+-- the words that the tables for c copies, e edges and n listed edges take, besides the slots
+abbrev pub tableWords : ℕ → ℕ → ℕ → ℕ
+tableWords c e n = 4 * n + 6 * c + 3 * e
+
+-- these tables one after the other, and then the slots
 pub record LaidOut (c e n : ℕ) (l : Layout) : Type 0 where
   pub copies : l .copies ≡ c
   pub edges : l .edges ≡ e
@@ -23,7 +27,7 @@ pub record LaidOut (c e n : ℕ) (l : Layout) : Type 0 where
   pub low : l .low ≡ 4 * n
   pub into : l .into ≡ 4 * n + 4 * c
   pub out : l .out ≡ 4 * n + 5 * c + e
-  pub slots : l .slots ≡ 4 * n + 6 * c + 3 * e
+  pub slots : l .slots ≡ tableWords c e n
 
 -- what the lent slices are: a design's starts, a list that fits it, and a legal graph of it, all small enough
 pub record Given (D : Design) (L : PathList) (G : Graph) (starts listed lengths nodes from to via : List ℕ) : Type 0 where
@@ -38,7 +42,7 @@ pub record Given (D : Design) (L : PathList) (G : Graph) (starts listed lengths 
   pub few-copies : length nodes ≤ 16384
   pub few-edges : length from ≤ 65536
 
--- they are this of some design, and the scratch is as long as test 31 asks
+-- they are this of some design, and the tables fit the scratch, with a slot for each candidate
 pub record Buildable (starts listed lengths nodes from to via s : List ℕ) : Type 0 where
   pub design : Design
   pub list : PathList
@@ -46,7 +50,7 @@ pub record Buildable (starts listed lengths nodes from to via s : List ℕ) : Ty
   pub given : Given design list graph starts listed lengths nodes from to via
   pub starts-below : (k : ℕ) → getD starts k 0 < 4096
   pub nodes-below : (c : ℕ) → c < length nodes → getD nodes c 0 < 4096
-  pub room : 16 * (candidates design graph list + length listed + length from) ≤ length s
+  pub room : tableWords (length nodes) (length from) (length listed) + candidates design graph list ≤ length s
 
 -- the tables are filled for whatever design the slices are given of, and no slot is marked
 pub record Built (starts listed lengths nodes from to via s t : List ℕ) (l : Layout) : Type 0 where

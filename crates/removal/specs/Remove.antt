@@ -1,5 +1,5 @@
 -- What the passes find together, and what a whole removal answers and leaves behind.
-use Prim.Native.Nat.{ℕ, _+_, _*_, _≤_}
+use Prim.Native.Nat.{ℕ, _+_, _≤_}
 use mathlib.Core.Path.{_≡_}
 use mathlib.Core.List.{List, flatMap}
 use lib.ListN.{length, take}
@@ -14,7 +14,7 @@ use Rattle.removal.specs.declared.rows.Layout.{Layout}
 use Rattle.removal.specs.Result.{shownBelow}
 use Rattle.removal.specs.Rows.{Tabled}
 use Rattle.removal.specs.Fill.{EdgesInto, ShownReady, SameRooms, boundsNow, shownNow, edgesNow}
-use Rattle.removal.specs.Build.{Given}
+use Rattle.removal.specs.Build.{tableWords, Given}
 
 -- the lent slices are of a design, a list and a graph, and the edges into each copy are in order
 pub record Worked (D : Design) (L : PathList) (G : Graph) (starts listed lengths nodes from to via : List ℕ) : Type 0 where
@@ -29,10 +29,10 @@ pub record Workable (starts listed lengths nodes from to via : List ℕ) : Type 
   pub graph : Graph
   pub worked : Worked design list graph starts listed lengths nodes from to via
 
--- and the scratch is as long as test 31 asks
+-- and the tables fit the scratch, with a slot for each candidate
 pub record WorkableIn (starts listed lengths nodes from to via s : List ℕ) : Type 0 where
   pub work : Workable starts listed lengths nodes from to via
-  pub room : 16 * (candidates (work .design) (work .graph) (work .list) + length listed + length from) ≤ length s
+  pub room : tableWords (length nodes) (length from) (length listed) + candidates (work .design) (work .graph) (work .list) ≤ length s
 
 -- The passes over the slots are done: so many are shown, with so many edges between them.
 pub record AllFound (l : Layout) (listed nodes from to via t : List ℕ) (copies edges : ℕ) : Type 0 where

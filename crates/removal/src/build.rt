@@ -1,7 +1,6 @@
 // Lays out the tables in the scratch and fills them.
 ghost use mathlib.Core.Path.{_≡_};
-ghost use Prim.Native.Nat.{ℕ, _+_, _*_, _≤_, _<_};
-ghost use lib.Dec.{leb};
+ghost use Prim.Native.Nat.{ℕ, _≤_};
 ghost use lib.ListN.{length, getD};
 ghost use Rattle.timing.specs.Marks.{pathList};
 ghost use Rattle.timing.specs.Tests.{candidates};
@@ -106,7 +105,7 @@ fn count_copies(nodes: &[u32], counts: &[u32]) -> usize
     requires { ⌜ CopiesCountable (now nodes)
         × (length (now counts) ≡ 4096)
         × ((v : ℕ) → getD (now counts) v 0 ≤ 8192) ⌝ }
-    ensures { λ r. ⌜ (r ≡ shares (now (counts .entry)) (now (nodes .entry))) × (r ≤ 134234112) ⌝ }
+    ensures { λ r. ⌜ r ≡ shares (now (counts .entry)) (now (nodes .entry)) ⌝ }
 {
     let mut total: usize = 0;
     let mut c = 0;
@@ -127,19 +126,10 @@ pub(crate) fn count_candidates(
 ) -> usize
     requires { ⌜ ListCountable (now starts) (now listed) (now lengths) × CopiesCountable (now nodes) ⌝ }
     ensures { λ r.
-        ⌜ (r ≡ candidates (ofStarts (now (starts .entry))) (ofNodes (now (nodes .entry)))
-        (pathList (now (listed .entry)) (now (lengths .entry))))
-        × (r ≤ 134234112) ⌝ }
+        ⌜ r ≡ candidates (ofStarts (now (starts .entry))) (ofNodes (now (nodes .entry)))
+        (pathList (now (listed .entry)) (now (lengths .entry))) ⌝ }
 {
     let mut counts = [0u32; 4096];
     count_inner(starts, listed, lengths, &mut counts);
     count_copies(nodes, &counts)
-}
-
-// Whether the scratch is as long as test 31 asks.
-pub(crate) fn scratch_fits(words: usize, candidates: usize, positions: usize, edges: usize) -> bool
-    requires { ⌜ (candidates ≤ 134234112) × (positions ≤ 8192) × (edges ≤ 65536) ⌝ }
-    ensures { λ r. ⌜ r ≡ leb (16 * (candidates + positions + edges)) words ⌝ }
-{
-    16 * (candidates + positions + edges) <= words
 }

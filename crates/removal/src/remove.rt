@@ -4,7 +4,6 @@ ghost use Rattle.removal.specs.Fill.{SameRooms};
 ghost use Rattle.removal.specs.Remove.{Workable, WorkableIn, AllFound, Found, RoomAnswered, AllRemoved};
 use crate::build::build;
 use crate::build::count_candidates;
-use crate::build::scratch_fits;
 use crate::fill::fill_all;
 use crate::rows::Layout;
 use crate::rows::reach_all;
@@ -12,9 +11,9 @@ use crate::show::Counts;
 use crate::show::show_all;
 use entries::zero;
 use sizes::room_tests;
+use sizes::scratch_test;
 use timing::GraphMade;
 use timing::Verdict;
-use verdicts::refuse;
 
 // Where the tables stand, and how many slots are shown, with how many edges between them.
 struct Finding {
@@ -124,24 +123,25 @@ pub(crate) fn remove(
         (now («room_via» .exit)) (now (scratch .exit)) ⌝ }
 {
     let candidates = count_candidates(starts, listed, lengths, nodes);
-    if scratch_fits(scratch.len(), candidates, listed.len(), from.len()) {
-        let finding = search(starts, listed, lengths, nodes, from, to, via, scratch);
-        let made = write_result(
-            finding.layout,
-            finding.counts,
-            listed,
-            nodes,
-            from,
-            to,
-            via,
-            scratch,
-            room_nodes,
-            room_from,
-            room_to,
-            room_via,
-        );
-        zero(scratch);
-        return made;
+    let verdict = scratch_test(scratch.len(), candidates, listed.len(), from.len());
+    if let Verdict::Refused(r) = verdict {
+        return GraphMade::Refused(r);
     }
-    GraphMade::Refused(refuse(31, 0))
+    let finding = search(starts, listed, lengths, nodes, from, to, via, scratch);
+    let made = write_result(
+        finding.layout,
+        finding.counts,
+        listed,
+        nodes,
+        from,
+        to,
+        via,
+        scratch,
+        room_nodes,
+        room_from,
+        room_to,
+        room_via,
+    );
+    zero(scratch);
+    made
 }

@@ -1,5 +1,5 @@
-// Tests of lengths. 30: lent slices that belong together, and the lengths of the paths against the flat list. 33 and 34: a result
-// against its room.
+// Tests of lengths. 30: lent slices that belong together, and the lengths of the paths against the flat list. 31: the scratch. 33 and
+// 34: a result against its room.
 ghost use mathlib.Core.Path.{_≡_};
 ghost use Prim.Native.Nat.{ℕ, min};
 ghost use lib.Dec.{leb};
@@ -7,11 +7,12 @@ ghost use Rattle.timing.specs.Refusals.{_then_};
 ghost use Rattle.timing.specs.Refusals.{unless as passedIf};
 ghost use Rattle.timing.specs.Graphs.{design};
 ghost use Rattle.timing.specs.Marks.{pathList};
-ghost use Rattle.timing.specs.Tests.{sameSizes, designSizes, listSizes};
+ghost use Rattle.timing.specs.Tests.{sameSizes, designSizes, listSizes, scratchWords};
 use entries::least;
 use timing::MAX_COPIES;
 use timing::MAX_COPY_EDGES;
 use timing::Verdict;
+use timing::WORDS_PER_UNIT;
 use verdicts::same_sizes;
 use verdicts::then;
 use verdicts::unless;
@@ -53,6 +54,22 @@ pub fn and_list_sizes(before: Verdict, listed: &[u32], lengths: &[u32]) -> Verdi
         i += 1;
     }
     unless(30, left == 0)
+}
+
+// 31: scratch of so many words, for so many candidates, listed edges and edges of the graph worked on. What is left of those that
+// the words suffice for is counted down, so that no product and no sum wraps.
+pub fn scratch_test(words: usize, candidates: usize, listed: usize, edges: usize) -> Verdict
+    ensures { λ r. ⌜ r ≡ passedIf 31 (leb (scratchWords candidates listed edges) words) ⌝ }
+{
+    let units = words / WORDS_PER_UNIT;
+    if units < candidates {
+        return unless(31, false);
+    }
+    let left = units - candidates;
+    if left < listed {
+        return unless(31, false);
+    }
+    unless(31, edges <= left - listed)
 }
 
 // 33 and 34, from the counts of a result and the lent lengths for its copies and its edges.

@@ -16,9 +16,10 @@ use Rattle.timing.specs.WellFormed.{wellFormed}
 use Rattle.timing.specs.Refusals.{refusal, refusalWithin}
 use Rattle.timing.specs.Tests.{designTests, listTests, candidates, scratchTest, roomTests}
 use Rattle.timing.specs.Calls.{GraphSlices, graphSlices, removeFromDesign, removeFromGraph}
-use Rattle.timing.specs.Called.{Called, Ran, CalledDemand3}
+use Rattle.timing.specs.Called.{Called, Ran, CalledDemand3, SameAnswers}
 use Rattle.timing.proofs.Marked.{deckA}
 use Rattle.theorems.proofs.Called.{called-demand3}
+use Rattle.theorems.proofs.Scratch.{same-answers}
 
 abbrev pub words : ℕ → ℕ → List ℕ
 words n x = map (λ i. x) (upto n 0)
@@ -27,23 +28,29 @@ words n x = map (λ i. x) (upto n 0)
 abbrev pub roomFor : ℕ → GraphSlices
 roomFor n = graphSlices (words n 9) (words 6 9) (words 6 9) (words 6 9)
 
--- a call with 240 words of scratch, which hold x afterwards
-abbrev pub called : List ℕ → List ℕ → GraphSlices → GraphMade → GraphSlices → ℕ → Called
-called listed lengths room answer after x = record {
+-- a call with n words of scratch, which hold x afterwards
+abbrev pub calledWith : ℕ → List ℕ → List ℕ → GraphSlices → GraphMade → GraphSlices → ℕ → Called
+calledWith n listed lengths room answer after x = record {
   listed = listed;
   lengths = lengths;
   room = room;
-  scratch = words 240 9;
+  scratch = words n 9;
   answer = answer;
   after = after;
-  scratchAt = words 240 x;
+  scratchAt = words n x;
 }
+
+-- with 120, all that 31 asks of the last call below
+abbrev pub called : List ℕ → List ℕ → GraphSlices → GraphMade → GraphSlices → ℕ → Called
+called = calledWith 120
+
+abbrev pub afterA : GraphSlices
+afterA = graphSlices (0 ∷ 1 ∷ 2 ∷ 2 ∷ 3 ∷ 4 ∷ []) (0 ∷ 1 ∷ 0 ∷ 3 ∷ 2 ∷ 9 ∷ []) (2 ∷ 2 ∷ 3 ∷ 4 ∷ 5 ∷ 9 ∷ []) (0 ∷ 1 ∷ 0 ∷ 2 ∷ 3 ∷ 9 ∷ [])
 
 abbrev pub series : List Called
 series =
     called (2 ∷ 1 ∷ []) (2 ∷ []) (roomFor 6) (NoGraph (refusalWithin 24 0 1)) (roomFor 6) 9
-    ∷ called (1 ∷ 2 ∷ []) (2 ∷ []) (roomFor 6) (Counts 6 5)
-    (graphSlices (0 ∷ 1 ∷ 2 ∷ 2 ∷ 3 ∷ 4 ∷ []) (0 ∷ 1 ∷ 0 ∷ 3 ∷ 2 ∷ 9 ∷ []) (2 ∷ 2 ∷ 3 ∷ 4 ∷ 5 ∷ 9 ∷ []) (0 ∷ 1 ∷ 0 ∷ 2 ∷ 3 ∷ 9 ∷ [])) 0
+    ∷ called (1 ∷ 2 ∷ []) (2 ∷ []) (roomFor 6) (Counts 6 5) afterA 0
     ∷ called (0 ∷ 3 ∷ []) (2 ∷ []) (roomFor 5) (NoGraph (refusal 33 0)) (roomFor 5) 0
     ∷ called (0 ∷ 3 ∷ []) (2 ∷ []) (roomFor 6) (Counts 6 4)
     (graphSlices (0 ∷ 1 ∷ 2 ∷ 2 ∷ 3 ∷ 4 ∷ []) (1 ∷ 0 ∷ 3 ∷ 2 ∷ 9 ∷ 9 ∷ []) (2 ∷ 3 ∷ 4 ∷ 5 ∷ 9 ∷ 9 ∷ []) (1 ∷ 0 ∷ 2 ∷ 3 ∷ 9 ∷ 9 ∷ [])) 0
@@ -64,3 +71,14 @@ series-ran = (
 
 pub series-demand3 : CalledDemand3 deckA series
 series-demand3 = called-demand3 deckA series series-ran
+
+-- Deck A's list with 96 words of scratch, all that 31 asks, and with twice as many.
+abbrev pub madeWith : ℕ → Called
+madeWith n = calledWith n (1 ∷ 2 ∷ []) (2 ∷ []) (roomFor 6) (Counts 6 5) afterA 0
+
+pub half-answers : SameAnswers (madeWith 96) (madeWith 192)
+unfolding flatMap designGraph edgesIn edgesOut runsFrom completeRuns permitted tails mark permittedRuns copies joins trueGraph wellFormed designTests listTests candidates scratchTest roomTests removeFromDesign removeFromGraph
+half-answers =
+    same-answers deckA none (madeWith 96) (madeWith 192)
+    (record { answer = refl; nodes = refl; starts = refl; ends = refl; names = refl; scratch = refl })
+    (record { answer = refl; nodes = refl; starts = refl; ends = refl; names = refl; scratch = refl })

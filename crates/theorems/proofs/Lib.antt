@@ -29,8 +29,9 @@ pub mod Times
 pub mod Nodes
 pub mod Demand2Times
 pub mod Records
--- demand 3 of a series of calls
+-- demand 3 of a series of calls, and calls that differ in their scratch
 pub mod Called
+pub mod Scratch
 -- the hypotheses can be met
 pub mod Examples
 pub mod CalledExample

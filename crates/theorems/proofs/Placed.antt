@@ -18,7 +18,7 @@ use Rattle.timing.specs.Marks.{PathList, pathsOf}
 use Rattle.timing.specs.TrueGraphs.{trueGraph}
 use Rattle.timing.specs.WellFormed.{wellFormed}
 use Rattle.timing.specs.Refusals.{unless, firstFault, _then_}
-use Rattle.timing.specs.Tests.{sameSizes, designSizes, listSizes, designTests, listCounts, meets, emptyAt, firstUnknown, firstBreak, listTests, allowedTest, graphTest, candidates, scratchTest, roomSizes, roomTests}
+use Rattle.timing.specs.Tests.{sameSizes, designSizes, listSizes, designTests, listCounts, meets, emptyAt, firstUnknown, firstBreak, listTests, allowedTest, graphTest, candidates, scratchWords, scratchTest, roomSizes, roomTests}
 use Rattle.timing.specs.Calls.{GraphSlices, graphOf, graphSizes, testList, testDeck, refused, outcome, Removal, removalTests, removeFromDesign, removeFromGraph}
 use Rattle.timing.specs.Called.{removeOn}
 use Rattle.timing.specs.Faults.{Empty, Unknown, Broken, Placed}
@@ -79,7 +79,7 @@ module _ (n : ℕ) (low : 22 ≤ n) (high : n ≤ 24) where
       let copies = unless 33 (leb (length (H .nodes)) (min (R .nodes) 16384)) in
       let edges = unless 34 (leb (length (H .edges)) (min (R .starts) 65536)) in
       other-then n (scratchTest D G L (r .scratch)) (copies then edges)
-      (other-unless n 31 (λ h. omega arith) (leb (16 * (candidates D G L + length (L .edges) + length (G .edges))) (r .scratch)))
+      (other-unless n 31 (λ h. omega arith) (leb (scratchWords (candidates D G L) (length (L .edges)) (length (G .edges))) (r .scratch)))
       (other-then n copies edges (other-unless n 33 (λ h. omega arith) (leb (length (H .nodes)) (min (R .nodes) 16384))) (other-unless n 34 (λ h. omega arith) (leb (length (H .edges)) (min (R .starts) 65536))))
 
   module _ (x : Refusal) (number : x .number ≡ n) where

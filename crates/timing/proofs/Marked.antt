@@ -216,15 +216,23 @@ marked =
     -- A listed path inside another, and one listed twice: shuts out a mark by the first path that fits
     ∷ graphIs designM8 (pathList (0 ∷ 2 ∷ 3 ∷ 2 ∷ 3 ∷ 0 ∷ 2 ∷ 3 ∷ []) (3 ∷ 2 ∷ 3 ∷ []) ∷ [])
     (graph (0 ∷ 1 ∷ 2 ∷ 3 ∷ 5 ∷ []) (edge 0 2 0 ∷ edge 1 2 1 ∷ edge 2 3 2 ∷ edge 3 4 5 ∷ []))
-    -- Scratch: 16 words for 6 candidates, 2 listed edges and 4 edges, and one word less
-    ∷ removalIs deckA (removal listA ample 192) (made graphA)
-    ∷ removalIs deckA (removal listA ample 191) (refused (refusal 31 0))
+    -- Scratch: 8 words for 6 candidates, 2 listed edges and 4 edges, and one word less
+    ∷ removalIs deckA (removal listA ample 96) (made graphA)
+    ∷ removalIs deckA (removal listA ample 95) (refused (refusal 31 0))
+    -- Scratch for an earlier graph: 8 words for 8 candidates (2 copies of node 2), 2 listed edges and 5 edges, and one word less
+    ∷ againIs deckA graphA (removal (pathList (0 ∷ 3 ∷ []) (2 ∷ [])) ample 120)
+    (made (graph (0 ∷ 1 ∷ 2 ∷ 2 ∷ 3 ∷ 4 ∷ []) (edge 1 2 1 ∷ edge 0 3 0 ∷ edge 3 4 2 ∷ edge 2 5 3 ∷ [])))
+    ∷ againIs deckA graphA (removal (pathList (0 ∷ 3 ∷ []) (2 ∷ [])) ample 119) (refused (refusal 31 0))
+    -- Scratch: 8 words for a node, and one word less; none for no nodes
+    ∷ removalIs oneNode (removal noPaths ample 8) (made (graph (0 ∷ []) []))
+    ∷ removalIs oneNode (removal noPaths ample 7) (refused (refusal 31 0))
+    ∷ removalIs noNodes (removal noPaths ample 0) (made (graph [] []))
     -- Room: 5 copies on A; 4 edges on A; rooms that differ in length come before a bad edge
-    ∷ removalIs deckA (removal listA (room 5 9 9 9) 192) (refused (refusal 33 0))
-    ∷ removalIs deckA (removal listA (room 6 4 4 4) 192) (refused (refusal 34 0))
-    ∷ removalIs falling (removal noPaths (room 6 4 3 4) 192) (refused (refusal 30 0))
+    ∷ removalIs deckA (removal listA (room 5 9 9 9) 96) (refused (refusal 33 0))
+    ∷ removalIs deckA (removal listA (room 6 4 4 4) 96) (refused (refusal 34 0))
+    ∷ removalIs falling (removal noPaths (room 6 4 3 4) 96) (refused (refusal 30 0))
     -- One number over everything before the next: 12 at edge 1 before 13 at edge 0; 23 at path 1 before 24 at path 0
-    ∷ removalIs fallingAndUnknown (removal noPaths ample 192) (refused (refusal 12 1))
+    ∷ removalIs fallingAndUnknown (removal noPaths ample 96) (refused (refusal 12 1))
     ∷ removalIs deckA (removal (pathList (2 ∷ 1 ∷ 9 ∷ []) (2 ∷ 1 ∷ [])) ample 999) (refused (refusalWithin 23 1 0))
     ∷ removalIs deckA (removal (pathList (0 ∷ 2 ∷ 2 ∷ 1 ∷ []) (2 ∷ 2 ∷ [])) ample 999) (refused (refusalWithin 24 1 1))
     -- Which edge of the path: 02's example, as the deck program has it; the C call's place is the path, 2, and not the index, 1
@@ -265,4 +273,5 @@ marked-hold =
     refl also refl also refl also refl also refl also refl also refl also refl also refl also refl also refl also
     refl also refl also refl also refl also refl also refl also refl also refl also refl also refl also refl also
     refl also refl also refl also refl also refl also refl also refl also refl also refl also refl also refl also
-    refl also refl also refl also refl also refl also refl also refl also refl also none
+    refl also refl also refl also refl also refl also refl also refl also refl also refl also refl also refl also
+    refl also refl also none

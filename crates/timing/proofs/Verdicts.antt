@@ -31,6 +31,10 @@ pub unless-passed : (number : ℕ) (fit : Bool) → unless number fit ≡ Passed
 unless-passed number true e = refl
 unless-passed number false e = absurd (refused-passed (refusal number 0) e)
 
+pub unless-refused : (number : ℕ) (fit : Bool) (r : Refusal) → unless number fit ≡ Refused r → refusal number 0 ≡ r
+unless-refused number true r e = absurd (refused-passed r (sym e))
+unless-refused number false r e = cc
+
 -- The code passes a verdict on from test to test, the definitions group a chain to the right: it is the same chain.
 pub then-assoc : (u v w : Verdict) → ((u then v) then w) ≡ (u then v then w)
 then-assoc Passed v w = refl

@@ -11,6 +11,7 @@ use Rattle.timing.specs.declared.GraphMade.{GraphMade}
 use Rattle.timing.specs.declared.GraphMade.the-variants.{Counts}
 use Rattle.timing.specs.declared.GraphMade.the-variants.{Refused as NoGraph}
 use Rattle.timing.specs.Graphs.{Design, Graph}
+use Rattle.timing.specs.Refusals.{refusal}
 use Rattle.timing.specs.Calls.{GraphSlices, graphSlices, slicesOf, Outcome, Removal, lentRemoval, removeFromDesign, removeFromGraph, graphAnswer, nodesAfter, startsAfter, endsAfter, namesAfter, scratchAfter}
 use Rattle.timing.specs.Series.{verdictsAlone, wholeAfter, HeldIs}
 
@@ -91,3 +92,14 @@ pub record CalledDemand3 (D : Design) (cs : List Called) : Type 0 where
   pub slices : lastHeld none cs ≡ slicesHeld held
   pub counts : lastCounts none cs ≡ countsHeld held
   pub graph : HeldIs D (wholeAfter D none (map removalOf cs)) held
+
+-- "The same answers must come from 8 words" (02, request 9), and from any more: two calls that were lent the same but for the scratch,
+-- and of which none is refused 31, answer the same and leave the same in the room.
+abbrev pub SameAnswers : Called → Called → Type 0
+SameAnswers a b =
+    a .listed ≡ b .listed
+    → a .lengths ≡ b .lengths
+    → a .room ≡ b .room
+    → (a .answer ≡ NoGraph (refusal 31 0) → ⊥)
+    → (b .answer ≡ NoGraph (refusal 31 0) → ⊥)
+    → (a .answer ≡ b .answer) × (a .after ≡ b .after)

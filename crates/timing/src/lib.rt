@@ -19,6 +19,9 @@ pub const MAX_COPY_EDGES: usize = 65536;
 
 pub const MAX_DECK_BYTES: usize = 65536;
 
+// Of scratch, for each candidate, listed edge and edge of the graph worked on.
+pub const WORDS_PER_UNIT: usize = 8;
+
 // A refusal: document 01's number, and the place of the fault. Where the place is a path (22 to 24), `index`
 // is a second one: that of an edge within the path, or 0 where the path is empty. Else it is 0.
 pub struct Refusal {

@@ -14,7 +14,7 @@ use Rattle.timing.specs.Marks.{PathList, pathsOf}
 use Rattle.timing.specs.TrueGraphs.{trueGraph}
 use Rattle.timing.specs.WellFormed.{wellFormed}
 use Rattle.timing.specs.Refusals.{unless, _then_}
-use Rattle.timing.specs.Tests.{sameSizes, designSizes, listSizes, designTests, listTests, allowedTest, graphTest, candidates, scratchTest, Room, roomSizes, roomTests}
+use Rattle.timing.specs.Tests.{sameSizes, designSizes, listSizes, designTests, listTests, allowedTest, graphTest, candidates, scratchWords, scratchTest, Room, roomSizes, roomTests}
 use Rattle.timing.specs.Calls.{GraphSlices, graphOf, graphSizes, outcome, Removal, removeFromDesign, removeFromGraph, graphAnswer, testTimes}
 use Rattle.theorems.proofs.Lists.{holds}
 use Rattle.timing.proofs.Verdicts.{every-then, every-unless}
@@ -40,7 +40,7 @@ small-list D L =
 
 pub small-scratch : (D : Design) (G : Graph) (L : PathList) (words : ℕ) → Small (scratchTest D G L words)
 unfolding scratchTest
-small-scratch D G L words = small-unless 31 (omega arith) (leb (16 * (candidates D G L + length (L .edges) + length (G .edges))) words)
+small-scratch D G L words = small-unless 31 (omega arith) (leb (scratchWords (candidates D G L) (length (L .edges)) (length (G .edges))) words)
 
 -- what is made has passed 33 and 34
 small-made : (R : Room) (H : Graph) (v : Verdict) → Small v → SmallGraph (graphAnswer (outcome (v then roomTests R H) H))

@@ -23,7 +23,7 @@ use Rattle.removal.specs.Ranks.{RestsFall, Ranked}
 use Rattle.removal.specs.Tails.{LinkedTo, Orderable, Tabulated}
 use Rattle.removal.specs.Search.{ofStarts, ofNodes, boundsAt, Searchable, Fillable, Filled}
 use Rattle.removal.specs.Rows.{Laid, Tabled, Ready, boundsIn, orderIn, flagIn}
-use Rattle.removal.specs.Build.{LaidOut, Given, Buildable, Built}
+use Rattle.removal.specs.Build.{tableWords, LaidOut, Given, Buildable, Built}
 use Rattle.removal.proofs.Building.Region.{table-at}
 use Rattle.removal.proofs.Listing.RestLaws.{rest-table}
 use Rattle.removal.proofs.Showing.IntoLaws.{edgeAt, edges-map}
@@ -43,10 +43,6 @@ module _ (copies edges positions : ℕ) (l : Layout) (w : LaidOut copies edges p
     named = omega (arith, w .out, w .slots, w .copies, w .edges);
     size = e;
   }
-
-  -- test 31 asks for 16 words each, so that the tables and a slot for each candidate fit
-  pub laid-room : (n : ℕ) → copies ≤ n → l .slots + n ≤ 8 * (n + positions + edges)
-  laid-room n h = omega (arith, w .slots)
 
 -- a table among the first n words
 take-part : (n b m : ℕ) (s : List ℕ) → b + m ≤ n → take m (drop b (take n s)) ≡ take m (drop b s)
@@ -93,7 +89,7 @@ copies-sum : (f : ℕ → ℕ) (nodes : List ℕ) → length nodes ≤ sum (map 
 copies-sum f [] = omega arith
 copies-sum f (v ∷ nodes) = omega (arith, copies-sum f nodes)
 
-copies-candidates : (D : Design) (G : Graph) (L : PathList) → length (G .nodes) ≤ candidates D G L
+pub copies-candidates : (D : Design) (G : Graph) (L : PathList) → length (G .nodes) ≤ candidates D G L
 unfolding candidates
 copies-candidates D G L = copies-sum _ (G .nodes)
 
@@ -135,9 +131,9 @@ module _ (D : Design) (L : PathList) (G : Graph) (starts listed lengths nodes fr
       (subst (λ (v : List ℕ). Bounded (ofStarts (D .starts)) (pathList listed lengths) (ofNodes v) o B c) (sym (g .copies))
       (subst (λ (v : List ℕ). Bounded (ofStarts v) (pathList listed lengths) (ofNodes nodes) o B c) (sym (g .design)) b)))
 
-  module _ (s₀ : List ℕ) (room : 16 * (candidates D G L + length listed + length from) ≤ length s₀) where
+  module _ (s₀ : List ℕ) (room : tableWords (length nodes) (length from) (length listed) + candidates D G L ≤ length s₀) where
     enough : l .slots + candidates D G L ≤ length s₀
-    enough = omega (arith, room, laid-room (length nodes) (length from) (length listed) l w (candidates D G L) (omega (arith, copies-candidates D G L, ap length (g .copies))))
+    enough = omega (arith, room, w .slots)
 
     pub rest-room : l .rest + sum lengths ≤ length s₀
     rest-room = omega (arith, enough, w .rest, w .slots, list-fits .total)
@@ -374,7 +370,7 @@ module _ (starts listed lengths nodes from to via : List ℕ) where
   candidates-given D L G g = candidates-slices D L G starts listed lengths nodes (g .design) (g .list) (g .copies)
 
   pub given-room : (s : List ℕ) → Buildable starts listed lengths nodes from to via s → (D : Design) (L : PathList) (G : Graph)
-      → Given D L G starts listed lengths nodes from to via → 16 * (candidates D G L + length listed + length from) ≤ length s
+      → Given D L G starts listed lengths nodes from to via → tableWords (length nodes) (length from) (length listed) + candidates D G L ≤ length s
   given-room s b D L G g = omega (arith, candidates-given D L G g, candidates-given (b .design) (b .list) (b .graph) (b .given), b .room)
 
   pub built : (s₀ s₁ s₂ s₃ s₄ s₅ s₆ : List ℕ) (l : Layout) (total : ℕ) → Buildable starts listed lengths nodes from to via s₀

@@ -1,5 +1,5 @@
 -- What a removal answers, from the counts of what was found: 31, 33 and 34 as `timing` states them, the room and the scratch.
-use Prim.Native.Nat.{ℕ, zero, _+_, _*_, _≤_, _<_, min}
+use Prim.Native.Nat.{ℕ, zero, _+_, _≤_, _<_, min}
 use native.Mathlib.Omega.{arith}
 use mathlib.Core.Path.{_≡_, refl, sym, ap, _∙_, subst}
 use mathlib.Core.Bool.{Bool, true, false}
@@ -16,20 +16,20 @@ use Rattle.timing.specs.Graphs.{Design, Graph, edgesIn}
 use Rattle.timing.specs.Marks.{PathList, pathsOf, pathList}
 use Rattle.timing.specs.TrueGraphs.{trueGraph}
 use Rattle.timing.specs.Refusals.{refusal, unless, _then_}
-use Rattle.timing.specs.Tests.{candidates, scratchTest, Room, roomTests}
+use Rattle.timing.specs.Tests.{candidates, scratchWords, scratchTest, Room, roomTests}
 use Rattle.timing.specs.Calls.{outcome, graphSlices, roomOf, scratchAfter}
 use Rattle.theorems.proofs.Lists.{holds}
-use Rattle.timing.proofs.Verdicts.{then-passed, unless-passed}
+use Rattle.timing.proofs.Verdicts.{then-passed, unless-passed, unless-refused}
 use Rattle.theorems.proofs.Tested.{ListFits}
 use Rattle.removal.specs.declared.rows.Layout.{Layout}
 use Rattle.removal.specs.Rows.{Tabled}
 use Rattle.removal.specs.Fill.{EdgesInto, ResultFilled}
 use Rattle.removal.specs.Search.{ofStarts, ofNodes}
-use Rattle.removal.specs.Build.{Given}
+use Rattle.removal.specs.Build.{tableWords, Given}
 use Rattle.removal.specs.Counts.{ListCountable, CopiesCountable}
 use Rattle.removal.specs.Remove.{Worked, Workable, WorkableIn, AllFound, Found, Answered, roomOutcome, RoomAnswered, Removed, AllRemoved}
 use Rattle.removal.proofs.Showing.IntoLaws.{length-edges}
-use Rattle.removal.proofs.Building.BuildLaws.{candidates-slices}
+use Rattle.removal.proofs.Building.BuildLaws.{copies-candidates, candidates-slices}
 use Rattle.removal.proofs.Building.CountLaws.{list-countable, copies-countable}
 
 -- 33 and 34 of counts
@@ -103,7 +103,14 @@ module _ (starts listed lengths nodes from to via room-nodes room-from room-to r
         scratch = z ∙ ap (λ (n : ℕ). replicate n 0) (f .size) ∙ zeros s ∙ room-scratch (roomOf (graphSlices room-nodes room-from room-to room-via)) (trueGraph G (pathsOf L)) s;
       }
 
--- 31, from the count of candidates
+-- 31 of a count of candidates
+abbrev pub wordsTest : ℕ → ℕ → ℕ → ℕ → Verdict
+wordsTest count listed edges words = unless 31 (leb (scratchWords count listed edges) words)
+
+-- What it asks is enough for the tables: each copy is a candidate, so that with its slot it takes seven words of its eight.
+tables-fit : (copies count listed edges : ℕ) → copies ≤ count → tableWords copies edges listed + count ≤ scratchWords count listed edges
+tables-fit copies count listed edges h = omega arith
+
 module _ (starts listed lengths nodes from to via : List ℕ) where
   pub work-countable : Workable starts listed lengths nodes from to via → ListCountable starts listed lengths × CopiesCountable nodes
   work-countable x =
@@ -116,30 +123,42 @@ module _ (starts listed lengths nodes from to via : List ℕ) where
     count-is : (D : Design) (L : PathList) (G : Graph) → Given D L G starts listed lengths nodes from to via → count ≡ candidates D G L
     count-is D L G g = e ∙ sym (candidates-slices D L G starts listed lengths nodes (g .design) (g .list) (g .copies))
 
-    pub work-in : (s : List ℕ) → Workable starts listed lengths nodes from to via → T (leb (16 * (count + length listed + length from)) (length s))
+    pub work-in : (s : List ℕ) → Workable starts listed lengths nodes from to via → wordsTest count (length listed) (length from) (length s) ≡ Passed
         → WorkableIn starts listed lengths nodes from to via s
-    work-in s x t =
-        record { work = x; room = omega (arith, leb→le (16 * (count + length listed + length from)) (length s) t, count-is (x .design) (x .list) (x .graph) (x .worked .given)) }
+    work-in s x p =
+        let g = x .worked .given in
+        let asked = scratchWords count (length listed) (length from) in
+        let long = leb→le asked (length s) (holds (leb asked (length s)) (unless-passed 31 (leb asked (length s)) p)) in
+        let is = count-is (x .design) (x .list) (x .graph) g in
+        let copies : length nodes ≤ count = omega (arith, is, copies-candidates (x .design) (x .graph) (x .list), ap length (g .copies)) in
+        record { work = x; room = omega (arith, long, is, tables-fit (length nodes) count (length listed) (length from) copies) }
 
     scratch-is : (s : List ℕ) (D : Design) (L : PathList) (G : Graph) → Worked D L G starts listed lengths nodes from to via
-        → unless 31 (leb (16 * (count + length listed + length from)) (length s)) ≡ scratchTest D G L (length s)
+        → wordsTest count (length listed) (length from) (length s) ≡ scratchTest D G L (length s)
     unfolding scratchTest
     scratch-is s D L G w =
         let g = w .given in
-        λ i. unless 31 (leb (16 * (count-is D L G g i + length (sym (g .list) i .edges) + sym (ap length (g .edges) ∙ length-edges from to via (g .ends) (g .names)) i)) (length s))
+        λ i. wordsTest (count-is D L G g i) (length (sym (g .list) i .edges)) (sym (ap length (g .edges) ∙ length-edges from to via (g .ends) (g .names)) i) (length s)
 
     module _ (room-nodes room-from room-to room-via s : List ℕ) where
-      pub removed-refused : leb (16 * (count + length listed + length from)) (length s) ≡ false
-          → AllRemoved starts listed lengths nodes from to via (NoGraph (refusal 31 0)) room-nodes room-from room-to room-via s room-nodes room-from room-to room-via s
+      pub removed-refused : (r : Refusal) → wordsTest count (length listed) (length from) (length s) ≡ Refused r
+          → AllRemoved starts listed lengths nodes from to via (NoGraph r) room-nodes room-from room-to room-via s room-nodes room-from room-to room-via s
       unfolding AllRemoved
-      removed-refused f D L G w =
+      removed-refused r f D L G w =
           subst
           (λ (v : Verdict).
-          Removed (outcome (v then roomTests (roomOf (graphSlices room-nodes room-from room-to room-via)) (trueGraph G (pathsOf L))) (trueGraph G (pathsOf L))) (NoGraph (refusal 31 0)) room-nodes room-from room-to room-via s room-nodes room-from room-to room-via s)
-          (ap (unless 31) (sym f) ∙ scratch-is s D L G w)
-          (record { answered = record { answer = refl; nodes = refl; starts = refl; ends = refl; names = refl }; scratch = refl })
+          Removed (outcome (v then roomTests (roomOf (graphSlices room-nodes room-from room-to room-via)) (trueGraph G (pathsOf L))) (trueGraph G (pathsOf L))) (NoGraph r) room-nodes room-from room-to room-via s room-nodes room-from room-to room-via s)
+          (sym f ∙ scratch-is s D L G w)
+          (record { answered = record { answer = refl; nodes = refl; starts = refl; ends = refl; names = refl }; scratch = kept })
+        where
+          asked : ℕ
+          asked = scratchWords count (length listed) (length from)
 
-      pub removed-made : leb (16 * (count + length listed + length from)) (length s) ≡ true → (r : GraphMade) (room-nodes′ room-from′ room-to′ room-via′ s′ : List ℕ)
+          -- a refusal by 31 leaves the scratch
+          kept : s ≡ scratchAfter (outcome (Refused r) (trueGraph G (pathsOf L))) s
+          kept = ap (λ (x : Refusal). scratchAfter (outcome (Refused x) (trueGraph G (pathsOf L))) s) (unless-refused 31 (leb asked (length s)) r f)
+
+      pub removed-made : wordsTest count (length listed) (length from) (length s) ≡ Passed → (r : GraphMade) (room-nodes′ room-from′ room-to′ room-via′ s′ : List ℕ)
           → SearchRemoved starts listed lengths nodes from to via r room-nodes room-from room-to room-via s room-nodes′ room-from′ room-to′ room-via′ s′
           → AllRemoved starts listed lengths nodes from to via r room-nodes room-from room-to room-via s room-nodes′ room-from′ room-to′ room-via′ s′
       unfolding AllRemoved SearchRemoved
@@ -147,5 +166,5 @@ module _ (starts listed lengths nodes from to via : List ℕ) where
           subst
           (λ (v : Verdict).
           Removed (outcome (v then roomTests (roomOf (graphSlices room-nodes room-from room-to room-via)) (trueGraph G (pathsOf L))) (trueGraph G (pathsOf L))) r room-nodes room-from room-to room-via s room-nodes′ room-from′ room-to′ room-via′ s′)
-          (ap (unless 31) (sym f) ∙ scratch-is s D L G w)
+          (sym f ∙ scratch-is s D L G w)
           (x D L G w)

@@ -23,11 +23,9 @@ returns : tie.Need-returns
 returns c =
     let i = c .before .before .before in
     let st = i .before .before .before .before .before .before in
-    let a = st .args in (
-      c .count-copies .ensures .0
-          ∙ shares-candidates (a .starts .now) (a .listed .now) (a .lengths .now) (a .nodes .now) (i .count-inner .last .1 .1 .1 .0) (st .pre .1) (i .count-inner .ensures),
-      c .count-copies .ensures .1,
-    )
+    let a = st .args in
+    c .count-copies .ensures
+    ∙ shares-candidates (a .starts .now) (a .listed .now) (a .lengths .now) (a .nodes .now) (i .count-inner .last .1 .1 .1 .0) (st .pre .1) (i .count-inner .ensures)
 
 pub count-candidates-spec : {M : Type 1} → statement M
 count-candidates-spec =

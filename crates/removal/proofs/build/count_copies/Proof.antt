@@ -67,10 +67,8 @@ loop-again c =
 returns : tie.Need-returns Inv-loop μ-loop
 returns c =
     let l = c .before in
-    let st = l .before in
-    let a = st .args in
-    let e = shares-done (a .counts .now) (a .nodes .now) (l .loop .c) (c .loop-test .left) in
-    (omega (arith, l .loop .inv .1, e), omega (arith, l .loop .inv .2, l .loop .inv .0, st .pre .0 .few))
+    let a = l .before .args in
+    omega (arith, l .loop .inv .1, shares-done (a .counts .now) (a .nodes .now) (l .loop .c) (c .loop-test .left))
 
 pub count-copies-spec : {M : Type 1} → statement M
 count-copies-spec =
