@@ -57,10 +57,12 @@ int64_t jaqhweni_remove_from_design(DESIGN_PARAMETERS, LIST_PARAMETERS, ROOM_PAR
 
 int64_t jaqhweni_remove_from_graph(DESIGN_PARAMETERS, LIST_PARAMETERS, GRAPH_PARAMETERS, ROOM_PARAMETERS)
 {
-    if (FAULT == 19) scratch_length /= 2;                                                   /* asks for 16 words, where 8 are enough */
+    size_t lent_length = scratch_length;
     if (FAULT == 8 && listed_length > 0)                                                    /* cuts on nothing but the first edge's path */
         return reference_remove_from_graph(DESIGN_SLICES, listed, lengths[0], lengths, 1, GRAPH_SLICES, ROOM_SLICES);
+    if (FAULT == 19) scratch_length /= 2;                                                   /* asks for 16 words, where 8 are enough */
     int64_t made = reference_remove_from_graph(DESIGN_SLICES, LIST_SLICES, GRAPH_SLICES, ROOM_SLICES);
+    if (FAULT == 19 && (made >= 0 || made == -33 || made == -34)) memset(scratch, 0, lent_length * sizeof *scratch);
     if (FAULT == 9 && made > 0 && scratch_length > 0) scratch[scratch_length - 1] = 1;      /* leaves a word */
     if (FAULT == 10 && made > 0 && nodes_length > 0) ((uint32_t *)(uintptr_t)nodes)[0]++;           /* writes what is only lent to read */
     return made;

@@ -242,10 +242,10 @@ def full_design():
     """4,096 nodes, 16,384 edges, 1,024 paths and 8,192 listed edges; and a further list. Rows of eight hops, and a node by itself."""
     edges, rows = rows_of_hops(455, (2, 1, 2, 1, 1, 1, 1, 27))
     edges += [(9 * row + 7, 9 * row + 8, 5) for row in range(4)]
-    both = [[[hop[(k >> at) % len(hop)] for at, hop in enumerate(hops)] for hops in rows] for k in (0, 5, 129)]
-    design = decks.deck_of(4096, edges, [], 0).design
-    assert len(edges) == 16384
-    return design, decks.path_list_of((both[0] + both[1] + both[2])[:1024]), decks.path_list_of([path[2:] for path in both[1][:60]])
+    one, two, three = [[[hop[(k >> at) % len(hop)] for at, hop in enumerate(hops)] for hops in rows] for k in (0, 5, 129)]
+    path_list, further = decks.path_list_of((one + two + three)[:1024]), decks.path_list_of([path[2:] for path in two[:60]])
+    assert (len(edges), len(path_list.lengths), len(path_list.flat)) == (16384, 1024, 8192)
+    return decks.deck_of(4096, edges, [], 0).design, path_list, further
 
 
 def full_graph():
@@ -265,10 +265,14 @@ def at_the_limits():
     def done(series):
         return [("limits", request) for request in series.requests]
 
-    for nodes, refusal in ((4096, None), (4097, (10, 0))):
-        series = Recorded(Design(nodes, [], [], []), "%d isolated nodes" % nodes)
-        assert series.add(DESIGN, PathList([], []), Room(nodes, 0, 0, 0), walker.WORDS_PER_UNIT * nodes) == refusal
-        yield from done(series)
+    # nodes by themselves leave the least of the scratch unused
+    series = Recorded(Design(4096, [], [], []), "4,096 isolated nodes")
+    thresholds(series, DESIGN, PathList([], []))
+    thresholds(series, HELD, PathList([], []))
+    yield from done(series)
+    series = Recorded(Design(4097, [], [], []), "4,097 isolated nodes")
+    assert series.add(DESIGN, PathList([], []), Room(4097, 0, 0, 0), walker.WORDS_PER_UNIT * 4097) == (10, 0)
+    yield from done(series)
     design, path_list, further = full_design()
     series = Recorded(design, "a design at its limits")
     thresholds(series, DESIGN, path_list)

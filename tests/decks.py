@@ -250,7 +250,7 @@ def fixed_decks():
     decks += [deck_of(2, [(0, 1, delay)], [], 10)
               for delay in (-1_000_000, 1_000_000, -1_000_001, 1_000_001, 2 ** 31 - 1, -2 ** 31)]
     decks += [deck_of(nodes, [], [], 5) for nodes in (511, 512, 513, 2047, 2048, 2049, 4096, 4097)]
-    decks += [deck_of(2, parallel(count), [], 5) for count in (1021, 1022, 1023, 1024, 1025, 16384, 16385)]
+    decks += [deck_of(2, parallel(count), [], 5) for count in (1023, 1024, 1025, 16384, 16385)]
     decks += [full(extra) for extra in (0, 1)]                                        # 16,384 words of scratch, and 16,392
     decks += [wide(extra) for extra in (1, 32, 33)]                                   # 2,017, 2,048, 2,049
     decks += [chain(8, [[0]] * count) for count in (255, 256, 257, 1024, 1025)]

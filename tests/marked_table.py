@@ -391,4 +391,5 @@ def main():
     print("marked_table: %d facts" % sum(len(facts) for _, facts in ROWS))
 
 
-main()
+if __name__ == "__main__":
+    main()

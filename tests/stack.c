@@ -125,10 +125,10 @@ static int64_t measure(const call *c, const char *input, int refused)
 
 static void decks(void)
 {
-    random_design(&d, 120, 400, 12);
-    random_paths(&list, &d, 40, 5);
+    random_design(&d, 180, 800, 12);
+    random_paths(&list, &d, 60, 5);
     deck_length = pack_deck(deck, &d, &list);
-    measure(&TRUE_GRAPH, "400 edges, 40 paths of 5", 0);
+    measure(&TRUE_GRAPH, "800 edges, 60 paths of 5", 0);
     random_design(&d, 1000, 1024, 12);
     random_paths(&list, &d, 256, 4);
     deck_length = pack_deck(deck, &d, &list);

@@ -12,13 +12,13 @@ use Rattle.timing.specs.Graphs.{Design, Graph, designGraph}
 use Rattle.timing.specs.Marks.{pathsOf}
 use Rattle.timing.specs.Calls.{GraphSlices, graphOf, slicesOf, Outcome, made, refused, Removal, graphAnswer}
 use Rattle.timing.specs.Series.{heldAfter, wholeAfter}
-use Rattle.timing.specs.Called.{Called, removalOf, Meets, removeOn, front, heldSlices, lastHeld, slicesHeld}
+use Rattle.timing.specs.Called.{removalOf, Meets, removeOn, front, heldSlices, lastHeld, slicesHeld, graphOn}
 use Rattle.timing.specs.Demands.{Demand2}
 use Rattle.theorems.proofs.Series.{graph-slices}
 use Rattle.theorems.proofs.Records.{removed-demand2, further-demand2}
 use Rattle.theorems.proofs.Records.{series-demand2 as held-demand2}
 use Rattle.theorems.proofs.Called.{front-held, ran-beside}
-use Rattle.called.specs.Removals.{Call, designOf, earlierOf, calledOf, graphOn, workedOn, pathsIn, Follows}
+use Rattle.called.specs.Removals.{Call, designOf, earlierOf, calledOf, workedOn, pathsIn, Follows}
 use Rattle.called.proofs.Series.{meets, ran}
 
 -- ---- a call that answered counts

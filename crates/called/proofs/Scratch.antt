@@ -1,5 +1,4 @@
--- Of two calls of a removal that were lent the same but for the scratch, and of which none is refused 31, the answers are one, and so are the
--- rooms.
+-- A call of a removal with the words that 31 asks answers what one does that was lent the same and any other scratch, and is not refused 31.
 use mathlib.Core.Path.{_≡_, subst}
 use mathlib.Core.Option.{Option}
 use Rattle.timing.specs.Graphs.{Design}
@@ -9,7 +8,8 @@ use Rattle.theorems.proofs.Scratch.{same-answers}
 use Rattle.called.specs.Removals.{Call, designOf, earlierOf, calledOf}
 use Rattle.called.proofs.Series.{meets}
 
-pub call-same-answers : (a b : Call) → designOf a ≡ designOf b → earlierOf a ≡ earlierOf b → SameAnswers (calledOf a) (calledOf b)
+pub call-same-answers : (a b : Call) → designOf a ≡ designOf b → earlierOf a ≡ earlierOf b
+    → SameAnswers (designOf b) (earlierOf b) (calledOf a) (calledOf b)
 call-same-answers a b d h =
     same-answers (designOf b) (earlierOf b) (calledOf a) (calledOf b)
     (subst (λ (S : Option GraphSlices). Meets (removeOn (designOf b) S (removalOf (calledOf a))) (calledOf a)) h

@@ -1,7 +1,7 @@
 -- Whose times `times` leaves and `node_record` answers, over the calls one after the other: removals, `times` on the slices that
 -- they left, `node_record` on what that left.
 use Prim.Native.Nat.{ℕ, _<_}
-use mathlib.Core.Path.{_≡_, refl, sym, ap, _∙_, subst}
+use mathlib.Core.Path.{_≡_, sym, ap, _∙_, subst}
 use mathlib.Core.List.{List, map}
 use mathlib.Core.Option.{Option, none, some}
 use native.Mathlib.Omega.{arith}
@@ -16,12 +16,12 @@ use Rattle.timing.specs.Marks.{pathsOf}
 use Rattle.timing.specs.TrueGraphs.{trueGraph}
 use Rattle.timing.specs.Calls.{GraphSlices, slicesOf, made, Removal, testTimes, arrivalsAfter, requiredsAfter, slacksAfter, recordOf}
 use Rattle.timing.specs.Series.{wholeAfter, Renumbered}
-use Rattle.timing.specs.Called.{removalOf, removeOn, front, lastHeld}
+use Rattle.timing.specs.Called.{removalOf, removeOn, front, lastHeld, graphOn}
 use Rattle.timing.specs.Paths.{PassesAt, Shows, pairOf}
-use Rattle.timing.specs.Demands.{PathBest, PathTimes, TimesOfPaths, RecordOfPaths}
+use Rattle.timing.specs.Demands.{PathBest, PathTimes, TimesOfPaths}
 use Rattle.theorems.proofs.Records.{removed-copy-times, further-copy-times, series-copy-times}
 use Rattle.theorems.proofs.Records.{series-record as held-record}
-use Rattle.called.specs.Removals.{Call, designOf, earlierOf, calledOf, graphOn, workedOn, pathsIn, Follows}
+use Rattle.called.specs.Removals.{Call, designOf, earlierOf, calledOf, workedOn, pathsIn, Follows}
 use Rattle.called.specs.Times.{TimesCall, timedDesign, allowedTime, timedGraph, arrivalsLeft, requiredsLeft, slacksLeft, TimesLeft, RecordCall, askedNode, RecordAfter}
 use Rattle.called.proofs.Demand2.{made-by, held-by}
 

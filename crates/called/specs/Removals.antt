@@ -7,10 +7,10 @@ use mathlib.Core.Option.{Option, none, some}
 use contract.Lifetimes.{Lfts}
 use borrow.Fn.World.{ArgsD, ResD}
 use denote.Triple.Clauses.{AtExit}
-use Rattle.timing.specs.Graphs.{Design, design, Graph, designGraph}
+use Rattle.timing.specs.Graphs.{Design, design, Graph}
 use Rattle.timing.specs.Marks.{pathList, pathsOf}
-use Rattle.timing.specs.Calls.{GraphSlices, graphSlices, graphOf}
-use Rattle.timing.specs.Called.{Called, heldSlices}
+use Rattle.timing.specs.Calls.{GraphSlices, graphSlices}
+use Rattle.timing.specs.Called.{Called, heldSlices, graphOn}
 use Rattle.removal.proofs.remove_from_design.{signature as designSignature, ended as designEnded}
 use Rattle.removal.proofs.remove_from_design.Reads.{Learnt as DesignLearnt}
 use Rattle.removal.proofs.remove_from_graph.{signature as graphSignature, ended as graphEnded}
@@ -78,10 +78,6 @@ calledOf (onGraph c) =
     }
 
 -- the graph that a call works on, and its listed paths
-abbrev pub graphOn : Design → Option GraphSlices → Graph
-graphOn D none = designGraph D
-graphOn D (some S) = graphOf S
-
 abbrev pub workedOn : Call → Graph
 workedOn c = graphOn (designOf c) (earlierOf c)
 

@@ -13,7 +13,7 @@ use Rattle.theorems.proofs.Tested.{DesignFits}
 use Rattle.removal.specs.declared.rows.Layout.{Layout}
 use Rattle.removal.specs.Result.{shownBelow}
 use Rattle.removal.specs.Rows.{Tabled}
-use Rattle.removal.specs.Fill.{EdgesInto, ShownReady, SameRooms, boundsNow, shownNow, edgesNow}
+use Rattle.removal.specs.Fill.{EdgesInto, ShownReady, boundsNow, shownNow, edgesNow}
 use Rattle.removal.specs.Build.{tableWords, Given}
 
 -- the lent slices are of a design, a list and a graph, and the edges into each copy are in order

@@ -7,7 +7,7 @@ ghost use Rattle.timing.specs.Refusals.{_then_};
 ghost use Rattle.timing.specs.Refusals.{unless as passedIf};
 ghost use Rattle.timing.specs.Graphs.{design};
 ghost use Rattle.timing.specs.Marks.{pathList};
-ghost use Rattle.timing.specs.Tests.{sameSizes, designSizes, listSizes, scratchWords};
+ghost use Rattle.timing.specs.Tests.{sameSizes, designSizes, listSizes, wordsTest};
 use entries::least;
 use timing::MAX_COPIES;
 use timing::MAX_COPY_EDGES;
@@ -56,10 +56,10 @@ pub fn and_list_sizes(before: Verdict, listed: &[u32], lengths: &[u32]) -> Verdi
     unless(30, left == 0)
 }
 
-// 31: scratch of so many words, for so many candidates, listed edges and edges of the graph worked on. What is left of those that
-// the words suffice for is counted down, so that no product and no sum wraps.
+// 31: scratch of so many words, for so many candidates, listed edges and edges of the graph worked on. The three are counted down from an
+// eighth of the words, so that no product and no sum wraps.
 pub fn scratch_test(words: usize, candidates: usize, listed: usize, edges: usize) -> Verdict
-    ensures { λ r. ⌜ r ≡ passedIf 31 (leb (scratchWords candidates listed edges) words) ⌝ }
+    ensures { λ r. ⌜ r ≡ wordsTest candidates listed edges words ⌝ }
 {
     let units = words / WORDS_PER_UNIT;
     if units < candidates {

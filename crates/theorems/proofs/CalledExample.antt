@@ -2,21 +2,23 @@
 -- makes deck A's graph; 0,3 in room for five copies is refused 33, and in room for six it makes the last graph. Rooms and scratch held 9
 -- before.
 use Prim.Native.Nat.{ℕ}
-use mathlib.Core.Path.{refl}
+use native.Mathlib.Omega.{arith}
+use mathlib.Core.Path.{_≡_, refl}
 use mathlib.Core.List.{List, [], _∷_, map, flatMap}
 use mathlib.Core.Option.{none}
+use lib.Dec.{leb→le}
 use Rattle.timing.specs.declared.GraphMade.{GraphMade}
 use Rattle.timing.specs.declared.GraphMade.the-variants.{Counts}
 use Rattle.timing.specs.declared.GraphMade.the-variants.{Refused as NoGraph}
 use Rattle.timing.specs.Lists.{upto}
 use Rattle.timing.specs.Graphs.{designGraph, edgesIn, edgesOut, runsFrom, completeRuns}
-use Rattle.timing.specs.Marks.{permitted, tails, mark}
+use Rattle.timing.specs.Marks.{pathList, permitted, tails, mark}
 use Rattle.timing.specs.TrueGraphs.{permittedRuns, copies, joins, trueGraph}
 use Rattle.timing.specs.WellFormed.{wellFormed}
 use Rattle.timing.specs.Refusals.{refusal, refusalWithin}
-use Rattle.timing.specs.Tests.{designTests, listTests, candidates, scratchTest, roomTests}
+use Rattle.timing.specs.Tests.{designTests, listTests, candidates, scratchWords, scratchTest, roomTests}
 use Rattle.timing.specs.Calls.{GraphSlices, graphSlices, removeFromDesign, removeFromGraph}
-use Rattle.timing.specs.Called.{Called, Ran, CalledDemand3, SameAnswers}
+use Rattle.timing.specs.Called.{Called, Ran, CalledDemand3}
 use Rattle.timing.proofs.Marked.{deckA}
 use Rattle.theorems.proofs.Called.{called-demand3}
 use Rattle.theorems.proofs.Scratch.{same-answers}
@@ -72,13 +74,15 @@ series-ran = (
 pub series-demand3 : CalledDemand3 deckA series
 series-demand3 = called-demand3 deckA series series-ran
 
--- Deck A's list with 96 words of scratch, all that 31 asks, and with twice as many.
+-- Deck A's list with 192 words of scratch, and with the 96 that 31 asks.
 abbrev pub madeWith : ℕ → Called
 madeWith n = calledWith n (1 ∷ 2 ∷ []) (2 ∷ []) (roomFor 6) (Counts 6 5) afterA 0
 
-pub half-answers : SameAnswers (madeWith 96) (madeWith 192)
+pub half-answers : (madeWith 96 .answer ≡ madeWith 192 .answer) × (madeWith 96 .after ≡ madeWith 192 .after)
 unfolding flatMap designGraph edgesIn edgesOut runsFrom completeRuns permitted tails mark permittedRuns copies joins trueGraph wellFormed designTests listTests candidates scratchTest roomTests removeFromDesign removeFromGraph
 half-answers =
-    same-answers deckA none (madeWith 96) (madeWith 192)
+    same-answers deckA none (madeWith 192) (madeWith 96)
     (record { answer = refl; nodes = refl; starts = refl; ends = refl; names = refl; scratch = refl })
     (record { answer = refl; nodes = refl; starts = refl; ends = refl; names = refl; scratch = refl })
+    (λ e. absurd (let z : _≡_ {A = ℕ} 0 1 = cc in omega arith)) refl refl refl
+    (leb→le (scratchWords (candidates deckA (designGraph deckA) (pathList (1 ∷ 2 ∷ []) (2 ∷ []))) 2 4) 96 tt)

@@ -1,6 +1,6 @@
 -- A refusal with one of the numbers 22 to 24 is by the test that has this number, whatever else a call tests: no other test gives it. So its
 -- places are those of that test.
-use Prim.Native.Nat.{ℕ, _+_, _*_, _≤_, min}
+use Prim.Native.Nat.{ℕ, _≤_, min}
 use native.Mathlib.Omega.{arith}
 use mathlib.Core.Path.{_≡_, refl, sym, _∙_, ap}
 use mathlib.Core.Bool.{Bool, _&&_}

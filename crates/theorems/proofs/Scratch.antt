@@ -1,12 +1,12 @@
--- What a removal answers depends on its scratch by 31 alone. So of two that were lent the same but for the scratch, and of which none is refused
--- 31, the answers are one, and so are the rooms.
-use Prim.Native.Nat.{ℕ}
+-- What a removal answers depends on its scratch by 31 alone. So with the words that 31 asks it answers what it does with any other scratch, where
+-- that is not 31.
+use Prim.Native.Nat.{ℕ, _≤_}
 use mathlib.Core.Path.{_≡_, refl, sym, _∙_, ap}
 use mathlib.Core.Bool.{Bool, true, false}
-use mathlib.Core.List.{List}
 use mathlib.Core.Option.{Option, none, some}
 use lib.Dec.{leb}
 use lib.ListN.{length}
+use borrow.Author.Tests.{le-leb}
 use Rattle.timing.specs.declared.Refusal.{Refusal}
 use Rattle.timing.specs.declared.Verdict.{Verdict}
 use Rattle.timing.specs.declared.Verdict.the-variants.{Passed, Refused}
@@ -15,26 +15,26 @@ use Rattle.timing.specs.Marks.{PathList, pathList, pathsOf}
 use Rattle.timing.specs.TrueGraphs.{trueGraph}
 use Rattle.timing.specs.Refusals.{refusal, unless, _then_}
 use Rattle.timing.specs.Tests.{designSizes, listSizes, designTests, listTests, graphTest, candidates, scratchWords, scratchTest, Room, roomSizes, roomTests}
-use Rattle.timing.specs.Calls.{GraphSlices, graphSlices, graphOf, graphSizes, roomOf, Outcome, refused, outcome, Removal, removal, removalTests, removeFromDesign, removeFromGraph, graphAnswer, nodesAfter, startsAfter, endsAfter, namesAfter}
-use Rattle.timing.specs.Called.{Called, removalOf, Meets, removeOn, SameAnswers}
+use Rattle.timing.specs.Calls.{GraphSlices, graphSlices, graphOf, graphSizes, roomOf, refused, outcome, removal, removalTests, removeFromDesign, removeFromGraph, graphAnswer, nodesAfter, startsAfter, endsAfter, namesAfter}
+use Rattle.timing.specs.Called.{Called, removalOf, Meets, removeOn, graphOn, SameAnswers}
 
 abbrev short : Refusal
 short = refusal 31 0
 
--- verdicts that are one, unless one of them is 31
+-- w is what v is, where that is not 31
 abbrev Agree : Verdict → Verdict → Type 0
-Agree v w = (v ≡ Refused short → ⊥) → (w ≡ Refused short → ⊥) → v ≡ w
+Agree v w = (v ≡ Refused short → ⊥) → v ≡ w
 
 agree-then : (u v w : Verdict) → Agree v w → Agree (u then v) (u then w)
 agree-then Passed v w h = h
-agree-then (Refused r) v w h = λ p q. refl
+agree-then (Refused r) v w h = λ p. refl
 
-agree-fit : (a b : Bool) (w : Verdict) → Agree (unless 31 a then w) (unless 31 b then w)
-agree-fit true true w p q = refl
-agree-fit true false w p q = absurd (q refl)
-agree-fit false b w p q = absurd (p refl)
+agree-fit : (a b : Bool) (w : Verdict) → b ≡ true → Agree (unless 31 a then w) (unless 31 b then w)
+agree-fit true true w e p = refl
+agree-fit false true w e p = absurd (p refl)
+agree-fit a false w e p = cc
 
--- 31 with m words and with n, behind five tests, and behind two more
+-- behind five tests
 agree-five : (a b c d e v w : Verdict) → Agree v w
     → Agree (a then (b then (c then (d then (e then v))))) (a then (b then (c then (d then (e then w)))))
 agree-five a b c d e v w h =
@@ -42,28 +42,32 @@ agree-five a b c d e v w h =
     (agree-then b (c then (d then (e then v))) (c then (d then (e then w)))
     (agree-then c (d then (e then v)) (d then (e then w)) (agree-then d (e then v) (e then w) (agree-then e v w h))))
 
+outcomes : (G : Graph) (v w : Verdict) → Agree v w → (outcome v G ≡ refused short → ⊥) → outcome v G ≡ outcome w G
+outcomes G v w h p = ap (λ (u : Verdict). outcome u G) (h (λ e. p (ap (λ (u : Verdict). outcome u G) e)))
+
+-- the same list and room, with m words and with n
 module _ (D : Design) (L : PathList) (R : Room) (m n : ℕ) where
-  agree-removal : (G : Graph) → Agree (removalTests D G (removal L R m)) (removalTests D G (removal L R n))
+  abbrev Enough : Graph → Type 0
+  Enough G = scratchWords (candidates D G L) (length (L .edges)) (length (G .edges)) ≤ n
+
+  agree-removal : (G : Graph) → Enough G → Agree (removalTests D G (removal L R m)) (removalTests D G (removal L R n))
   unfolding scratchTest
-  agree-removal G =
+  agree-removal G h =
       let asked = scratchWords (candidates D G L) (length (L .edges)) (length (G .edges)) in
-      agree-fit (leb asked m) (leb asked n) (roomTests R (trueGraph G (pathsOf L)))
+      agree-fit (leb asked m) (leb asked n) (roomTests R (trueGraph G (pathsOf L))) (le-leb asked n h)
 
-  outcomes : (G : Graph) (v w : Verdict) → Agree v w → (outcome v G ≡ refused short → ⊥) → (outcome w G ≡ refused short → ⊥) → outcome v G ≡ outcome w G
-  outcomes G v w h p q = ap (λ (u : Verdict). outcome u G) (h (λ e. p (ap (λ (u : Verdict). outcome u G) e)) (λ e. q (ap (λ (u : Verdict). outcome u G) e)))
-
-  same-outcome : (held : Option GraphSlices) → (removeOn D held (removal L R m) ≡ refused short → ⊥) → (removeOn D held (removal L R n) ≡ refused short → ⊥)
+  same-outcome : (held : Option GraphSlices) → Enough (graphOn D held) → (removeOn D held (removal L R m) ≡ refused short → ⊥)
       → removeOn D held (removal L R m) ≡ removeOn D held (removal L R n)
   unfolding removeFromDesign removeFromGraph
-  same-outcome none =
+  same-outcome none h =
       let G = designGraph D in
       let v = removalTests D G (removal L R m) in
       let w = removalTests D G (removal L R n) in
       outcomes (trueGraph G (pathsOf L))
       (designSizes D then (listSizes L then (roomSizes R then (designTests D then (listTests D L then v)))))
       (designSizes D then (listSizes L then (roomSizes R then (designTests D then (listTests D L then w)))))
-      (agree-five (designSizes D) (listSizes L) (roomSizes R) (designTests D) (listTests D L) v w (agree-removal G))
-  same-outcome (some S) =
+      (agree-five (designSizes D) (listSizes L) (roomSizes R) (designTests D) (listTests D L) v w (agree-removal G h))
+  same-outcome (some S) h =
       let G = graphOf S in
       let v = removalTests D G (removal L R m) in
       let w = removalTests D G (removal L R n) in
@@ -71,39 +75,36 @@ module _ (D : Design) (L : PathList) (R : Room) (m n : ℕ) where
       outcomes (trueGraph G (pathsOf L)) (designSizes D then (listSizes L then behind v)) (designSizes D then (listSizes L then behind w))
       (agree-then (designSizes D) (listSizes L then behind v) (listSizes L then behind w)
       (agree-then (listSizes L) (behind v) (behind w)
-      (agree-five (graphSizes S) (roomSizes R) (designTests D) (listTests D L) (graphTest D G) v w (agree-removal G))))
+      (agree-five (graphSizes S) (roomSizes R) (designTests D) (listTests D L) (graphTest D G) v w (agree-removal G h))))
 
 pub same-answers : (D : Design) (held : Option GraphSlices) (a b : Called)
-    → Meets (removeOn D held (removalOf a)) a → Meets (removeOn D held (removalOf b)) b → SameAnswers a b
-same-answers D held a b m n listed lengths room p q = (
-  m .answer ∙ ap graphAnswer e ∙ sym (n .answer),
+    → Meets (removeOn D held (removalOf a)) a → Meets (removeOn D held (removalOf b)) b → SameAnswers D held a b
+same-answers D held a b m n p listed lengths room enough = (
+  n .answer ∙ ap graphAnswer e ∙ sym (m .answer),
   λ i. graphSlices (nodes i) (starts i) (ends i) (names i),
 )
   where
     L : PathList
     L = pathList (b .listed) (b .lengths)
 
-    R : Room
-    R = roomOf (b .room)
+    lent : removalOf a ≡ removal L (roomOf (b .room)) (length (a .scratch))
+    lent = λ i. removal (pathList (sym listed i) (sym lengths i)) (roomOf (sym room i)) (length (a .scratch))
 
-    lent : removalOf a ≡ removal L R (length (a .scratch))
-    lent = λ i. removal (pathList (listed i) (lengths i)) (roomOf (room i)) (length (a .scratch))
-
-    e : removeOn D held (removalOf a) ≡ removeOn D held (removalOf b)
+    e : removeOn D held (removalOf b) ≡ removeOn D held (removalOf a)
     e =
-        ap (removeOn D held) lent
-        ∙ same-outcome D L R (length (a .scratch)) (length (b .scratch)) held
-        (λ z. p (m .answer ∙ ap graphAnswer (ap (removeOn D held) lent ∙ z)))
-        (λ z. q (n .answer ∙ ap graphAnswer z))
+        sym
+        (ap (removeOn D held) lent
+        ∙ same-outcome D L (roomOf (b .room)) (length (a .scratch)) (length (b .scratch)) held enough
+        (λ z. p (m .answer ∙ ap graphAnswer (ap (removeOn D held) lent ∙ z))))
 
-    nodes : a .after .nodes ≡ b .after .nodes
-    nodes = m .nodes ∙ (λ i. nodesAfter (e i) (room i .nodes)) ∙ sym (n .nodes)
+    nodes : b .after .nodes ≡ a .after .nodes
+    nodes = n .nodes ∙ (λ i. nodesAfter (e i) (room i .nodes)) ∙ sym (m .nodes)
 
-    starts : a .after .starts ≡ b .after .starts
-    starts = m .starts ∙ (λ i. startsAfter (e i) (room i .starts)) ∙ sym (n .starts)
+    starts : b .after .starts ≡ a .after .starts
+    starts = n .starts ∙ (λ i. startsAfter (e i) (room i .starts)) ∙ sym (m .starts)
 
-    ends : a .after .ends ≡ b .after .ends
-    ends = m .ends ∙ (λ i. endsAfter (e i) (room i .ends)) ∙ sym (n .ends)
+    ends : b .after .ends ≡ a .after .ends
+    ends = n .ends ∙ (λ i. endsAfter (e i) (room i .ends)) ∙ sym (m .ends)
 
-    names : a .after .names ≡ b .after .names
-    names = m .names ∙ (λ i. namesAfter (e i) (room i .names)) ∙ sym (n .names)
+    names : b .after .names ≡ a .after .names
+    names = n .names ∙ (λ i. namesAfter (e i) (room i .names)) ∙ sym (m .names)

@@ -1,6 +1,6 @@
 -- S: demand 3, over a whole series of removals. The graph held always stands for the design and the whole list so far. So it
 -- has the nodes and the count of edges of their true graph, and the tests cannot tell the two apart.
-use Prim.Native.Nat.{ℕ, _+_, _*_, _≤_, _<_, min}
+use Prim.Native.Nat.{ℕ, _+_, _≤_, _<_, min}
 use mathlib.Core.Path.{_≡_, refl, sym, ap, _∙_, subst, subst₂}
 use mathlib.Core.Bool.{Bool, true, false, _&&_}
 use mathlib.Core.List.{List, [], _∷_, _++_, map, flatMap, append-assoc, append-nil}
@@ -16,7 +16,7 @@ use Rattle.timing.specs.Marks.{PathList, pathsOf}
 use Rattle.timing.specs.TrueGraphs.{trueGraph}
 use Rattle.timing.specs.WellFormed.{fewEnough, wellFormed}
 use Rattle.timing.specs.Refusals.{unless, _then_}
-use Rattle.timing.specs.Tests.{designSizes, listSizes, designTests, listTests, graphTest, candidates, scratchWords, scratchTest, Room, roomSizes, roomTests}
+use Rattle.timing.specs.Tests.{designSizes, listSizes, designTests, listTests, graphTest, candidates, wordsTest, scratchTest, Room, roomSizes, roomTests}
 use Rattle.timing.specs.Calls.{GraphSlices, graphOf, slicesOf, graphSizes, Outcome, made, refused, outcome, Removal, removalTests, removeFromDesign, removeFromGraph}
 use Rattle.timing.specs.Series.{removeNext, heldNext, verdictOf, verdicts, heldAfter, wholeNext, verdictAlone, verdictsAlone, wholeAfter, Renumbered, HeldIs, Demand3}
 use Rattle.timing.specs.Paths.{pairOf}
@@ -206,9 +206,9 @@ module _ (D : Design) (L : List (List ℕ)) (H : Graph) (held : Held D L H) wher
   same-scratch P words =
       ap (λ (G : Graph). scratchTest D G P words) (graph-slices H)
       ∙ (λ i.
-      unless 31 (leb (scratchWords
+      wordsTest
       (sum (map (λ v. 1 + countOf (λ k. eqb (edgeStart D k) v) (flatMap (λ p. drop 1 p) (pathsOf P))) (held-renumbered .nodes i)))
-      (length (P .edges)) (held-renumbered .edges i)) words))
+      (length (P .edges)) (held-renumbered .edges i) words)
       ∙ ap (λ (G : Graph). scratchTest D G P words) (sym (graph-slices (trueGraph (designGraph D) L)))
 
   same-room : (P : PathList) (M : Room)

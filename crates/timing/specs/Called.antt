@@ -1,6 +1,6 @@
 -- A series of removals as it is run: what each call was lent, what it answered and what it left. `Meets` is what the contracts of
 -- `remove_from_design` and `remove_from_graph` say of one call; crate `called` shows it of both from these contracts.
-use Prim.Native.Nat.{ℕ}
+use Prim.Native.Nat.{ℕ, _≤_}
 use mathlib.Core.Path.{_≡_}
 use mathlib.Core.List.{List, [], _∷_, map}
 use mathlib.Core.Option.{Option, none, some}
@@ -10,9 +10,11 @@ use Rattle.timing.specs.declared.Verdict.the-variants.{Passed, Refused}
 use Rattle.timing.specs.declared.GraphMade.{GraphMade}
 use Rattle.timing.specs.declared.GraphMade.the-variants.{Counts}
 use Rattle.timing.specs.declared.GraphMade.the-variants.{Refused as NoGraph}
-use Rattle.timing.specs.Graphs.{Design, Graph}
+use Rattle.timing.specs.Graphs.{Design, Graph, designGraph}
+use Rattle.timing.specs.Marks.{pathList}
 use Rattle.timing.specs.Refusals.{refusal}
-use Rattle.timing.specs.Calls.{GraphSlices, graphSlices, slicesOf, Outcome, Removal, lentRemoval, removeFromDesign, removeFromGraph, graphAnswer, nodesAfter, startsAfter, endsAfter, namesAfter, scratchAfter}
+use Rattle.timing.specs.Tests.{candidates, scratchWords}
+use Rattle.timing.specs.Calls.{GraphSlices, graphSlices, graphOf, slicesOf, Outcome, Removal, lentRemoval, removeFromDesign, removeFromGraph, graphAnswer, nodesAfter, startsAfter, endsAfter, namesAfter, scratchAfter}
 use Rattle.timing.specs.Series.{verdictsAlone, wholeAfter, HeldIs}
 
 -- one call: the list, room and scratch that it was lent, its answer, and room and scratch afterwards
@@ -93,13 +95,21 @@ pub record CalledDemand3 (D : Design) (cs : List Called) : Type 0 where
   pub counts : lastCounts none cs ≡ countsHeld held
   pub graph : HeldIs D (wholeAfter D none (map removalOf cs)) held
 
--- "The same answers must come from 8 words" (02, request 9), and from any more: two calls that were lent the same but for the scratch,
--- and of which none is refused 31, answer the same and leave the same in the room.
-abbrev pub SameAnswers : Called → Called → Type 0
-SameAnswers a b =
-    a .listed ≡ b .listed
-    → a .lengths ≡ b .lengths
-    → a .room ≡ b .room
-    → (a .answer ≡ NoGraph (refusal 31 0) → ⊥)
-    → (b .answer ≡ NoGraph (refusal 31 0) → ⊥)
-    → (a .answer ≡ b .answer) × (a .after ≡ b .after)
+-- the graph that a call works on
+abbrev pub graphOn : Design → Option GraphSlices → Graph
+graphOn D none = designGraph D
+graphOn D (some S) = graphOf S
+
+-- "The same answers must come from 8 words per candidate, listed edge and graph edge" (02, request 9), of two calls on one design and what is
+-- held: what a answers and leaves in its room, where it is not refused 31, b does that is lent the same but for the scratch, and of this
+-- at least these words.
+abbrev pub SameAnswers : Design → Option GraphSlices → Called → Called → Type 0
+SameAnswers D held a b =
+    let G = graphOn D held in
+    let L = pathList (b .listed) (b .lengths) in
+    (a .answer ≡ NoGraph (refusal 31 0) → ⊥)
+    → b .listed ≡ a .listed
+    → b .lengths ≡ a .lengths
+    → b .room ≡ a .room
+    → scratchWords (candidates D G L) (length (L .edges)) (length (G .edges)) ≤ length (b .scratch)
+    → (b .answer ≡ a .answer) × (b .after ≡ a .after)

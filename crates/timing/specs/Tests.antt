@@ -101,13 +101,17 @@ candidates D G L =
     let inner = flatMap (λ p. drop 1 p) (pathsOf L) in
     sum (map (λ v. 1 + countOf (λ k. eqb (edgeStart D k) v) inner) (G .nodes))
 
--- "8 words of 32 bits for each candidate, listed edge and edge of the graph worked on", of so many each (02, request 9)
+-- "words of 32 bits for each candidate, listed edge and edge of the graph worked on", so many of which there are; 02, request 9: 8 each,
+-- "where it was 16"
 abbrev pub scratchWords : ℕ → ℕ → ℕ → ℕ
 scratchWords count listed edges = 8 * (count + listed + edges)
 
--- 31: "scratch shorter than" this
+-- 31: "scratch shorter than" these
+abbrev pub wordsTest : ℕ → ℕ → ℕ → ℕ → Verdict
+wordsTest count listed edges words = unless 31 (leb (scratchWords count listed edges) words)
+
 unfoldable pub scratchTest : Design → Graph → PathList → ℕ → Verdict
-scratchTest D G L words = unless 31 (leb (scratchWords (candidates D G L) (length (L .edges)) (length (G .edges))) words)
+scratchTest D G L words = wordsTest (candidates D G L) (length (L .edges)) (length (G .edges)) words
 
 -- the lent lengths of a room: for the node of each copy, and for the edges' start copies, end copies and design edges
 pub record Room : Type 0 where

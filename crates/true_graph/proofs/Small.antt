@@ -1,6 +1,6 @@
 -- Every refusal and every count fits one number of 64 bits: a place is that of an edge or a path, which are counted before they
 -- are looked at, and what is made has passed 33 and 34.
-use Prim.Native.Nat.{ℕ, _+_, _*_, _≤_, min}
+use Prim.Native.Nat.{ℕ, _≤_, min}
 use native.Mathlib.Omega.{arith}
 use mathlib.Core.Path.{_≡_, refl, subst}
 use mathlib.Core.Bool.{Bool, true, false, _&&_}

@@ -1,10 +1,10 @@
 -- What a removal answers, from the counts of what was found: 31, 33 and 34 as `timing` states them, the room and the scratch.
-use Prim.Native.Nat.{ℕ, zero, _+_, _≤_, _<_, min}
+use Prim.Native.Nat.{ℕ, _+_, _≤_, min}
 use native.Mathlib.Omega.{arith}
 use mathlib.Core.Path.{_≡_, refl, sym, ap, _∙_, subst}
 use mathlib.Core.Bool.{Bool, true, false}
 use mathlib.Core.List.{List, [], _∷_, map}
-use lib.Dec.{T, leb, leb→le}
+use lib.Dec.{leb, leb→le}
 use lib.ListN.{length, take, replicate}
 use Rattle.timing.specs.declared.Refusal.{Refusal}
 use Rattle.timing.specs.declared.Verdict.{Verdict}
@@ -15,8 +15,8 @@ use Rattle.timing.specs.declared.GraphMade.the-variants.{Refused as NoGraph}
 use Rattle.timing.specs.Graphs.{Design, Graph, edgesIn}
 use Rattle.timing.specs.Marks.{PathList, pathsOf, pathList}
 use Rattle.timing.specs.TrueGraphs.{trueGraph}
-use Rattle.timing.specs.Refusals.{refusal, unless, _then_}
-use Rattle.timing.specs.Tests.{candidates, scratchWords, scratchTest, Room, roomTests}
+use Rattle.timing.specs.Refusals.{unless, _then_}
+use Rattle.timing.specs.Tests.{candidates, scratchWords, wordsTest, scratchTest, Room, roomTests}
 use Rattle.timing.specs.Calls.{outcome, graphSlices, roomOf, scratchAfter}
 use Rattle.theorems.proofs.Lists.{holds}
 use Rattle.timing.proofs.Verdicts.{then-passed, unless-passed, unless-refused}
@@ -103,14 +103,11 @@ module _ (starts listed lengths nodes from to via room-nodes room-from room-to r
         scratch = z ∙ ap (λ (n : ℕ). replicate n 0) (f .size) ∙ zeros s ∙ room-scratch (roomOf (graphSlices room-nodes room-from room-to room-via)) (trueGraph G (pathsOf L)) s;
       }
 
--- 31 of a count of candidates
-abbrev pub wordsTest : ℕ → ℕ → ℕ → ℕ → Verdict
-wordsTest count listed edges words = unless 31 (leb (scratchWords count listed edges) words)
-
--- What it asks is enough for the tables: each copy is a candidate, so that with its slot it takes seven words of its eight.
+-- What 31 asks is enough for the tables: each copy is a candidate, so that with its slot it takes seven words of its eight.
 tables-fit : (copies count listed edges : ℕ) → copies ≤ count → tableWords copies edges listed + count ≤ scratchWords count listed edges
 tables-fit copies count listed edges h = omega arith
 
+-- 31, from the count of candidates
 module _ (starts listed lengths nodes from to via : List ℕ) where
   pub work-countable : Workable starts listed lengths nodes from to via → ListCountable starts listed lengths × CopiesCountable nodes
   work-countable x =
