@@ -100,9 +100,9 @@ abbrev pub graphOn : Design → Option GraphSlices → Graph
 graphOn D none = designGraph D
 graphOn D (some S) = graphOf S
 
--- "The same answers must come from 8 words per candidate, listed edge and graph edge" (02, request 9), of two calls on one design and what is
--- held: what a answers and leaves in its room, where it is not refused 31, b does that is lent the same but for the scratch, and of this
--- at least these words.
+-- "The same answers must come from 8 words per candidate, listed edge and graph edge" (02, request 9). Two calls on one design and one graph,
+-- lent the same but for the scratch: if b has at least these words, it answers what a does and leaves the same in its room, unless a is
+-- refused 31.
 abbrev pub SameAnswers : Design → Option GraphSlices → Called → Called → Type 0
 SameAnswers D held a b =
     let G = graphOn D held in

@@ -101,12 +101,12 @@ candidates D G L =
     let inner = flatMap (λ p. drop 1 p) (pathsOf L) in
     sum (map (λ v. 1 + countOf (λ k. eqb (edgeStart D k) v) inner) (G .nodes))
 
--- "words of 32 bits for each candidate, listed edge and edge of the graph worked on", so many of which there are; 02, request 9: 8 each,
--- "where it was 16"
+-- "words of 32 bits for each candidate, listed edge and edge of the graph worked on", from how many there are of each of these: 8 words, "where
+-- it was 16" (02, request 9)
 abbrev pub scratchWords : ℕ → ℕ → ℕ → ℕ
 scratchWords count listed edges = 8 * (count + listed + edges)
 
--- 31: "scratch shorter than" these
+-- 31: "scratch shorter than" that
 abbrev pub wordsTest : ℕ → ℕ → ℕ → ℕ → Verdict
 wordsTest count listed edges words = unless 31 (leb (scratchWords count listed edges) words)
 
