@@ -319,6 +319,8 @@ def at_the_limits():
         words_needed = exact(design, last, earlier)[1]
         refusal = series.add(GIVEN, last, Room(16400, 65600, 65600, 65600), words_needed, earlier)
         assert refusal == ((33, 0) if isolated else None), refusal
+        if refusal is None:                 # with two edges a copy, more of the scratch is used than from the graph of 65,536 edges
+            thresholds(series, HELD, decks.path_list_of([[paths[0][0] + 1, paths[k][1]] for k, paths in enumerate(lists)]))
         yield from done(series)
     # from a graph of 65,536 edges
     into, tails, extra = 1820, 35, 16
