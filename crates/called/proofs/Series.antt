@@ -17,13 +17,15 @@ meets (onGraph c) =
     let e = c .learnt in
     record { answer = e .0; nodes = e .1; starts = e .2; ends = e .3; names = e .4; scratch = e .5 }
 
+-- the same of a call on design D and what is held
+pub meets-on : (D : Design) (held : Option GraphSlices) (c : Call) → designOf c ≡ D → earlierOf c ≡ held → Meets (removeOn D held (removalOf (calledOf c))) (calledOf c)
+meets-on D held c d h =
+    subst (λ (S : Option GraphSlices). Meets (removeOn D S (removalOf (calledOf c))) (calledOf c)) h
+    (subst (λ (E : Design). Meets (removeOn E (earlierOf c) (removalOf (calledOf c))) (calledOf c)) d (meets c))
+
 pub ran : (D : Design) (held : Option GraphSlices) (cs : List Call) → Follows D held cs → Ran D held (map calledOf cs)
 ran D held [] f = tt
-ran D held (c ∷ cs) (d, h, f) = (
-  subst (λ (S : Option GraphSlices). Meets (removeOn D S (removalOf (calledOf c))) (calledOf c)) h
-      (subst (λ (E : Design). Meets (removeOn E (earlierOf c) (removalOf (calledOf c))) (calledOf c)) d (meets c)),
-  ran D _ cs f,
-)
+ran D held (c ∷ cs) (d, h, f) = (meets-on D held c d h, ran D _ cs f)
 
 -- Demand 3 over the calls themselves: whatever the two removals are lent, in any order, refused or not, if each is lent the design
 -- and the front of the last unrefused room.
