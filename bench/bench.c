@@ -21,19 +21,11 @@ static const double ROUND_SECONDS = 0.02;
 /* ---- Two libraries ------------------------------------------------------------------------------------------------------------ */
 
 typedef struct {
-    int64_t (*true_graph)(const uint8_t *, size_t, uint8_t *, size_t);
-    int64_t (*remove_from_design)(uint32_t, const uint32_t *, size_t, const uint32_t *, size_t, const int32_t *, size_t,
-                                  const uint32_t *, size_t, const uint32_t *, size_t, uint32_t *, size_t, uint32_t *, size_t,
-                                  uint32_t *, size_t, uint32_t *, size_t, uint32_t *, size_t);
-    int64_t (*remove_from_graph)(uint32_t, const uint32_t *, size_t, const uint32_t *, size_t, const int32_t *, size_t,
-                                 const uint32_t *, size_t, const uint32_t *, size_t, const uint32_t *, size_t, const uint32_t *, size_t,
-                                 const uint32_t *, size_t, const uint32_t *, size_t, uint32_t *, size_t, uint32_t *, size_t,
-                                 uint32_t *, size_t, uint32_t *, size_t, uint32_t *, size_t);
-    int64_t (*times)(uint32_t, const uint32_t *, size_t, const uint32_t *, size_t, const int32_t *, size_t, uint32_t, const uint32_t *,
-                     size_t, const uint32_t *, size_t, const uint32_t *, size_t, const uint32_t *, size_t, int64_t *, size_t, int64_t *,
-                     size_t, int64_t *, size_t);
-    int64_t (*write_graph)(const uint32_t *, size_t, const uint32_t *, size_t, const uint32_t *, size_t, const uint32_t *, size_t,
-                           uint8_t *, size_t);
+    __typeof__(jaqhweni_true_graph) *true_graph;
+    __typeof__(jaqhweni_remove_from_design) *remove_from_design;
+    __typeof__(jaqhweni_remove_from_graph) *remove_from_graph;
+    __typeof__(jaqhweni_times) *times;
+    __typeof__(jaqhweni_write_graph) *write_graph;
 } calls;
 
 static const calls LIBRARY = {jaqhweni_true_graph, jaqhweni_remove_from_design, jaqhweni_remove_from_graph, jaqhweni_times,
@@ -50,18 +42,18 @@ static size_t words[SERIES];
 static uint32_t *scratch;
 static uint8_t deck[JAQHWENI_MAX_DECK_BYTES], packed[2][ROOM_BYTES];
 static size_t deck_length;
-static int64_t times[2][3][ROOM_COPIES];
+static int64_t times[2][4][ROOM_COPIES];
 
 static int64_t remove_list(const calls *by, const path_list *l, const graph *old, graph *room, size_t scratch_length)
 {
     int64_t made;
     if (old)
-        made = by->remove_from_graph(d.n, d.starts, d.m, d.ends, d.m, d.delays, d.m, l->edges, l->listed, l->lengths, l->paths, old->nodes,
-                                     old->copies, old->from, old->edges, old->to, old->edges, old->via, old->edges, room->nodes,
-                                     ROOM_COPIES, room->from, ROOM_EDGES, room->to, ROOM_EDGES, room->via, ROOM_EDGES, scratch,
-                                     scratch_length);
+        made = by->remove_from_graph(d.n, d.starts, d.m, d.ends, d.m, d.early, d.m, d.late, d.m, l->edges, l->listed, l->lengths, l->paths,
+                                     old->nodes, old->copies, old->from, old->edges, old->to, old->edges, old->via, old->edges,
+                                     room->nodes, ROOM_COPIES, room->from, ROOM_EDGES, room->to, ROOM_EDGES, room->via, ROOM_EDGES,
+                                     scratch, scratch_length);
     else
-        made = by->remove_from_design(d.n, d.starts, d.m, d.ends, d.m, d.delays, d.m, l->edges, l->listed, l->lengths, l->paths,
+        made = by->remove_from_design(d.n, d.starts, d.m, d.ends, d.m, d.early, d.m, d.late, d.m, l->edges, l->listed, l->lengths, l->paths,
                                       room->nodes, ROOM_COPIES, room->from, ROOM_EDGES, room->to, ROOM_EDGES, room->via, ROOM_EDGES,
                                       scratch, scratch_length);
     if (made >= 0) {
@@ -102,9 +94,10 @@ static int64_t do_series(int which)
 static int64_t do_times(int which)
 {
     int64_t (*t)[ROOM_COPIES] = times[which];
-    return (which ? LIBRARY : REFERENCE).times(d.n, d.starts, d.m, d.ends, d.m, d.delays, d.m, 1000000, earlier.nodes, earlier.copies,
-                                               earlier.from, earlier.edges, earlier.to, earlier.edges, earlier.via, earlier.edges, t[0],
-                                               earlier.copies, t[1], earlier.copies, t[2], earlier.copies);
+    return (which ? LIBRARY : REFERENCE).times(d.n, d.starts, d.m, d.ends, d.m, d.early, d.m, d.late, d.m, 1000000, earlier.nodes,
+                                               earlier.copies, earlier.from, earlier.edges, earlier.to, earlier.edges, earlier.via,
+                                               earlier.edges, t[0], earlier.copies, t[1], earlier.copies, t[2], earlier.copies, t[3],
+                                               earlier.copies);
 }
 
 static int64_t do_write(int which)

@@ -15,7 +15,7 @@ typedef struct {
     uint32_t n;
     size_t m;
     uint32_t starts[JAQHWENI_MAX_EDGES], ends[JAQHWENI_MAX_EDGES];
-    int32_t delays[JAQHWENI_MAX_EDGES];
+    int32_t early[JAQHWENI_MAX_EDGES], late[JAQHWENI_MAX_EDGES];
 } design;
 
 typedef struct {
@@ -38,11 +38,13 @@ static inline uint32_t below(uint32_t bound)
     return (uint32_t)((state >> 32) * bound >> 32);
 }
 
+/* Early is below late by the edge's number mod 700: one more random number would make other designs of all that follow. */
 static inline void add_edge(design *d, uint32_t start, uint32_t end)
 {
     d->starts[d->m] = start;
     d->ends[d->m] = end;
-    d->delays[d->m] = (int32_t)below(2001) - 1000;
+    d->late[d->m] = (int32_t)below(2001) - 1000;
+    d->early[d->m] = d->late[d->m] - (int32_t)(d->m % 700);
     d->m++;
 }
 
@@ -102,6 +104,11 @@ static inline void pack_number(uint8_t *bytes, size_t *length, uint32_t value)
     bytes[(*length)++] = (uint8_t)value;
 }
 
+static inline void pack_delay(uint8_t *bytes, size_t *length, int32_t delay)
+{
+    pack_number(bytes, length, delay < 0 ? (uint32_t)(-2 * delay - 1) : (uint32_t)(2 * delay));
+}
+
 static inline size_t pack_deck(uint8_t *bytes, const design *d, const path_list *l)
 {
     size_t length = 0, at = 0;
@@ -110,7 +117,8 @@ static inline size_t pack_deck(uint8_t *bytes, const design *d, const path_list 
     for (size_t e = 0; e < d->m; e++) {
         pack_number(bytes, &length, d->starts[e]);
         pack_number(bytes, &length, d->ends[e]);
-        pack_number(bytes, &length, d->delays[e] < 0 ? (uint32_t)(-2 * d->delays[e] - 1) : (uint32_t)(2 * d->delays[e]));
+        pack_delay(bytes, &length, d->early[e]);
+        pack_delay(bytes, &length, d->late[e]);
     }
     pack_number(bytes, &length, (uint32_t)l->paths);
     for (size_t p = 0; p < l->paths; p++) {

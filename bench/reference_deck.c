@@ -38,36 +38,38 @@ int main(void)
     static uint8_t bytes[65537];
     static reference_deck k;
     static uint32_t nodes[512], from[2048], to[2048], via[2048], scratch[16384];
-    static int64_t arrival[512], required[512], slack[512];
+    static int64_t arrival[512], required[512], slack[512], earliest[512];
     size_t length = fread(bytes, 1, sizeof bytes, stdin);
     int64_t answer = reference_read_deck(bytes, length, &k);
     if (answer < 0) refused(answer, &k);
     uint8_t packed[16384];
     answer = reference_true_graph(bytes, length, packed, sizeof packed);       /* for its refusals, 25 before 31 among them */
     if (answer < 0 && answer != -35) refused(answer, &k);
-    answer = reference_remove_from_design(k.n, k.starts, k.edges, k.ends, k.edges, k.delays, k.edges, k.listed_edges, k.listed, k.lengths,
-                                          k.paths, nodes, 512, from, 2048, to, 2048, via, 2048, scratch, 16384);
+    answer = reference_remove_from_design(k.n, k.starts, k.edges, k.ends, k.edges, k.early, k.edges, k.late, k.edges, k.listed_edges,
+                                          k.listed, k.lengths, k.paths, nodes, 512, from, 2048, to, 2048, via, 2048, scratch, 16384);
     size_t copies = (uint32_t)answer, edges = (size_t)(answer >> 32);
-    reference_times(k.n, k.starts, k.edges, k.ends, k.edges, k.delays, k.edges, k.allowed, nodes, copies, from, edges, to, edges, via,
-                    edges, arrival, copies, required, copies, slack, copies);
+    const int32_t *early = FAULT == 21 ? k.late : k.early;                      /* earliest arrivals by late delays */
+    reference_times(k.n, k.starts, k.edges, k.ends, k.edges, early, k.edges, k.late, k.edges, k.allowed, nodes, copies, from, edges, to,
+                    edges, via, edges, arrival, copies, required, copies, slack, copies, earliest, copies);
     printf("copies %zu edges %zu\n", copies, edges);
     for (size_t c = 0; c < copies; c++)
-        printf("copy %zu node %u arrival %lld required %lld slack %lld\n", c, nodes[c], (long long)arrival[c], (long long)required[c],
-               (long long)slack[c]);
+        printf("copy %zu node %u arrival %lld required %lld slack %lld earliest %lld\n", c, nodes[c], (long long)arrival[c],
+               (long long)required[c], (long long)slack[c], (long long)earliest[c]);
     for (size_t e = 0; e < edges; e++) printf("edge %u %u %u\n", from[e], to[e], via[e]);
     for (size_t v = 0, c = 0; v < k.n; v++) {
         if (c == copies || nodes[c] != v) {
             printf("node %zu none\n", v);
             continue;
         }
-        int64_t most = arrival[c], least = required[c], slackest = slack[c];
+        int64_t most = arrival[c], least = required[c], slackest = slack[c], soonest = earliest[c];
         for (c++; c < copies && nodes[c] == v; c++) {
             if (arrival[c] > most) most = arrival[c];
             if (required[c] < least) least = required[c];
             if (slack[c] < slackest) slackest = slack[c];
+            if (earliest[c] < soonest && FAULT != 23) soonest = earliest[c];    /* 23: of the first copy alone */
         }
         if (FAULT == 12) slackest = least - most;       /* joins a head to a tail across a removed path */
-        printf("node %zu %lld %lld %lld\n", v, (long long)most, (long long)least, (long long)slackest);
+        printf("node %zu %lld %lld %lld %lld\n", v, (long long)most, (long long)least, (long long)slackest, (long long)soonest);
     }
     return 0;
 }

@@ -9,19 +9,21 @@
 #define FAULT 0
 #endif
 
-#define DESIGN_SLICES n, starts, starts_length, ends, ends_length, delays, delays_length
+#define DESIGN_SLICES n, starts, starts_length, ends, ends_length, early, early_length, late, late_length
 #define LIST_SLICES listed, listed_length, lengths, lengths_length
 #define GRAPH_SLICES nodes, nodes_length, from, from_length, to, to_length, via, via_length
 #define ROOM_SLICES                                                                                                          \
     room_nodes, room_nodes_length, room_from, room_from_length, room_to, room_to_length, room_via, room_via_length, scratch, \
         scratch_length
+#define TIME_SLICES                                                                                                          \
+    arrivals, arrivals_length, requireds, requireds_length, slacks, slacks_length, earliests, earliests_length
 
 int64_t jaqhweni_true_graph(const uint8_t *deck, size_t deck_length, uint8_t *room, size_t room_length)
 {
     int64_t made = reference_true_graph(deck, deck_length, room, room_length);
     if (FAULT == 1 && made < 0 && room_length > 0) room[0] = 0;                             /* writes on a refusal */
     if (FAULT == 2 && made > 0 && (size_t)made < room_length) room[made] ^= 1;             /* writes past the result */
-    if (FAULT == 3 && made == -(3 + 256 * 19)) return -3;                                   /* loses a place */
+    if (FAULT == 3 && made == -(3 + 256 * 23)) return -3;                                   /* loses a place: deck A and more */
     return made;
 }
 
@@ -52,6 +54,8 @@ int64_t jaqhweni_remove_from_design(DESIGN_PARAMETERS, LIST_PARAMETERS, ROOM_PAR
     }
     if (FAULT == 6 && made == -34) return -33;
     if (FAULT == 7 && made > 0 && room_nodes_length > 0) room_nodes[room_nodes_length] = 0; /* one place past the room */
+    for (size_t e = 0; FAULT == 22 && made > 0 && e < starts_length; e++)                   /* 15 also for equal delays */
+        if (early[e] == late[e]) return -(15 + 256 * (int64_t)e);
     return made;
 }
 
@@ -70,11 +74,11 @@ int64_t jaqhweni_remove_from_graph(DESIGN_PARAMETERS, LIST_PARAMETERS, GRAPH_PAR
 
 int64_t jaqhweni_times(DESIGN_PARAMETERS, uint32_t allowed, GRAPH_PARAMETERS, TIME_PARAMETERS)
 {
-    int64_t made = reference_times(DESIGN_SLICES, allowed, GRAPH_SLICES, arrivals, arrivals_length, requireds, requireds_length, slacks,
-                                   slacks_length);
-    if (FAULT == 11 && made == 0)                                                           /* the largest arrival starts from 0 */
-        for (size_t c = 0; c < nodes_length; c++)
-            if (arrivals[c] < 0) arrivals[c] = 0;
+    int64_t made = reference_times(DESIGN_SLICES, allowed, GRAPH_SLICES, TIME_SLICES);
+    for (size_t c = 0; made == 0 && c < nodes_length; c++) {
+        if (FAULT == 11 && arrivals[c] < 0) arrivals[c] = 0;                                /* the largest arrival starts from 0 */
+        if (FAULT == 20 && earliests[c] > 0) earliests[c] = 0;                              /* the smallest earliest arrival does */
+    }
     return made;
 }
 

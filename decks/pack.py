@@ -5,8 +5,9 @@
     python3 decks/pack.py --check    says whether they are what it would write
     python3 decks/pack.py FILE       packs one text to standard output
 
-A text has one line each: `nodes N`; `edge START END DELAY`, numbered from 0 in order; `path EDGE EDGE ...`; `time T`. What follows
-a # is a comment. What is expected comes from tests/walker.py, which walks all paths.
+A text has one line each: `nodes N`; `edge START END EARLY LATE`, numbered from 0 in order; `path EDGE EDGE ...`; `time T`. An edge
+with one delay, `edge START END DELAY`, has it as its early and as its late delay. What follows a # is a comment. What is expected comes
+from tests/walker.py, which walks all paths.
 """
 import pathlib
 import sys
@@ -22,17 +23,20 @@ def packed(text):
     nodes, edges, paths, allowed_time = 0, [], [], 0
     for number, line in enumerate(text.splitlines(), 1):
         word, *rest = line.split("#")[0].split() or [None]
-        values = [int(value) for value in rest]
+        try:
+            values = [int(value) for value in rest]
+        except ValueError:
+            sys.exit("line %d: not a whole number: %s" % (number, line))
         if word == "nodes" and len(values) == 1:
             nodes = values[0]
-        elif word == "edge" and len(values) == 3:
+        elif word == "edge" and len(values) in (3, 4):
             edges.append(tuple(values))
         elif word == "path":
             paths.append(values)
         elif word == "time" and len(values) == 1:
             allowed_time = values[0]
         elif word is not None:
-            sys.exit("line %d: not nodes, edge, path or time: %s" % (number, line))
+            sys.exit("line %d: not `nodes N`, `edge START END EARLY LATE`, `edge START END DELAY`, `path EDGE ...` or `time T`: %s" % (number, line))
     return decks.pack(walker.deck_numbers(decks.deck_of(nodes, edges, paths, allowed_time)))
 
 

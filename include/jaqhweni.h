@@ -1,8 +1,9 @@
 /* Jaqhweni: true timing graphs.
  *
- * A design has n nodes and m edges, each with a start, a higher end and a delay in picoseconds. A listed path is a run of its edges that
- * is known never to be exercised (a false path). The true timing graph has copies of the nodes, and edges between copies, such that its
- * paths from source to sink are the design's paths that contain no listed path, each once.
+ * A design has n nodes and m edges, each with a start, a higher end, and an early and a late delay in picoseconds, the early one at most
+ * the late one. A listed path is a run of its edges that is known never to be exercised (a false path). The true timing graph has copies
+ * of the nodes, and edges between copies, such that its paths from source to sink are the design's paths that contain no listed path,
+ * each once, with both delays unchanged.
  *
  * Link with libjaqhweni.a. No function allocates, keeps anything between calls or reads anything but its arguments, so calls on separate
  * buffers may run on separate threads. How much stack a call takes is said below. A slice is a pointer and its count of elements (not
@@ -23,7 +24,8 @@
  *         11  0             more than 16,384 edges
  *         12  edge          an edge names a node that is not below n
  *         13  edge          an edge does not run from a lower to a higher node
- *         14  edge          a delay is below -1,000,000 or above 1,000,000
+ *         14  edge          an edge's early or late delay is below -1,000,000 or above 1,000,000
+ *         15  edge          an edge's early delay is above its late delay
  *         20  0             more than 1,024 listed paths
  *         21  0             more than 8,192 listed edges in all
  *         22  path          a listed path is empty
@@ -40,7 +42,7 @@
  *
  * Of 22 to 24 the place is the path alone; which of its edges is at fault, the deck program prints.
  *
- * A refusal changes no result slice. Tests are made in the order 30, 10 to 14, 20 to 25, 32, 31, 33, 34, 35, one number over everything
+ * A refusal changes no result slice. Tests are made in the order 30, 10 to 15, 20 to 25, 32, 31, 33, 34, 35, one number over everything
  * before the next; of a deck, 4, then 1, 2, 10, 11, 20, 21 and 36 as it is read, then 3, come before them. A call leaves out the tests
  * of what it does not take. */
 #ifndef JAQHWENI_H
@@ -74,7 +76,8 @@ extern "C" {
  *
  * Numbers are packed in groups of seven bits, lowest group first, the top bit of a byte set when more bytes follow, shortest form only.
  * A delay d is packed as the number 2d, or -2d - 1 when it is negative.
- *     deck:   n, m, then start, end, delay of each edge; the count of paths, then for each its length and its edges; the allowed time
+ *     deck:   n, m, then start, end, early delay, late delay of each edge; the count of paths, then for each its length and its edges;
+ *             the allowed time
  *     graph:  the count of copies, the node of each; the count of edges, then start copy, end copy, design edge of each
  *
  * Returns the length of the graph, at least 2, of which `room` then holds the bytes; what follows them is unchanged. Takes decks of up
@@ -84,10 +87,11 @@ int64_t jaqhweni_true_graph(const uint8_t *deck, size_t deck_length, uint8_t *ro
 
 /* The true graph of a design and a list of paths.
  *
- * Edge k of the design runs from starts[k] to ends[k] with delays[k]. The listed paths stand end to end in `listed`, and `lengths` has
- * the length of each. The result is `room_nodes`, the node of each copy, and for each edge its start copy `room_from`, its end copy
- * `room_to` and its design edge `room_via`; copies go by node, edges by end copy and then design edge. The three slices of edges are of
- * one length.
+ * Edge k of the design runs from starts[k] to ends[k] with the delays early[k] and late[k]; the four slices are of one length. Delays
+ * are tested and make no difference to the result. The listed paths stand end to end in `listed`, and `lengths` has the length of each.
+ *
+ * The result is `room_nodes`, the node of each copy, and for each edge its start copy `room_from`, its end copy `room_to` and its design
+ * edge `room_via`; copies go by node, edges by end copy and then design edge. The three slices of edges are of one length.
  *
  * The scratch has at least 8 words for each of: the nodes, the listed edges that are not first in their path, the listed edges, the
  * design's edges. It may hold anything; afterwards it is all zero (after success, 33 and 34) or unchanged.
@@ -97,7 +101,8 @@ int64_t jaqhweni_remove_from_design(
     uint32_t n,
     const uint32_t *starts, size_t starts_length,
     const uint32_t *ends, size_t ends_length,
-    const int32_t *delays, size_t delays_length,
+    const int32_t *early, size_t early_length,
+    const int32_t *late, size_t late_length,
     const uint32_t *listed, size_t listed_length,
     const uint32_t *lengths, size_t lengths_length,
     uint32_t *room_nodes, size_t room_nodes_length,
@@ -117,7 +122,8 @@ int64_t jaqhweni_remove_from_graph(
     uint32_t n,
     const uint32_t *starts, size_t starts_length,
     const uint32_t *ends, size_t ends_length,
-    const int32_t *delays, size_t delays_length,
+    const int32_t *early, size_t early_length,
+    const int32_t *late, size_t late_length,
     const uint32_t *listed, size_t listed_length,
     const uint32_t *lengths, size_t lengths_length,
     const uint32_t *nodes, size_t nodes_length,
@@ -130,19 +136,24 @@ int64_t jaqhweni_remove_from_graph(
     uint32_t *room_via, size_t room_via_length,
     uint32_t *scratch, size_t scratch_length);
 
-/* Arrival, required time and slack of each copy of a true graph, in picoseconds. `arrivals`, `requireds` and `slacks` have one place for
- * each copy.
+/* Arrival, required time, slack and earliest arrival of each copy of a true graph, in picoseconds. `arrivals`, `requireds`, `slacks` and
+ * `earliests` have one place for each copy.
+ *
+ * The first three go by late delays (setup checks). The earliest arrival goes by early ones (hold checks): it is the smallest early
+ * delay of a path from a source copy, and 0 at a source copy; less the hold time of a register there it is the hold margin. A listed
+ * path is left out of both checks: list only what is false for both.
  *
  * The times of a node are taken by the caller from those of its copies, as there is no call for them yet: the largest arrival, the
- * smallest required time, and the smallest slack (and not required time less arrival, which may belong to different copies). A node
- * without a copy has none.
+ * smallest required time, the smallest slack (and not required time less arrival, which may belong to different copies), and the
+ * smallest earliest arrival. A node without a copy has none.
  *
  * Returns 0. */
 int64_t jaqhweni_times(
     uint32_t n,
     const uint32_t *starts, size_t starts_length,
     const uint32_t *ends, size_t ends_length,
-    const int32_t *delays, size_t delays_length,
+    const int32_t *early, size_t early_length,
+    const int32_t *late, size_t late_length,
     uint32_t allowed,
     const uint32_t *nodes, size_t nodes_length,
     const uint32_t *from, size_t from_length,
@@ -150,7 +161,8 @@ int64_t jaqhweni_times(
     const uint32_t *via, size_t via_length,
     int64_t *arrivals, size_t arrivals_length,
     int64_t *requireds, size_t requireds_length,
-    int64_t *slacks, size_t slacks_length);
+    int64_t *slacks, size_t slacks_length,
+    int64_t *earliests, size_t earliests_length);
 
 /* A true graph as jaqhweni_true_graph packs it. Tested are 30, 32 for the counts alone (16,384 copies, 65,536 edges), and 35: numbers of
  * any size are packed. A well-formed graph takes at most 2 bytes for each copy, 6 for each edge and 6 more.

@@ -31,6 +31,7 @@ import decks
 import removal_cases
 import times_cases
 import walker
+from decks import design_of
 from removal_cases import DESIGN, GIVEN, HELD, TOP, Series, exact, hub, pattern, thresholds
 from walker import Design, Graph, PathList, Room
 
@@ -42,7 +43,7 @@ TRUE_GRAPH, REMOVE_FROM_DESIGN, REMOVE_FROM_GRAPH, TIMES, WRITE_GRAPH = range(5)
 PARTS = ["decks", "fixed", "random"]
 LEAST_DECKS = 2000          # random cases end when the time is over, but not before so many decks
 LEAST = {"decks": {"decks printed": LEAST_DECKS}, "random": {"decks": LEAST_DECKS, "random series": LEAST_DECKS // 4}}
-FAULTS = range(1, 20)       # bench/stand_in.c and bench/reference_deck.c
+FAULTS = range(1, 24)       # bench/stand_in.c and bench/reference_deck.c
 VALGRIND = ["valgrind", "--quiet", "--error-exitcode=9", "--main-stacksize=33554432", "--max-stackframe=16777216"]
 BATCH, BATCH_BYTES = 400, 1 << 24       # requests to the runner at a time
 
@@ -57,12 +58,9 @@ def words(numbers):
     return array.array("I", numbers).tobytes()
 
 
-def signed(numbers):
-    return array.array("i", numbers).tobytes()
-
-
-def lent(numbers):
-    return words([len(numbers)]) + words(numbers)
+def lent(numbers, code="I"):
+    """A slice that is only read; i is the code of signed numbers."""
+    return words([len(numbers)]) + array.array(code, numbers).tobytes()
 
 
 class Request:
@@ -77,7 +75,7 @@ def refusal_answer(refusal):
 
 
 def design_bytes(design):
-    return words([design.nodes]) + lent(design.starts) + lent(design.ends) + words([len(design.delays)]) + signed(design.delays)
+    return words([design.nodes]) + lent(design.starts) + lent(design.ends) + lent(design.early, "i") + lent(design.late, "i")
 
 
 def graph_bytes(graph):
@@ -105,12 +103,12 @@ def write_request(name, graph, room):
 
 
 def times_request(name, design, graph, allowed_time, lengths):
-    """`lengths` are those of the three slices for times."""
+    """`lengths` are those of the four slices for times."""
     before = [[-1_000_000_000_000 * (which + 1) - place for place in range(length)] for which, length in enumerate(lengths)]
     answer = 0
     try:
         found = walker.times(design, graph, allowed_time, lengths)
-        before = [[at_copy[part] for at_copy in found] for part in range(3)]
+        before = [[at_copy[part] for at_copy in found] for part in range(4)]
     except walker.Refused as refused:
         answer = refusal_answer(refused.refusal)
     sent = words([TIMES]) + design_bytes(design) + words([allowed_time]) + graph_bytes(graph) + words(lengths)
@@ -199,12 +197,12 @@ def random_series(rng):
     if series.held is not None:
         yield from of_graph("what is held", series.held, (rng.choice((-1, 9)), 0))
         allowed = rng.choice((0, 7, 1_000_000_000, 1_000_000_001))
-        yield "random series", times_request("times", series.design, series.held, allowed, [len(series.held.copy_nodes)] * 3)
+        yield "random series", times_request("times", series.design, series.held, allowed, [len(series.held.copy_nodes)] * 4)
 
 
 def of_unfit_graphs():
     for given in times_cases.cases():
-        design = Design(given.nodes, given.starts, given.ends, given.delays)
+        design = Design(given.nodes, given.starts, given.ends, given.early, given.late)
         graph = Graph(given.copy_nodes, given.copy_starts, given.copy_ends, given.names)
         yield "graphs", times_request("times", design, graph, given.allowed, given.rooms)
         yield from of_graph("a graph of times_cases", graph, (0,))
@@ -233,7 +231,7 @@ def rows_of_hops(rows, widths):
         first, hops = (len(widths) + 1) * row, []
         for hop, width in enumerate(widths):
             hops.append(range(len(edges), len(edges) + width))
-            edges += [(first + hop, first + hop + 1, number % 9 - 2) for number in hops[-1]]
+            edges += [(first + hop, first + hop + 1, number % 9 - 2 - number % 4, number % 9 - 2) for number in hops[-1]]
         numbers.append(hops)
     return edges, numbers
 
@@ -266,11 +264,11 @@ def at_the_limits():
         return [("limits", request) for request in series.requests]
 
     # nodes by themselves leave the least of the scratch unused
-    series = Recorded(Design(4096, [], [], []), "4,096 isolated nodes")
+    series = Recorded(design_of(4096, []), "4,096 isolated nodes")
     thresholds(series, DESIGN, PathList([], []))
     thresholds(series, HELD, PathList([], []))
     yield from done(series)
-    series = Recorded(Design(4097, [], [], []), "4,097 isolated nodes")
+    series = Recorded(design_of(4097, []), "4,097 isolated nodes")
     assert series.add(DESIGN, PathList([], []), Room(4097, 0, 0, 0), walker.WORDS_PER_UNIT * 4097) == (10, 0)
     yield from done(series)
     design, path_list, further = full_design()
@@ -282,11 +280,11 @@ def at_the_limits():
     series = Recorded(design, "from a graph at its limits")
     thresholds(series, GIVEN, path_list, earlier)
     yield from done(series)
-    series = Recorded(Design(2, [0] * 16384, [1] * 16384, [5] * 16384), "16,384 parallel edges")
+    series = Recorded(design_of(2, [(0, 1, -k % 9, 9) for k in range(16384)]), "16,384 parallel edges")
     thresholds(series, DESIGN, decks.path_list_of([[16 * k] for k in range(1024)]))
     thresholds(series, HELD, decks.path_list_of([[16 * k + 1] for k in range(1024)]))
     yield from done(series)
-    yield "limits", times_request("times", series.design, series.held, 9, [2, 2, 2])
+    yield "limits", times_request("times", series.design, series.held, 9, [2] * 4)
     # 1,024 paths and 8,192 listed edges on a chain with two edges doubled
     chain = decks.braid(4095, (0, 2000), [])
     paths = [[k] + list(range(k + 1, k + 8)) for k in range(0, 4088, 4)]
@@ -296,7 +294,7 @@ def at_the_limits():
         chain.design, decks.path_list_of([list(range(0, 60)), list(range(1990, 2050))]), None))
     thresholds(series, HELD, decks.path_list_of([list(range(1970, 2040))]))
     yield from done(series)
-    yield "limits", times_request("times", series.design, series.held, 1_000_000_000, [len(series.held.copy_nodes)] * 3)
+    yield "limits", times_request("times", series.design, series.held, 1_000_000_000, [len(series.held.copy_nodes)] * 4)
     # 1,024 listed pairs and more of them: 8,192 listed edges in 1,024 paths through eight edges in a row, many of them doubled at the end
     row = decks.deck_of(9, [(k, k + 1, k) for k in range(7)] + [(7, 8, k) for k in range(1025)] + [(0, 1, 9), (0, 4, 9)], [], 0).design
     paths = decks.path_list_of([list(range(7)) + [7 + k] for k in range(1024)])

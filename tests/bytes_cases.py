@@ -19,8 +19,9 @@ from walker import Deck, Design, Graph, PathList, Refused, Room, Tables, write_n
 
 TOP = 4294967295
 # the program's
+BLOCKS = 8
 LONGEST = 24
-MOST = {"tables": Tables(16400, 16400, 16400, 8200, 1040), "room": Room(16400, 65600, 65600, 65600), "deck": 131072, "graph": 393216}
+MOST = {"tables": Tables(16400, 16400, 16400, 16400, 8200, 1040), "room": Room(16400, 65600, 65600, 65600), "deck": 131072, "graph": 393216}
 PROGRAM = walker.PROGRAM_TABLES
 WIDEST = MOST["tables"]
 
@@ -51,10 +52,16 @@ def refused_line(refused, kept):
     return "%s; kept %d\n" % (walker.printed_refusal(refused.refusal), kept)
 
 
+def deck_slices(deck):
+    """The six slices, with the delays as packed numbers."""
+    (_, starts, ends, *delays), (lengths, flat), _ = deck
+    return starts, ends, *([walker.pack_delay(delay) for delay in part] for part in delays), flat, lengths
+
+
 def deck_line(deck, sizes):
-    (nodes, starts, ends, delays), (lengths, flat), allowed = deck
-    codes = [walker.pack_delay(delay) for delay in delays]
-    return read_line("deck", (nodes, len(starts), len(flat), len(lengths), allowed), (starts, ends, codes, flat, lengths), sizes)
+    slices = deck_slices(deck)
+    edges, listed, paths = len(slices[0]), len(slices[-2]), len(slices[-1])
+    return read_line("deck", (deck.design.nodes, edges, listed, paths, deck.allowed_time), slices, sizes)
 
 
 def graph_line(graph, sizes):
@@ -94,12 +101,11 @@ def read_deck(data, tables):
 
 
 def write_deck(deck, room):
-    (nodes, starts, ends, delays), (lengths, flat), allowed = deck
-    codes = [walker.pack_delay(delay) for delay in delays]
-    sizes = Tables(len(starts), len(ends), len(delays), len(flat), len(lengths))
+    slices = deck_slices(deck)
+    sizes = Tables(*map(len, slices))
     assert all(size <= most for size, most in zip(sizes, WIDEST)) and room <= MOST["deck"]
-    numbers = [1, nodes, allowed, room]
-    for part in (starts, ends, codes, flat, lengths):
+    numbers = [1, deck.design.nodes, deck.allowed_time, room]
+    for part in slices:
         numbers += packed_slice(part)
     return pack(numbers), write_then_read(walker.write_deck, deck, room, walker.read_deck, deck_line, sizes)
 
@@ -121,25 +127,27 @@ def write_graph(graph, room):
 # ---- Decks -------------------------------------------------------------------------------
 
 A = decks.DECK_A
-A_TABLES = Tables(4, 4, 4, 2, 1)
+A_TABLES = Tables(4, 4, 4, 4, 2, 1)
 
 
 def deck_tables(deck):
     edges = len(deck.design.starts)
-    return Tables(edges, edges, edges, len(deck.path_list.flat), len(deck.path_list.lengths))
+    return Tables(edges, edges, edges, edges, len(deck.path_list.flat), len(deck.path_list.lengths))
 
 
 def tables_cases():
     """Deck A's bytes and tables of every kind: long, just long enough, one too short, of different lengths."""
-    for tables in (PROGRAM, WIDEST, A_TABLES, Tables(5, 5, 5, 3, 2), Tables(0, 0, 0, 0, 0)):
+    for tables in (PROGRAM, WIDEST, A_TABLES, Tables(5, 5, 5, 5, 3, 2), Tables(0, 0, 0, 0, 0, 0)):
         yield read_deck(A, tables)
     for edges, listed, paths in itertools.product((3, 4), (1, 2), (0, 1)):
-        yield read_deck(A, Tables(edges, edges, edges, listed, paths))
-    for sizes in itertools.product((3, 4, 5), repeat=3):
+        yield read_deck(A, Tables(edges, edges, edges, edges, listed, paths))
+    for sizes in itertools.product((4, 5), repeat=4):
         yield read_deck(A, Tables(*sizes, 2, 1))
+    for part in ("starts", "ends", "early", "late"):
+        yield read_deck(A, A_TABLES._replace(**{part: 3}))
     # 30 before all, also with no edges and with bytes that are no deck
     for data in (b"", b"\x80\x00", bytes(4), write_number(4097), A + b"\0"):
-        yield read_deck(data, Tables(1, 1, 2, 0, 0))
+        yield read_deck(data, Tables(1, 1, 1, 2, 0, 0))
 
 
 def number_cases():
@@ -160,14 +168,14 @@ def meeting_cases():
     for data in (bad_time, bad_time + b"\0", bad_time + b"\x80", A + b"\x80", A + b"\0\0",
                  numbers(4097), numbers(4097) + b"\x80\x00", numbers(4096), numbers(4097, 16385),
                  numbers(5, 1025), numbers(5, 1024), numbers(5, 16384), numbers(5, 16385), numbers(5, TOP),
-                 numbers(5, 1) + b"\x80\x00", numbers(5, 1, 9, 9, 0, 1025), numbers(5, 1, 9, 9, 0, 1024), numbers(5, 1, 9, 9, 0, 257),
-                 numbers(5, 1, 9, 9, 0, 256), numbers(0, 0, 1025), numbers(0, 0, 1024), numbers(0, 0, TOP),
+                 numbers(5, 1) + b"\x80\x00", numbers(5, 1, 9, 9, 0, 0, 1025), numbers(5, 1, 9, 9, 0, 0, 1024), numbers(5, 1, 9, 9, 0, 0, 257),
+                 numbers(5, 1, 9, 9, 0, 0, 256), numbers(0, 0, 1025), numbers(0, 0, 1024), numbers(0, 0, TOP),
                  numbers(0, 0, 1, 1024), numbers(0, 0, 1, 1025), numbers(0, 0, 1, 8192), numbers(0, 0, 1, 8193), numbers(0, 0, 1, TOP),
                  numbers(0, 0, 2, 1, 7, TOP), numbers(0, 0, 2, 1, 7, TOP - 1), numbers(0, 0, 3, 0, 0, TOP), numbers(0, 0, 2, 2, 7, 7, 1023),
                  numbers(0, 0, 2, 2, 7, 7, 1022), numbers(0, 0, 2, 2, 7, 7, 8190), numbers(0, 0, 2, 2, 7, 7, 8191),
                  numbers(0, 0, 2, 2, 7, 7, TOP - 1), numbers(0, 0, 1, TOP) + b"\x80\x00", numbers(0, 0, 2, 0, 0, 3),
-                 numbers(0, 1, 8, 9, TOP, 0, TOP), numbers(0, 1, TOP, TOP, 1, 0, 0), numbers(0, 1, 0, 0, TOP - 1, 1, 2, TOP, 0, 0)):
-        for tables in (PROGRAM, WIDEST, Tables(0, 0, 0, 0, 0), Tables(1, 1, 1, 2, 2)):
+                 numbers(0, 1, 8, 9, TOP, TOP - 1, 0, TOP), numbers(0, 1, TOP, TOP, 1, 0, 0, 0), numbers(0, 1, 0, 0, TOP - 1, TOP, 1, 2, TOP, 0, 0)):
+        for tables in (PROGRAM, WIDEST, Tables(0, 0, 0, 0, 0, 0), Tables(1, 1, 1, 1, 2, 2)):
             yield read_deck(data, tables)
 
 
@@ -182,7 +190,7 @@ def damaged(data):
         yield data + bytes([more])
 
 
-WIDE_NUMBERS = decks.deck_of(300, [(0, 200, 1_000_000), (200, 299, -1_000_000), (0, 299, -64)], [[0, 1], [], [2]], 1_000_000_000)
+WIDE_NUMBERS = decks.deck_of(300, [(0, 200, -64, 1_000_000), (200, 299, -1_000_000, 63), (0, 299, -64)], [[0, 1], [], [2]], 1_000_000_000)
 
 
 def damaged_decks():
@@ -219,7 +227,7 @@ def loose_decks(chance):
     for _ in range(200):
         edges, lengths = chance.randrange(5), [chance.randrange(4) for _ in range(chance.randrange(4))]
         design = Design(chance.choice((0, 1, 127, 128, 4096)), *([any_number(chance) for _ in range(edges)] for _ in range(2)),
-                        [walker.unpack_delay(any_number(chance)) for _ in range(edges)])
+                        *([walker.unpack_delay(any_number(chance)) for _ in range(edges)] for _ in range(2)))
         deck = Deck(design, PathList(lengths, [any_number(chance) for _ in range(sum(lengths))]), any_number(chance))
         data = pack(walker.deck_numbers(deck))
         yield write_deck(deck, len(data) + chance.choice((0, 3)))
@@ -234,7 +242,7 @@ def write_cases():
     given = list(unfit_cases.edges_of_the_ranges()) + [unfit_cases.damaged([fault], [3]) for fault in faults]
     given += [unfit_cases.damaged(pair, (3, 1)) for pair in itertools.combinations(faults, 2) if set(pair) & {"10", "11", "20", "21"}]
     for deck in given:
-        found = Deck(Design(deck.nodes, deck.starts, deck.ends, deck.delays), PathList(deck.lengths, deck.listed), deck.allowed)
+        found = Deck(Design(deck.nodes, deck.starts, deck.ends, deck.early, deck.late), PathList(deck.lengths, deck.listed), deck.allowed)
         yield write_deck(found, 131072 if len(deck.starts) > 100 else 50 + 2 * len(deck.listed))
     # 35 after the counts
     yield write_deck(decks.deck_of(4097, [], [], 0), 0)
@@ -325,17 +333,6 @@ def cases():
     yield "graphs", {0, 1, 2, 3, 30, 32, 33, 34, 35}, [*graph_rooms(), *large_graphs(), *damaged_graphs(), *random_graphs(chance)]
 
 
-def blocks(given):
-    """The cases in blocks of the program's buffer, each with its count in front."""
-    block, count = b"", 0
-    for case in given:
-        if len(write_number(count + 1)) + len(block) + len(case) > expected.BUFFER:
-            yield write_number(count) + block
-            block, count = b"", 0
-        block, count = block + case, count + 1
-    yield write_number(count) + block
-
-
 def main():
     stdin, stdout = [], []
     for name, numbers, found in cases():
@@ -344,10 +341,7 @@ def main():
         stdin += [case for case, _ in found]
         stdout += [lines for _, (_, lines) in found]
         print("bytes_cases: %d %s" % (len(found), name))
-    filled = list(blocks(stdin))
-    assert len(filled) <= 8, len(filled)
-    whole = b"".join(block.ljust(expected.BUFFER, b"\0") for block in filled[:-1]) + filled[-1]
-    expected.keep("bytes_cases", whole, "".join(stdout).encode())
+    expected.keep("bytes_cases", expected.in_blocks(stdin, BLOCKS), "".join(stdout).encode())
 
 
 if __name__ == "__main__":

@@ -24,6 +24,17 @@ def random_delay(rng):
     return rng.choice([0, 1, -1, 63, 64, -64, -65, 1_000_000, -1_000_000] + [rng.randint(-20, 20)] * 12)
 
 
+def random_delays(rng):
+    """An early and a late delay: the early one below the late one more often than not, else equal; of one sign or of two."""
+    late = random_delay(rng)
+    return (late, late) if rng.random() < 0.3 else sorted((random_delay(rng), late))
+
+
+def design_of(nodes, edges):
+    """An edge is its start, its end, and its early and its late delay, or the one delay that is both."""
+    return Design(nodes, *([edge[part] for edge in edges] for part in (0, 1, 2, -1)))
+
+
 def random_design(rng, most_nodes=8, most_edges=14):
     """0 to most_nodes nodes; parallel edges and isolated nodes come by themselves. Two in three
     are dense (few nodes, many edges), so that nodes get several copies."""
@@ -41,7 +52,7 @@ def random_design(rng, most_nodes=8, most_edges=14):
             start, end = sorted(rng.sample(range(nodes), 2))
         starts.append(start)
         ends.append(end)
-    return Design(nodes, starts, ends, [random_delay(rng) for _ in starts])
+    return design_of(nodes, [(start, end, *random_delays(rng)) for start, end in zip(starts, ends)])
 
 
 def random_run(rng, design, most_length):
@@ -92,14 +103,14 @@ def random_deck(rng):
 # ---- Damage to the numbers -----------------------------------------------------------------
 
 def damage_values(rng, deck):
-    """One fault of the designer's in a deck; the three parts stay of matching length."""
+    """One fault of the designer's in a deck; the parts of its edges stay of one length."""
     design, path_list, allowed_time = deck
-    nodes, starts, ends, delays = design[0], *(list(part) for part in design[1:])
+    nodes, starts, ends, early, late = design[0], *(list(part) for part in design[1:])
     paths, flat = [], list(path_list.flat)
     for length in path_list.lengths:
         paths.append(flat[:length])
         flat = flat[length:]
-    kind = rng.choice("node node fall fall delay delay empty edge join join time fewer".split())
+    kind = rng.choice("node node fall fall delay delay above above empty edge join join time fewer".split())
     at = rng.randrange(len(starts)) if starts else None
     which = rng.randrange(len(paths)) if paths else None
     if kind == "node" and starts:
@@ -107,7 +118,9 @@ def damage_values(rng, deck):
     elif kind == "fall" and starts:
         starts[at], ends[at] = rng.choice([(ends[at], starts[at]), (ends[at], ends[at])])
     elif kind == "delay" and starts:
-        delays[at] = rng.choice([1_000_001, -1_000_001, 2 ** 31 - 1, -2 ** 31])
+        rng.choice([early, late])[at] = rng.choice([1_000_001, -1_000_001, 2 ** 31 - 1, -2 ** 31])
+    elif kind == "above" and starts:
+        early[at] = min(late[at] + rng.choice([1, 1, 2, 40]), 2 ** 31 - 1)
     elif kind == "empty":
         paths.insert(rng.randint(0, len(paths)), [])
     elif kind == "edge" and paths:
@@ -119,14 +132,14 @@ def damage_values(rng, deck):
         allowed_time = rng.choice([1_000_000_001, 2 ** 32 - 1])
     elif kind == "fewer":
         nodes = max(0, nodes - 1)
-    return Deck(Design(nodes, starts, ends, delays), path_list_of(paths), allowed_time)
+    return Deck(Design(nodes, starts, ends, early, late), path_list_of(paths), allowed_time)
 
 
 def damage_counts(rng, numbers, deck):
     """A count or a length that does not say what follows, or lies above a limit or a table."""
     numbers = list(numbers)
     m, lengths = len(deck.design.starts), deck.path_list.lengths
-    paths_at = 2 + 3 * m
+    paths_at = 2 + 4 * m
     lengths_at = [paths_at + 1 + sum(lengths[:path]) + path for path in range(len(lengths))]
     at, values = rng.choice([(0, [4096, 4097]), (1, [1024, 1025, 16384, 16385]),
                              (paths_at, [256, 257, 1024, 1025])]
@@ -191,12 +204,11 @@ def random_deck_bytes(rng):
 
 # ---- Fixed decks ----------------------------------------------------------------------------
 
-DECK_A = bytes.fromhex("05 04 00 02 06 01 02 0A 02 03 04 02 04 02 01 02 01 02 0A")
+DECK_A = bytes.fromhex("05 04 00 02 06 06 01 02 0A 0A 02 03 04 04 02 04 02 02 01 02 01 02 0A")
 
 
 def deck_of(nodes, edges, paths, allowed_time):
-    return Deck(Design(nodes, *([edge[part] for edge in edges] for part in range(3))),
-                path_list_of(paths), allowed_time)
+    return Deck(design_of(nodes, edges), path_list_of(paths), allowed_time)
 
 
 A_EDGES = [(0, 2, 3), (1, 2, 5), (2, 3, 2), (2, 4, 1)]
@@ -212,6 +224,11 @@ MARKED = {
     "M8": deck_of(6, M8_EDGES, [[0, 2, 3], [1, 2, 3, 4]], 10),
     "M9": deck_of(2, [(0, 1, -4)], [], 10),
 }
+
+
+# the design of decks/hold.txt: the path with the earliest arrival at node 3 is false
+HOLD_EDGES = [(0, 1, 60, 90), (1, 2, 10, 15), (0, 2, 10, 15), (2, 3, 5, 10), (2, 4, 8, 12)]
+HOLD = deck_of(5, HOLD_EDGES, [[2, 3]], 150)
 
 
 def parallel(count):
@@ -231,8 +248,8 @@ def chain(length, paths):
 def braid(length, doubled, paths):
     """A chain with a second edge beside each of the doubled ones, numbered from length on."""
     steps = list(range(length)) + list(doubled)
-    return deck_of(length + 1, [(node, node + 1, number % 11 - 3) for number, node in enumerate(steps)],
-                   paths, 1000)
+    delays = [(number % 11 - 3 - number % 4, number % 11 - 3) for number in range(len(steps))]
+    return deck_of(length + 1, [(node, node + 1, *both) for node, both in zip(steps, delays)], paths, 1000)
 
 
 def full(extra):
@@ -249,8 +266,14 @@ def fixed_decks():
               deck_of(5, A_EDGES, [], 1_000_000_000), deck_of(5, A_EDGES, [[0, 3], [2, 1], [3, 2]], 10)]
     decks += [deck_of(2, [(0, 1, delay)], [], 10)
               for delay in (-1_000_000, 1_000_000, -1_000_001, 1_000_001, 2 ** 31 - 1, -2 ** 31)]
+    # 14 by the early delay alone and by the late one; 15, and not where they are equal
+    decks += [deck_of(2, [(0, 1, early, late)], [], 10) for early, late in
+              ((-1_000_000, 1_000_000), (-1_000_001, 1_000_000), (-1_000_000, 1_000_001), (-2 ** 31, 2 ** 31 - 1), (1_000_001, 0), (0, -1_000_001),
+               (1, 0), (0, -1), (1_000_000, -1_000_000), (5, 4), (5, 5), (-5, -5), (-5, -4))]
+    decks += [HOLD, deck_of(5, HOLD_EDGES, [], 150), deck_of(5, HOLD_EDGES, [[0], [2]], 150),
+              deck_of(4, [(0, 2, -9, 9), (1, 2, -4, 3), (2, 3, -7, -6)], [[0, 2]], 10)]
     decks += [deck_of(nodes, [], [], 5) for nodes in (511, 512, 513, 2047, 2048, 2049, 4096, 4097)]
-    decks += [deck_of(2, parallel(count), [], 5) for count in (1023, 1024, 1025, 16384, 16385)]
+    decks += [deck_of(2, parallel(count), [], 5) for count in (1023, 1024, 1025)]
     decks += [full(extra) for extra in (0, 1)]                                        # 16,384 words of scratch, and 16,392
     decks += [wide(extra) for extra in (1, 32, 33)]                                   # 2,017, 2,048, 2,049
     decks += [chain(8, [[0]] * count) for count in (255, 256, 257, 1024, 1025)]
@@ -267,9 +290,15 @@ def fixed_decks():
               deck_of(5, [(0, 2, 2_000_000), (3, 1, 0)], [[], [7], [1, 0]], 2 ** 32 - 1),
               deck_of(5, A_EDGES, [[2, 1], [7], []], 2 ** 32 - 1),
               deck_of(5, A_EDGES, [[2, 1], [7]], 2 ** 32 - 1), deck_of(0, [(0, 1, 0)], [], 0)]
+    # 15 at an edge and another number at a later one, or at the same
+    above, below = (0, 2, 4, 3), (0, 2, 3, 4)
+    decks += [deck_of(5, edges, paths, 10) for edges, paths in
+              (([above, (0, 1, 2_000_000)], []), ([above, (0, 1, -2_000_000, 0)], []), ([above, (0, 1, 0, 2_000_000)], []), ([above, (3, 1, 0)], []),
+               ([above, (0, 9, 0)], []), ([above], [[], [7]]), ([below, above, above], []), ([(2, 1, 4, 3)], []), ([(2, 9, 4, 3)], []),
+               ([(0, 2, 2_000_000, 3)], []), ([below, (1, 2, 2_000_001, 2_000_000), (3, 1, 0)], []))]
     found = [pack(deck_numbers(deck)) for deck in decks]
     found += [DECK_A + b"\x80", DECK_A + b"\x00", b"", b"\x80\x00", b"\x80" * 4, b"\x80" * 5, b"\x80\x80",
-              write_number(4097), b"\x05" + write_number(16385), b"\x05" + write_number(1025),
+              write_number(4097), b"\x05" + write_number(16385), b"\x05" + write_number(16384), b"\x05" + write_number(1025),
               b"\x00\x00" + write_number(1025), b"\x00\x00" + write_number(257), b"\x00\x00\x01" + write_number(1025),
               b"\x00\x00\x01" + write_number(8193), b"\x00\x00\x02\x01\x00" + write_number(2 ** 32 - 1),
               b"\x00\x00\x00" + b"\xff\xff\xff\xff\x0f", b"\x00\x00\x00" + b"\xff\xff\xff\xff\x0f\x00",

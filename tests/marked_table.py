@@ -11,13 +11,14 @@ import pathlib
 import sys
 
 import walker as w
+from decks import HOLD_EDGES, design_of
 
 FILE = pathlib.Path(__file__).resolve().parent.parent / "crates" / "timing" / "proofs" / "Marked.antt"
 WIDTH = 120
 
 
 def design(nodes, *edges):
-    return w.Design(nodes, [e[0] for e in edges], [e[1] for e in edges], [e[2] for e in edges])
+    return design_of(nodes, edges)
 
 
 def listed(*paths):
@@ -36,9 +37,16 @@ ISOLATED = design(3, (0, 2, 1))
 FORKED = design(4, (0, 1, 0), (1, 2, 0), (1, 3, 0))
 FALLING = design(2, (1, 0, 0))
 FALLING_AND_UNKNOWN = design(2, (1, 0, 0), (0, 2, 0))
+JOINED = design(5, (0, 3, 2, 9), (1, 3, 1, 3), (2, 3, -5, 6), (3, 4, 1, 2))
+HOLD = design(5, *HOLD_EDGES)
+EARLY_ABOVE = design(2, (0, 1, 5, 4))
+EARLY_ABOVE_BELOW_ZERO = design(2, (0, 1, -5, -4), (0, 1, -4, -5))
+EARLY_ABOVE_AND_FAR = design(2, (0, 1, 5, 4), (0, 1, 0, 1_000_001))
+EARLY_ABOVE_AND_FALLING = design(2, (0, 1, 5, 4), (1, 0, 0))
 LIST_A = listed((1, 2))
 NONE = listed()
 M8_LIST = listed((0, 2, 3), (1, 2, 3, 4))
+HOLD_LIST = listed((2, 3))
 SPLIT_SOURCE = w.Graph([0, 0, 1, 1, 2, 3], [0, 1, 2, 3], [2, 3, 4, 5], [0, 0, 1, 2])
 OUT_OF_ORDER = w.Graph([0, 0, 1, 1, 2, 3], [1, 0, 2, 3], [3, 2, 4, 5], [0, 0, 1, 2])
 AMPLE = w.Room(512, 2048, 2048, 2048)
@@ -65,6 +73,13 @@ NAMES = [
     ("outOfOrder", OUT_OF_ORDER, None),
     ("falling", FALLING, "edge 0 falls; and with it an edge to a node that is not there"),
     ("fallingAndUnknown", FALLING_AND_UNKNOWN, None),
+    ("joined", JOINED, "into node 3 the latest edge, the one of the smallest late delay, and the earliest"),
+    ("hold", HOLD, "decks/hold.txt"),
+    ("listHold", HOLD_LIST, None),
+    ("earlyAbove", EARLY_ABOVE, "15 at edge 0; at edge 1, with delays below 0; at edge 0, with 14 and with 13 at edge 1"),
+    ("earlyAboveBelowZero", EARLY_ABOVE_BELOW_ZERO, None),
+    ("earlyAboveAndFar", EARLY_ABOVE_AND_FAR, None),
+    ("earlyAboveAndFalling", EARLY_ABOVE_AND_FALLING, None),
     ("ample", AMPLE, "the deck program's room"),
 ]
 
@@ -117,6 +132,24 @@ ROWS = [
       ("removal", M8, listed((0, 2, 0, 1)), AMPLE, 999), ("removal", M8, listed((2, 3, 5), (1, 0)), AMPLE, 999)]),
     ("22: an empty path behind a broken one, and behind one that names an unknown edge",
      [("removal", A, listed((2, 1), ()), AMPLE, 999), ("removal", A, listed((2, 9), (), ()), AMPLE, 999)]),
+    ("Earliest arrivals: that of node 3 is not on the latest path, not of the smallest late delay, and below 0",
+     [("times", JOINED, 10, [NONE])]),
+    ("The path with the earliest arrival is false; then a node whose second copy is the earlier one",
+     [("times", HOLD, 150, [HOLD_LIST]), ("nodes", HOLD, 150, [HOLD_LIST]), ("nodes", HOLD, 150, [listed((2, 3), (1, 4))])]),
+    ("In the deck early first: read the other way, edge 0 gives 15", [("deck", JOINED, NONE, 10)]),
+    ("30: early delays of another length, and late ones; the edge falls, too",
+     [("removal", FALLING._replace(early=[]), NONE, AMPLE, 96), ("removal", FALLING._replace(late=[]), NONE, AMPLE, 96)]),
+    ("30: slices of the deck reader, of times and of records that have one place less or more, the last of each and another",
+     [("reader", A, LIST_A, 10, (4, 4, 4, 4, 2, 1)), ("reader", A, LIST_A, 10, (4, 4, 4, 5, 2, 1)), ("reader", A, LIST_A, 10, (4, 4, 3, 4, 2, 1)),
+      ("times tests", A, GRAPH_A, 10, (6, 6, 6, 6)), ("times tests", A, GRAPH_A, 10, (6, 6, 6, 5)), ("times tests", A, GRAPH_A, 10, (6, 7, 6, 6)),
+      ("records tests", 5, GRAPH_A, (6, 6, 6, 6), (5, 5, 5, 5, 5)), ("records tests", 5, GRAPH_A, (6, 6, 6, 5), (5, 5, 5, 5, 5)),
+      ("records tests", 5, GRAPH_A, (6, 6, 6, 6), (5, 5, 5, 5, 6)), ("records tests", 5, GRAPH_A, (6, 6, 6, 6), (4, 5, 5, 5, 5))]),
+    ("14: by the early delay alone, and by the late one",
+     [("removal", design(2, (0, 1, -1_000_001, 0)), NONE, AMPLE, 96), ("removal", design(2, (0, 1, 0, 1_000_001)), NONE, AMPLE, 96)]),
+    ("15: with delays above 0 and below, and not where they are equal; 14 and 13 at a later edge come before it",
+     [("removal", EARLY_ABOVE, NONE, AMPLE, 96), ("removal", EARLY_ABOVE_BELOW_ZERO, NONE, AMPLE, 96),
+      ("removal", design(2, (0, 1, 5, 5)), NONE, AMPLE, 96), ("removal", EARLY_ABOVE_AND_FAR, NONE, AMPLE, 96),
+      ("removal", EARLY_ABOVE_AND_FALLING, NONE, AMPLE, 96)]),
     ("An earlier graph that is not the design: two copies of a source, which removal keeps apart",
      [("again", FORKED, SPLIT_SOURCE, listed((0, 1)), AMPLE, 999)]),
     ("An earlier graph that is not well formed: two edges out of order",
@@ -148,7 +181,8 @@ def integer(z):
 def written_out(x):
     """What the walker's x is in the table, where it has no name."""
     if isinstance(x, w.Design):
-        return applied("design", str(x.nodes), numbers(x.starts), numbers(x.ends), items(map(integer, x.delays)))
+        delays = (items(map(integer, part)) for part in (x.early, x.late))
+        return applied("design", str(x.nodes), numbers(x.starts), numbers(x.ends), *delays)
     if isinstance(x, w.PathList):
         return applied("pathList", numbers(x.flat), numbers(x.lengths))
     if isinstance(x, w.Graph):
@@ -204,6 +238,11 @@ def read_text(data):
         return applied("NotRead", refusal_text(r.refusal))
 
 
+def verdict_text(call):
+    refusal = w.refusal_of(call)
+    return "Passed" if refusal is None else applied("Refused", refusal_text(refusal))
+
+
 def fact(kind, *given):
     """The words of a fact: its constructor, and then its arguments."""
     if kind == "graph":
@@ -214,7 +253,7 @@ def fact(kind, *given):
         held = after(d, lists)
         rows = w.copy_times(d, held, t)
         if kind == "nodes":
-            columns = [[x[i] for x in rows] for i in range(3)]
+            columns = [[x[i] for x in rows] for i in range(4)]
             rows = [w.node_record(d.nodes, held.copy_nodes, *columns, v) for v in range(d.nodes + 1)]
         return kind + "Are", named(d), str(t), items(map(named, lists)), items(map(named, rows))
     if kind == "deck":
@@ -238,6 +277,17 @@ def fact(kind, *given):
         d, g, l, room, words = given
         outcome = outcome_text(lambda: w.removal(d, l, g, words, room))
         return "againIs", named(d), named(g), removal_text(l, room, words), outcome
+    if kind == "reader":
+        data, lent = deck_bytes(*given[:3]), given[3]
+        return "readerAnswers", named(data), numbers(lent), verdict_text(lambda: w.read_deck(data, w.Tables(*lent)))
+    if kind == "times tests":
+        d, g, t, lent = given
+        return "timesAnswer", named(d), named(g), str(t), numbers(lent), verdict_text(lambda: w.times(d, g, t, lent))
+    if kind == "records tests":
+        n, g, lent, places = given
+        columns = [[0] * length for length in lent]
+        verdict = verdict_text(lambda: w.node_records(n, g.copy_nodes, *columns, places))
+        return "recordsAnswer", str(n), named(g), numbers(lent), numbers(places), verdict
     raise ValueError(kind)
 
 
@@ -257,34 +307,38 @@ def row(start, words):
     whole = start + applied(*words)
     if len(whole) <= WIDTH:
         return [whole]
-    return [start + applied(*words[:-1])] + lines_of(argument(words[-1]), " " * 4, " ∷ ")
+    asked, found = start.lstrip() + applied(*words[:-1]), argument(words[-1])
+    return lines_of(asked, " " * 4, " ∷ ") + lines_of(found, " " * 4, " ∷ ")
 
 
 HEADER = """-- The marked cases of document 01, M1 to M10, and rows that shut out wrong definitions which M1 to M10 would let
 -- through: one table and one claim, shown by computing the definitions. Made by tests/marked_table.py: every result
--- is the walker's.
+-- is the walker's. "Deck A and the marked cases take early equal to late" (02, request 1).
 use Prim.Native.Nat.{ℕ, suc}
 use mathlib.Core.Path.{_≡_, refl}
 use mathlib.Core.List.{List, [], _∷_, map, flatMap}
 use lib.IntN.{ℤ, pos, negsuc}
-use lib.ListN.{length}
+use lib.ListN.{length, getD}
+use Rattle.timing.specs.declared.Verdict.{Verdict}
+use Rattle.timing.specs.declared.Verdict.the-variants.{Passed, Refused}
 use Rattle.timing.specs.declared.NumberRead.{NumberRead}
 use Rattle.timing.specs.declared.NumberRead.the-variants.{Refused as NotRead}
 use Rattle.timing.specs.declared.NodeTimes.{NodeTimes}
 use Rattle.timing.specs.declared.NodeTimes.the-variants.{Times, None}
 use Rattle.timing.specs.Lists.{upto}
-use Rattle.timing.specs.Graphs.{Design, design, edgeDelay, edge, Graph, graph, designGraph, edgesIn, edgesOut}
+use Rattle.timing.specs.Graphs.{Design, design, edge, Graph, graph, designGraph, edgesIn, edgesOut}
 use Rattle.timing.specs.Graphs.{runsTo, runsFrom, completeRuns}
 use Rattle.timing.specs.Marks.{PathList, pathList, pathsOf, permitted, tails, mark}
 use Rattle.timing.specs.TrueGraphs.{permittedRuns, copies, joins, trueGraph}
 use Rattle.timing.specs.WellFormed.{wellFormed}
-use Rattle.timing.specs.Times.{arrivalAt, requiredAt, slackAt, nodeTimes}
+use Rattle.timing.specs.Times.{arrivalAt, requiredAt, slackAt, earliestAt, nodeTimes}
 use Rattle.timing.specs.Numbers.{packedIn, packed, groupsIn, readNumber, writeAnswer, writtenRoom}
-use Rattle.timing.specs.Decks.{readDeck}
+use Rattle.timing.specs.Decks.{Deck, readDeck}
 use Rattle.timing.specs.GraphBytes.{graphNumbers, packedGraph}
 use Rattle.timing.specs.Refusals.{refusal, refusalWithin}
 use Rattle.timing.specs.Tests.{Room, designTests, listTests, candidates, scratchTest, roomTests}
 use Rattle.timing.specs.Calls.{Outcome, made, refused, Removal, removal, slicesOf, testDeck}
+use Rattle.timing.specs.Calls.{testTimes, arrivalsAfter, requiredsAfter, slacksAfter, earliestsAfter, testRecords, deckRead}
 use Rattle.timing.specs.Calls.{removeFromDesign, removeFromGraph, programRemoval, program, cCall, cRoom}
 
 -- the graph after some lists are removed in turn
@@ -303,6 +357,9 @@ pub data Fact : Type 0 where
   cRoomIs : List ℕ → ℕ → List ℕ → Fact
   packedIs : ℕ → List ℕ → Fact
   readIs : List ℕ → NumberRead → Fact
+  readerAnswers : List ℕ → List ℕ → Verdict → Fact
+  timesAnswer : Design → Graph → ℕ → List ℕ → Verdict → Fact
+  recordsAnswer : ℕ → Graph → List ℕ → List ℕ → Verdict → Fact
 
 abbrev pub zeros : ℕ → List ℕ
 zeros n = map (λ i. 0) (upto n 0)
@@ -310,24 +367,37 @@ zeros n = map (λ i. 0) (upto n 0)
 abbrev pub room : ℕ → ℕ → ℕ → ℕ → Room
 room nodes from to via = record { nodes = nodes; starts = from; ends = to; names = via }
 
--- a time of every copy
-abbrev copyTimes : (ℕ → ℤ) → Graph → List ℤ
-copyTimes time G = map time (upto (length (G .nodes)) 0)
+-- f of the four slices that `times` fills for the copies of R
+abbrev ofTimes : {A : Type 0} → Design → ℕ → Graph → (List ℤ → List ℤ → List ℤ → List ℤ → A) → A
+ofTimes D T R f =
+    let S = slicesOf R in
+    f (arrivalsAfter D S T Passed []) (requiredsAfter D S T Passed []) (slacksAfter D S T Passed [])
+    (earliestsAfter D S Passed [])
+
+abbrev copyTimes : List ℤ → List ℤ → List ℤ → List ℤ → ℕ → NodeTimes
+copyTimes arrivals requireds slacks earliests c =
+    let at : List ℤ → ℤ = λ ts. getD ts c (pos 0) in
+    Times (at arrivals) (at requireds) (at slacks) (at earliests)
+
+-- the k-th of some lent lengths, and a slice of times of that length
+abbrev lent : List ℕ → ℕ → ℕ
+lent ls k = getD ls k 0
+
+abbrev slice : List ℕ → ℕ → List ℤ
+slice ls k = map (λ i. pos 0) (upto (lent ls k) 0)
+
+abbrev verdictIn : Outcome Deck → Verdict
+verdictIn (made d) = Passed
+verdictIn (refused r) = Refused r
 
 abbrev pub Holds : Fact → Type 0
 Holds (graphIs D Ls R) = removed (designGraph D) Ls ≡ R
 Holds (timesAre D T Ls ts) =
     let R : Graph = removed (designGraph D) Ls in
-    let arrival = arrivalAt (edgeDelay D) (pos T) R in
-    let required = requiredAt (edgeDelay D) (pos T) R in
-    let slack = slackAt (edgeDelay D) (pos T) R in
-    map (λ c. Times (arrival c) (required c) (slack c)) (upto (length (R .nodes)) 0) ≡ ts
+    map (ofTimes D T R copyTimes) (upto (length (R .nodes)) 0) ≡ ts
 Holds (nodesAre D T Ls ts) =
     let R : Graph = removed (designGraph D) Ls in
-    let arrivals = copyTimes (arrivalAt (edgeDelay D) (pos T) R) R in
-    let requireds = copyTimes (requiredAt (edgeDelay D) (pos T) R) R in
-    let slacks = copyTimes (slackAt (edgeDelay D) (pos T) R) R in
-    map (nodeTimes (D .nodes) (R .nodes) arrivals requireds slacks) (upto (suc (D .nodes)) 0) ≡ ts
+    map (ofTimes D T R (nodeTimes (D .nodes) (R .nodes))) (upto (suc (D .nodes)) 0) ≡ ts
 Holds (removalIs D r o) = removeFromDesign D r ≡ o
 Holds (againIs D G r o) = removeFromGraph D (slicesOf G) r ≡ o
 Holds (programIs s o) = program s ≡ o
@@ -335,6 +405,12 @@ Holds (cCallIs s n z) = cCall s (zeros n) ≡ z
 Holds (cRoomIs s n bs) = cRoom s (zeros n) ≡ bs
 Holds (packedIs x bs) = packed x ≡ bs
 Holds (readIs bs r) = readNumber bs 0 ≡ r
+Holds (readerAnswers s ls v) =
+    verdictIn (deckRead s (lent ls 0) (lent ls 1) (lent ls 2) (lent ls 3) (lent ls 4) (lent ls 5)) ≡ v
+Holds (timesAnswer D G T ls v) = testTimes D (slicesOf G) T (lent ls 0) (lent ls 1) (lent ls 2) (lent ls 3) ≡ v
+Holds (recordsAnswer n G ls ps v) =
+    testRecords n (G .nodes) (slice ls 0) (slice ls 1) (slice ls 2) (slice ls 3)
+    (lent ps 0) (lent ps 1) (lent ps 2) (lent ps 3) (lent ps 4) ≡ v
 
 infixr 4 _also_
 pub data All : List Fact → Type 0 where
@@ -347,9 +423,10 @@ pub data All : List Fact → Type 0 where
 # What marked-hold computes through.
 UNFOLDING = [
     "flatMap designGraph edgesIn edgesOut runsTo runsFrom completeRuns permitted tails mark permittedRuns copies",
-    "joins trueGraph wellFormed arrivalAt requiredAt slackAt nodeTimes packedIn groupsIn readNumber writeAnswer",
-    "writtenRoom readDeck graphNumbers packedGraph designTests listTests candidates scratchTest roomTests testDeck",
-    "removeFromDesign removeFromGraph programRemoval program cCall cRoom",
+    "joins trueGraph wellFormed arrivalAt requiredAt slackAt earliestAt nodeTimes arrivalsAfter requiredsAfter",
+    "slacksAfter earliestsAfter packedIn groupsIn readNumber writeAnswer writtenRoom readDeck graphNumbers packedGraph",
+    "designTests listTests candidates scratchTest roomTests testDeck removeFromDesign removeFromGraph programRemoval",
+    "program cCall cRoom deckRead testTimes testRecords",
 ]
 
 TYPES = {w.Design: "Design", w.PathList: "PathList", w.Graph: "Graph", w.Room: "Room", bytes: "List ℕ"}

@@ -6,10 +6,10 @@ python3 tests/removal_cases.py --check   says whether the two files are what it 
 
 Every expected answer is that of tests/walker.py, the separate program, which walks all paths.
 
-Input: up to eight blocks of 65,536 bytes (the last may be shorter). A block is packed numbers: the count of its series, the series, and
+Input: up to two blocks of 65,536 bytes (the last may be shorter). A block is packed numbers: the count of its series, the series, and
 zeros. A series is one design and some removals, in order:
 
-    n; three slices: starts, ends, delays (as packed numbers); the count of removals; the removals
+    n; four slices: starts, ends, early and late delays (as packed numbers); the count of removals; the removals
 
 A removal is
 
@@ -31,15 +31,15 @@ import random
 
 import expected
 import walker
-from decks import (A_EDGES, M8_EDGES, MARKED, braid, chain, damage_graph, deck_of, path_list_of, random_design,
-                   random_foreign_graph, random_paths)
+from decks import (A_EDGES, M8_EDGES, MARKED, braid, chain, damage_graph, deck_of, design_of, path_list_of,
+                   random_design, random_foreign_graph, random_paths)
 from walker import Design, Graph, PathList, Room
 
 # The program's tables, and its room and scratch.
 EDGE_TABLE, LISTED_TABLE, PATH_TABLE, COPY_TABLE, COPY_EDGE_TABLE = 16400, 8200, 1040, 16400, 2080
 COPY_ROOM, EDGE_ROOM, SCRATCH = 2080, 2080, 32768
 BLOCKS = 2                  # that it reads
-NUMBERS = (30, 10, 11, 12, 13, 14, 20, 21, 22, 23, 24, 31, 32, 33, 34)
+NUMBERS = (30, 10, 11, 12, 13, 14, 15, 20, 21, 22, 23, 24, 31, 32, 33, 34)
 DESIGN, HELD, GIVEN = range(3)
 TOP = 4294967295
 PRINTED = 40
@@ -110,9 +110,9 @@ class Series:
         self.refusals.append(refusal)
 
     def packed(self):
-        codes = [walker.pack_delay(delay) for delay in self.design.delays]
-        numbers = [self.design.nodes]
-        for part in (self.design.starts, self.design.ends, codes):
+        nodes, starts, ends, *delays = self.design
+        numbers = [nodes]
+        for part in (starts, ends, *([walker.pack_delay(delay) for delay in part] for part in delays)):
             assert len(part) <= EDGE_TABLE
             numbers += packed_slice(list(part))
         numbers.append(len(self.removals))
@@ -283,15 +283,15 @@ def unfit_designs():
     room = Room(6, 5, 5, 5)
     designs = [good._replace(nodes=nodes) for nodes in (0, 2, 4, 4096, 4097, TOP)]
     for place in range(4):
-        for start, end, delay in ((0, 5, 0), (5, 6, 0), (TOP, 0, 0), (2, 2, 0), (3, 1, 0), (0, 1, 1_000_001), (0, 4, -1_000_001)):
-            parts = [list(part) for part in good[1:]]
-            for part, value in zip(parts, (start, end, delay)):
-                part[place] = value
-            designs.append(Design(5, *parts))
-    designs += [good._replace(**{name: list(getattr(good, name))[:-1]}) for name in ("starts", "ends", "delays")]
-    designs += [good._replace(**{name: list(getattr(good, name)) + [0]}) for name in ("starts", "ends", "delays")]
-    designs += [Design(5, [0] * count, [1] * count, [7] * count) for count in (16383, 16384, 16385)]
-    designs += [Design(4097, [0] * 16385, [1] * 16385, [7] * 16385), Design(2, [], [], []), Design(4096, [], [], [])]
+        for edge in ((0, 5, 0), (5, 6, 0), (TOP, 0, 0), (2, 2, 0), (3, 1, 0), (0, 1, 0, 1_000_001), (0, 4, -1_000_001, 0), (0, 4, 1, 0),
+                     (0, 4, -1, 1)):
+            designs.append(design_of(5, A_EDGES[:place] + [edge] + A_EDGES[place + 1:]))
+    for above in ([(0, 1, 0), (0, 1, 1, 0)], [(0, 1, 1, 0), (0, 1, 0, 1_000_001)], [(0, 1, 1, 0), (1, 1, 0)], [(0, 1, 2, 1), (0, 1, 2, 1)]):
+        designs.append(design_of(5, above + A_EDGES[2:]))                   # 15; 14, 13 and 15 meet it at a later edge
+    designs += [good._replace(**{name: list(getattr(good, name))[:-1]}) for name in Design._fields[1:]]
+    designs += [good._replace(**{name: list(getattr(good, name)) + [0]}) for name in Design._fields[1:]]
+    designs += [design_of(5, [(0, 1, 7)] * count) for count in (16383, 16384, 16385)]
+    designs += [design_of(4097, [(0, 1, 7)] * 16385), design_of(2, []), design_of(4096, [])]
     given = walker.true_graph(good, paths)
     for design in designs:
         series = Series(design)
@@ -400,30 +400,13 @@ def random_cases(rng, count):
 
 # ---- The files ------------------------------------------------------------------------------
 
-def blocks(all_series):
-    """The series in blocks, each begun by its count and filled up with zeros."""
-    found, held, size = [], [], 0
-    for series in all_series:
-        data = series.packed()
-        assert len(data) + 4 <= expected.BUFFER, len(data)
-        if size + len(data) + 4 > expected.BUFFER:
-            found.append(held)
-            held, size = [], 0
-        held.append(data)
-        size += len(data)
-    found.append(held)
-    assert len(found) == BLOCKS
-    packed = [walker.write_number(len(block)) + b"".join(block) for block in found]
-    return b"".join(block.ljust(expected.BUFFER, b"\0") for block in packed[:-1]) + packed[-1]
-
-
 def main():
     all_series = [series for cases in (marked, adversarial, widest_rooms, unfit_designs, unfit_lists_and_graphs)
                   for series in cases()]
     all_series += random_cases(random.Random(7), 700)
     refusals = [refusal for series in all_series for refusal in series.refusals]
     assert set(NUMBERS) == {refusal[0] for refusal in refusals if refusal}, set(refusals)
-    stdin = blocks(all_series)
+    stdin = expected.in_blocks([series.packed() for series in all_series], BLOCKS)
     stdout = "".join(line + "\n" for series in all_series for line in series.lines)
     expected.keep("removal_cases", stdin, stdout.encode())
     print("removal_cases: %d series, %d removals, %d refused" % (len(all_series), len(refusals), sum(map(bool, refusals))))

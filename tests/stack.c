@@ -21,7 +21,7 @@ static path_list list;
 static graph earlier, room;
 static size_t words;
 static uint32_t *scratch;
-static int64_t times[3][ROOM_COPIES];
+static int64_t times[4][ROOM_COPIES];
 static uint8_t deck[JAQHWENI_MAX_DECK_BYTES], packed[ROOM_BYTES];
 static size_t deck_length;
 
@@ -34,24 +34,24 @@ static int64_t of_deck(void)
 
 static int64_t from_design(void)
 {
-    return jaqhweni_remove_from_design(d.n, d.starts, d.m, d.ends, d.m, d.delays, d.m, list.edges, list.listed, list.lengths, list.paths,
-                                       room.nodes, ROOM_COPIES, room.from, ROOM_EDGES, room.to, ROOM_EDGES, room.via, ROOM_EDGES,
-                                       scratch, words);
+    return jaqhweni_remove_from_design(d.n, d.starts, d.m, d.ends, d.m, d.early, d.m, d.late, d.m, list.edges, list.listed, list.lengths,
+                                       list.paths, room.nodes, ROOM_COPIES, room.from, ROOM_EDGES, room.to, ROOM_EDGES, room.via,
+                                       ROOM_EDGES, scratch, words);
 }
 
 static int64_t from_graph(void)
 {
-    return jaqhweni_remove_from_graph(d.n, d.starts, d.m, d.ends, d.m, d.delays, d.m, list.edges, list.listed, list.lengths, list.paths,
-                                      earlier.nodes, earlier.copies, earlier.from, earlier.edges, earlier.to, earlier.edges, earlier.via,
-                                      earlier.edges, room.nodes, ROOM_COPIES, room.from, ROOM_EDGES, room.to, ROOM_EDGES, room.via,
-                                      ROOM_EDGES, scratch, words);
+    return jaqhweni_remove_from_graph(d.n, d.starts, d.m, d.ends, d.m, d.early, d.m, d.late, d.m, list.edges, list.listed, list.lengths,
+                                      list.paths, earlier.nodes, earlier.copies, earlier.from, earlier.edges, earlier.to, earlier.edges,
+                                      earlier.via, earlier.edges, room.nodes, ROOM_COPIES, room.from, ROOM_EDGES, room.to, ROOM_EDGES,
+                                      room.via, ROOM_EDGES, scratch, words);
 }
 
 static int64_t of_times(void)
 {
-    return jaqhweni_times(d.n, d.starts, d.m, d.ends, d.m, d.delays, d.m, 1000000, earlier.nodes, earlier.copies, earlier.from,
+    return jaqhweni_times(d.n, d.starts, d.m, d.ends, d.m, d.early, d.m, d.late, d.m, 1000000, earlier.nodes, earlier.copies, earlier.from,
                           earlier.edges, earlier.to, earlier.edges, earlier.via, earlier.edges, times[0], earlier.copies, times[1],
-                          earlier.copies, times[2], earlier.copies);
+                          earlier.copies, times[2], earlier.copies, times[3], earlier.copies);
 }
 
 static int64_t of_writing(void)

@@ -1,5 +1,5 @@
 #!/usr/bin/env python3
-"""Document 01's own claims, tried with walker.py.  python3 test_walker.py [-v]"""
+"""The own claims of documents 01 and 02, tried with walker.py.  python3 test_walker.py [-v]"""
 import itertools
 import random
 import subprocess
@@ -8,7 +8,7 @@ import unittest
 from unittest import mock
 import decks
 import walker as w
-from decks import A_EDGES, DECK_A, MARKED, WIDE_ROOM, deck_of, path_list_of
+from decks import A_EDGES, DECK_A, HOLD, MARKED, WIDE_ROOM, deck_of, design_of, path_list_of
 
 SEED = 20000
 MANY_WORDS = 10 ** 7
@@ -16,22 +16,22 @@ NO_LIST = w.PathList([], [])
 
 DECK_A_PRINTED = """\
 copies 6 edges 5
-copy 0 node 0 arrival 0 required 5 slack 5
-copy 1 node 1 arrival 0 required 4 slack 4
-copy 2 node 2 arrival 5 required 9 slack 4
-copy 3 node 2 arrival 3 required 8 slack 5
-copy 4 node 3 arrival 5 required 10 slack 5
-copy 5 node 4 arrival 6 required 10 slack 4
+copy 0 node 0 arrival 0 required 5 slack 5 earliest 0
+copy 1 node 1 arrival 0 required 4 slack 4 earliest 0
+copy 2 node 2 arrival 5 required 9 slack 4 earliest 3
+copy 3 node 2 arrival 3 required 8 slack 5 earliest 3
+copy 4 node 3 arrival 5 required 10 slack 5 earliest 5
+copy 5 node 4 arrival 6 required 10 slack 4 earliest 4
 edge 0 2 0
 edge 1 2 1
 edge 0 3 0
 edge 3 4 2
 edge 2 5 3
-node 0 0 5 5
-node 1 0 4 4
-node 2 5 8 4
-node 3 5 10 5
-node 4 6 10 4
+node 0 0 5 5 0
+node 1 0 4 4 0
+node 2 5 8 4 3
+node 3 5 10 5 5
+node 4 6 10 4 4
 """
 
 
@@ -53,8 +53,8 @@ def printed(deck):
 
 def records(deck, graph):
     """The node records, by the calls."""
-    at_copies = w.times(deck.design, graph, deck.allowed_time, [len(graph.copy_nodes)] * 3)
-    columns = [[at_copy[part] for at_copy in at_copies] for part in range(3)]
+    at_copies = w.times(deck.design, graph, deck.allowed_time, [len(graph.copy_nodes)] * 4)
+    columns = [[at_copy[part] for at_copy in at_copies] for part in range(4)]
     return [w.node_record(deck.design.nodes, graph.copy_nodes, *columns, node)
             for node in range(deck.design.nodes)]
 
@@ -74,27 +74,29 @@ def permitted(design, graph, path_list):
 
 def records_of_paths(design, paths, allowed_time):
     """Node records straight from the permitted paths of the design."""
-    reached, to_go, whole = ({node: [] for node in range(design.nodes)} for _ in range(3))
+    reached, to_go, whole, soonest = ({node: [] for node in range(design.nodes)} for _ in range(4))
     for first, run in paths:
-        delays = [design.delays[edge] for edge in run]
+        late = [design.late[edge] for edge in run]
         for position, node in enumerate([first] + [design.ends[edge] for edge in run]):
-            reached[node].append(sum(delays[:position]))
-            to_go[node].append(sum(delays[position:]))
-            whole[node].append(sum(delays))
-    return [w.Times(max(reached[node]), allowed_time - max(to_go[node]), allowed_time - max(whole[node]))
+            reached[node].append(sum(late[:position]))
+            to_go[node].append(sum(late[position:]))
+            whole[node].append(sum(late))
+            soonest[node].append(sum(design.early[edge] for edge in run[:position]))
+    return [w.Times(max(reached[node]), allowed_time - max(to_go[node]), allowed_time - max(whole[node]), min(soonest[node]))
             if reached[node] else None for node in range(design.nodes)]
 
 
 def times_by_edges(design, graph, allowed_time):
     """Copy times once more, edge by edge instead of path by path (edges rise by end copy)."""
     edges = list(zip(graph.starts, graph.ends, graph.design_edges))
-    arrival, required = {}, {}
+    arrival, required, earliest = {}, {}, {}
     for copy in range(len(graph.copy_nodes)):
-        arrival[copy] = max((arrival[s] + design.delays[d] for s, e, d in edges if e == copy), default=0)
+        arrival[copy] = max((arrival[s] + design.late[d] for s, e, d in edges if e == copy), default=0)
+        earliest[copy] = min((earliest[s] + design.early[d] for s, e, d in edges if e == copy), default=0)
     for copy in reversed(range(len(graph.copy_nodes))):
-        required[copy] = min((required[e] - design.delays[d] for s, e, d in edges if s == copy),
+        required[copy] = min((required[e] - design.late[d] for s, e, d in edges if s == copy),
                              default=allowed_time)
-    return [w.Times(arrival[c], required[c], required[c] - arrival[c]) for c in range(len(graph.copy_nodes))]
+    return [w.Times(arrival[c], required[c], required[c] - arrival[c], earliest[c]) for c in range(len(graph.copy_nodes))]
 
 
 def same_by_trying(first, second):
@@ -139,7 +141,7 @@ class Marked(unittest.TestCase):
         self.assertEqual(printed(MARKED["M2"]), "copies 0 edges 0\n")
         self.assertEqual(w.c_call(bytes([0, 0, 0, 0]), 2), (2, b"\0\0"))
         graph = self.check("M3", 1, 0)
-        self.assertEqual(w.copy_times(MARKED["M3"].design, graph, 7), [(0, 7, 7)])
+        self.assertEqual(w.copy_times(MARKED["M3"].design, graph, 7), [(0, 7, 7, 0)])
 
     def test_M4_M5_M6_M7(self):
         four = self.check("M4", 4, 3)
@@ -156,7 +158,7 @@ class Marked(unittest.TestCase):
 
     def test_M9(self):
         deck = MARKED["M9"]
-        self.assertEqual(records(deck, graph_of(deck)), [(0, 14, 14), (-4, 10, 14)])
+        self.assertEqual(records(deck, graph_of(deck)), [(0, 14, 14, 0), (-4, 10, 14, -4)])
 
     def test_M10(self):
         self.assertEqual((w.write_number(127), w.write_number(128)), (b"\x7f", b"\x80\x01"))
@@ -172,7 +174,7 @@ class Marked(unittest.TestCase):
 
     def test_smallest_series_numbered_otherwise_than_the_whole_list(self):
         """0: 1->2, 1: 0->1, 2: 1->2, 3: 0->1; list 1,0 and then 1,2: the two copies of node 1 swap."""
-        design = w.Design(3, [1, 0, 1, 0], [2, 1, 2, 1], [0, 0, 0, 0])
+        design = design_of(3, [(1, 2, 0), (0, 1, 0), (1, 2, 0), (0, 1, 0)])
         first, second = [1, 0], [1, 2]
         held = removed(design, path_list_of([second]), removed(design, path_list_of([first])))
         whole = w.true_graph(design, path_list_of([first, second]))
@@ -182,7 +184,7 @@ class Marked(unittest.TestCase):
 
     def test_marks_sort_by_length_first(self):
         """Tails 3 and 1,2 of node 1: the copy of 3 comes first, though 1 is below 3."""
-        design = w.Design(4, [0, 1, 2, 1, 0], [1, 2, 3, 3, 1], [0] * 5)
+        design = design_of(4, [(0, 1, 0), (1, 2, 0), (2, 3, 0), (1, 3, 0), (0, 1, 0)])
         graph = w.true_graph(design, path_list_of([[0, 1, 2], [0, 3]]))
         self.assertEqual(graph, ([0, 1, 1, 2, 3], [0, 0, 2, 3, 1], [1, 2, 3, 4, 4], [4, 4, 1, 2, 3]))
 
@@ -190,10 +192,10 @@ class Marked(unittest.TestCase):
 class Ranges(unittest.TestCase):
     def test_the_edges_named_to_run(self):
         design = MARKED["M1"].design
-        self.assertIsNone(refusal(w.Design(4096, [], [], []), NO_LIST))
-        self.assertEqual(refusal(w.Design(4097, [], [], []), NO_LIST), (10, 0))
-        self.assertIsNone(refusal(w.Design(2, [0], [1], [-1_000_000]), NO_LIST))
-        self.assertEqual(refusal(w.Design(2, [0], [1], [1_000_001]), NO_LIST), (14, 0))
+        self.assertIsNone(refusal(design_of(4096, []), NO_LIST))
+        self.assertEqual(refusal(design_of(4097, []), NO_LIST), (10, 0))
+        self.assertIsNone(refusal(design_of(2, [(0, 1, -1_000_000)]), NO_LIST))
+        self.assertEqual(refusal(design_of(2, [(0, 1, 1_000_001)]), NO_LIST), (14, 0))
         self.assertEqual(refusal(design, path_list_of([[2, 1]])), (24, 0, 1))
         self.assertEqual(w.allowed_time_refusal(1_000_000_001), (25, 0))
         self.assertIsNone(w.allowed_time_refusal(1_000_000_000))
@@ -231,11 +233,44 @@ class Ranges(unittest.TestCase):
         earlier = graph_of(MARKED["M1"])      # two copies of node 2: 6 + 2 * 1, 2, 5
         self.assertEqual(refusal(design, path_list_of([[0, 3]]), earlier, 15 * 8 - 1), (31, 0))
         self.assertIsNone(refusal(design, path_list_of([[0, 3]]), earlier, 15 * 8))
-        self.assertEqual(w.refusal_of(w.times, design, earlier, 2 ** 31, [6, 6, 5]), (30, 0))
-        self.assertEqual(w.refusal_of(w.times, design, bad_graph, 2 ** 31, [1, 1, 1]), (25, 0))
-        self.assertEqual(w.refusal_of(w.times, design, bad_graph, 10, [1, 1, 1]), (32, 0))
-        self.assertIsNone(w.node_record(3, [5], [1], [1], [1], 5))
-        self.assertEqual(w.refusal_of(w.node_record, 4097, [5], [1], [1], [1], 5), (10, 0))
+        for lengths in ([6, 6, 5, 6], [6, 6, 6, 5], [6, 6, 6, 7]):
+            self.assertEqual(w.refusal_of(w.times, design, earlier, 2 ** 31, lengths), (30, 0))
+        self.assertEqual(w.refusal_of(w.times, design, bad_graph, 2 ** 31, [1] * 4), (25, 0))
+        self.assertEqual(w.refusal_of(w.times, design, bad_graph, 10, [1] * 4), (32, 0))
+        self.assertIsNone(w.node_record(3, [5], [1], [1], [1], [1], 5))
+        self.assertEqual(w.refusal_of(w.node_record, 4097, [5], [1], [1], [1], [1], 5), (10, 0))
+        self.assertEqual(w.refusal_of(w.node_record, 4097, [5], [1], [1], [1], [], 5), (30, 0))
+        self.assertEqual(w.refusal_of(w.node_records, 2, [], [], [], [], [], [2, 2, 2, 2, 1]), (30, 0))
+
+    def test_early_and_late_delays(self):
+        """Document 02, request 1."""
+        def of_edges(*edges):
+            return w.design_refusal(design_of(5, edges))
+        for early, late, wanted in [
+                (-1_000_000, 1_000_000, None), (-1_000_001, 0, (14, 0)), (0, 1_000_001, (14, 0)), (1_000_001, 0, (14, 0)),
+                (0, -1_000_001, (14, 0)), (1, 0, (15, 0)), (0, -1, (15, 0)), (1_000_000, -1_000_000, (15, 0)), (7, 7, None), (-7, -7, None)]:
+            self.assertEqual(of_edges((0, 1, early, late)), wanted)
+        above = (0, 1, 1, 0)
+        self.assertEqual(of_edges((0, 1, 3), above, above), (15, 1))
+        self.assertEqual(of_edges(above, (0, 1, 0, 2_000_000)), (14, 1))       # 14 over everything before 15
+        self.assertEqual(of_edges(above, (0, 1, -2_000_000, 0)), (14, 1))
+        self.assertEqual(of_edges(above, (1, 1, 0)), (13, 1))
+        self.assertEqual(refusal(design_of(5, [above]), path_list_of([[]])), (15, 0))
+        design = MARKED["M1"].design
+        for part in ("starts", "ends", "early", "late"):
+            unequal = design._replace(**{part: getattr(design, part)[:-1]})
+            self.assertEqual(refusal(unequal, NO_LIST), (30, 0))
+            self.assertEqual(w.refusal_of(w.times, unequal, w.Graph([], [], [], []), 5, [0] * 4), (30, 0))
+            self.assertEqual(w.refusal_of(w.write_deck, w.Deck(unequal, NO_LIST, 5), 99), (30, 0))
+            self.assertEqual(w.refusal_of(w.read_deck, DECK_A, w.PROGRAM_TABLES._replace(**{part: 1023})), (30, 0))
+        self.assertEqual(w.write_deck(deck_of(2, [(0, 1, -1, 2)], [], 10), 99), bytes([2, 1, 0, 1, 1, 4, 0, 10]))
+        # the earliest arrival is on neither the latest path nor the shortest by late delays, and below 0
+        joined = design_of(5, [(0, 3, 2, 9), (1, 3, 1, 3), (2, 3, -5, 6), (3, 4, 1, 2)])
+        self.assertEqual(w.copy_times(joined, w.design_as_graph(joined), 0),
+                         [(0, -11, -11, 0), (0, -5, -5, 0), (0, -8, -8, 0), (9, -2, -11, -5), (11, 0, -11, -4)])
+        # what decks/hold.txt says
+        self.assertEqual([record.earliest for record in records(HOLD, graph_of(HOLD))], [0, 60, 10, 75, 18])
+        self.assertEqual([record.earliest for record in records(HOLD, w.design_as_graph(HOLD.design))], [0, 60, 10, 15, 18])
 
     def test_which_edge_of_the_path(self):
         """Document 02, request 4."""
@@ -252,7 +287,7 @@ class Ranges(unittest.TestCase):
     def test_deck_reader_and_program(self):
         number = w.write_number
         for data, wanted in [
-                (b"", (1, 0)), (DECK_A + b"\x80", (3, 19)), (number(4097), (10, 0)), (b"\x80" * 5, (2, 0)),
+                (b"", (1, 0)), (DECK_A + b"\x80", (3, 23)), (number(4097), (10, 0)), (b"\x80" * 5, (2, 0)),
                 (b"\x80" * 4, (1, 4)), (b"\x80\x80", (1, 2)), (b"\x05" + number(16385), (11, 0)),
                 (b"\x05" + number(1025), (36, 0)), (b"\x05" + number(1024), (1, 3)),
                 (b"\0\0" + number(257), (36, 0)), (b"\0\0" + number(1025), (20, 0)),
@@ -263,7 +298,7 @@ class Ranges(unittest.TestCase):
                 (bytes(65536), (3, 4)), (bytes(65537), (4, 65536))]:
             self.assertEqual(w.deck_program(data), "refused %d at %d\n" % wanted, data[:8])
             self.assertEqual(w.c_call(data, 0), (-(wanted[0] + 256 * wanted[1]), b""))
-        self.assertEqual(w.refusal_of(w.read_deck, b"", w.Tables(1, 1, 2, 0, 0)), (30, 0))
+        self.assertEqual(w.refusal_of(w.read_deck, b"", w.Tables(1, 1, 1, 2, 0, 0)), (30, 0))
         # 16,384 words are 2,048 units
         self.assertEqual([printed(decks.full(extra)).split()[:2] for extra in (0, 1)], [["copies", "73"], ["refused", "31"]])
         self.assertEqual([printed(deck_of(n, [], [], 5)).split()[:2] for n in (512, 513, 2048, 2049)],
@@ -275,7 +310,7 @@ class Ranges(unittest.TestCase):
         self.assertEqual(w.c_call(DECK_A, length)[0], length)
 
     def test_writers_and_graph_reader(self):
-        odd = w.Deck(w.Design(5, [9], [3], [2 ** 31 - 1]), w.PathList([0, 1], [77]), 2 ** 32 - 1)
+        odd = w.Deck(design_of(5, [(9, 3, 2 ** 31 - 1, -2 ** 31)]), w.PathList([0, 1], [77]), 2 ** 32 - 1)
         self.assertEqual(w.read_deck(w.write_deck(odd, 99), w.PROGRAM_TABLES), odd)
         length = len(w.write_deck(odd, 99))
         self.assertEqual(w.refusal_of(w.write_deck, odd, length - 1), (35, 0))

@@ -12,12 +12,14 @@ import random
 
 import expected
 import walker
-from decks import A_EDGES, MARKED, deck_of, random_design, random_foreign_graph, random_paths
+from decks import A_EDGES, HOLD, MARKED, deck_of, random_design, random_foreign_graph, random_paths
 
 TABLE = 4200                # the program's
 BLOCKS = 2                  # the program's
-NUMBERS = (30, 10, 12, 13, 14, 25, 32)     # 11 takes longer slices: unfit_cases has it
-SLICES = ("starts", "ends", "delays", "copy_nodes", "copy_starts", "copy_ends", "names")
+NUMBERS = (30, 10, 12, 13, 14, 15, 25, 32)     # 11 takes longer slices: unfit_cases has it
+DELAYS = ("early", "late")
+GRAPH_EDGES = ("copy_starts", "copy_ends", "names")
+SLICES = ("starts", "ends", *DELAYS, "copy_nodes", *GRAPH_EDGES)
 
 
 def printed(k):
@@ -41,18 +43,18 @@ class Given:
 
     def __init__(self, design, graph, allowed, node):
         self.nodes, self.allowed, self.node = design.nodes, allowed, node
-        self.starts, self.ends, self.delays = list(design.starts), list(design.ends), list(design.delays)
+        self.starts, self.ends, self.early, self.late = (list(part) for part in design[1:])
         self.copy_nodes, self.names = list(graph.copy_nodes), list(graph.design_edges)
         self.copy_starts, self.copy_ends = list(graph.starts), list(graph.ends)
-        self.rooms = [len(self.copy_nodes)] * 3
-        self.places = [self.nodes] * 4
+        self.rooms = [len(self.copy_nodes)] * 4
+        self.places = [self.nodes] * 5
 
     def packed(self):
         numbers = [self.nodes, self.allowed, self.node, *self.rooms, *self.places]
         for name in SLICES:
             part = getattr(self, name)
             assert len(part) <= TABLE
-            numbers += packed_slice([walker.pack_delay(delay) for delay in part] if name == "delays" else part)
+            numbers += packed_slice([walker.pack_delay(delay) for delay in part] if name in DELAYS else part)
         return b"".join(walker.write_number(number) for number in numbers)
 
 
@@ -63,7 +65,7 @@ def refused_line(refusal):
 
 
 def times_line(times):
-    return "none\n" if times is None else "%d %d %d\n" % tuple(times)
+    return "none\n" if times is None else "%d %d %d %d\n" % tuple(times)
 
 
 class Seen:
@@ -72,19 +74,35 @@ class Seen:
     def __init__(self):
         self.times, self.record, self.records = set(), set(), set()
         self.passed = self.none = self.past = self.own_slack = self.large = 0
+        self.not_by_late = self.below_zero = self.not_first = self.not_last = 0     # earliest arrivals
+
+
+def see_earliests(seen, design, graph, found):
+    """Whether a wrong earliest arrival would show: one by late delays, one that stops at 0, one of a node's first or last copy."""
+    if len(graph.copy_nodes) > 100:
+        return
+    by_late = walker.copy_times(design._replace(early=design.late), graph, 0)
+    seen.not_by_late += any(times.earliest != late.earliest for times, late in zip(found, by_late))
+    seen.below_zero += any(times.earliest < 0 for times in found)
+    of_node = {}
+    for node, times in zip(graph.copy_nodes, found):
+        of_node.setdefault(node, []).append(times.earliest)
+    seen.not_first += any(min(earliests) != earliests[0] for earliests in of_node.values())
+    seen.not_last += any(min(earliests) != earliests[-1] for earliests in of_node.values())
 
 
 def lines(given, seen):
     """What the program prints of a case, by the separate program."""
-    design = walker.Design(given.nodes, given.starts, given.ends, given.delays)
+    design = walker.Design(given.nodes, given.starts, given.ends, given.early, given.late)
     graph = walker.Graph(given.copy_nodes, given.copy_starts, given.copy_ends, given.names)
     columns = [[0] * length for length in given.rooms]      # what the program lends, and a refusal leaves
     try:
         found = walker.times(design, graph, given.allowed, given.rooms)
-        columns = [[times[k] for times in found] for k in range(3)]
+        columns = [[times[k] for times in found] for k in range(4)]
         text = "".join("copy %d " % copy + times_line(times) for copy, times in enumerate(found) if printed(copy))
         seen.passed += 1
         seen.large += any(abs(time) > 2 ** 32 for times in found for time in times)
+        see_earliests(seen, design, graph, found)
     except walker.Refused as refused:
         text = refused_line(refused.refusal)
         seen.times.add(refused.refusal[0])
@@ -113,9 +131,9 @@ def of_deck(deck, node):
     return Given(deck.design, walker.true_graph(deck.design, deck.path_list), deck.allowed_time, node)
 
 
-def chain(delay, allowed, node):
+def chain(early, late, allowed, node):
     """4,096 nodes, one after the other."""
-    design = walker.Design(4096, list(range(4095)), list(range(1, 4096)), [delay] * 4095)
+    design = walker.Design(4096, list(range(4095)), list(range(1, 4096)), [early] * 4095, [late] * 4095)
     return Given(design, walker.design_as_graph(design), allowed, node)
 
 
@@ -129,12 +147,17 @@ def fixed():
             edges = [(start, end, delay if number == edge else old) for number, (start, end, old) in enumerate(A_EDGES)]
             yield of_deck(deck_of(5, edges, [[1, 2]], 10), 2)
     yield of_deck(deck_of(5, [(start, end, -old) for start, end, old in A_EDGES], [[1, 2]], 0), 2)
-    for delay, allowed, node in ((1_000_000, 0, 4095), (-1_000_000, 1_000_000_000, 4095), (-1_000_000, 0, 4096)):
-        yield chain(delay, allowed, node)
+    for node in range(HOLD.design.nodes):
+        yield of_deck(HOLD, node)
+    for below in (1, 4, 900_000):
+        yield of_deck(deck_of(5, [(start, end, old - below, old) for start, end, old in A_EDGES], [[1, 2]], 10), 2)
+    for early, late, allowed, node in ((1_000_000, 1_000_000, 0, 4095), (-1_000_000, -1_000_000, 1_000_000_000, 4095),
+                                       (-1_000_000, -1_000_000, 0, 4096), (-1_000_000, 1_000_000, 0, 4095)):
+        yield chain(early, late, allowed, node)
 
 
 def change_a_number(given, chance):
-    part = getattr(given, chance.choice(SLICES[3:]))
+    part = getattr(given, chance.choice(("copy_nodes", *GRAPH_EDGES)))
     if part:
         k = chance.randrange(len(part))
         part[k] = max(0, chance.choice((part[k] - 1, part[k] + 1, part[k] + 2, chance.randrange(6))))
@@ -142,13 +165,13 @@ def change_a_number(given, chance):
 
 def edge_count(given):
     """By the shortest slice: an earlier damage may have made one longer."""
-    return min(len(getattr(given, name)) for name in SLICES[4:])
+    return min(len(getattr(given, name)) for name in GRAPH_EDGES)
 
 
 def drop_an_edge(given, chance):
     if edge_count(given):
         k = chance.randrange(edge_count(given))
-        for name in SLICES[4:]:
+        for name in GRAPH_EDGES:
             del getattr(given, name)[k]
 
 
@@ -156,51 +179,53 @@ def swap_or_repeat_an_edge(given, chance):
     if edge_count(given) > 1:
         k = chance.randrange(edge_count(given) - 1)
         twice = chance.random() < 0.5
-        for name in SLICES[4:]:
+        for name in GRAPH_EDGES:
             part = getattr(given, name)
             part[k:k + 2] = [part[k]] * 2 if twice else [part[k + 1], part[k]]
 
 
 def one_more_copy(given, chance):
     given.copy_nodes.append(chance.choice((given.nodes - 1 if given.nodes else 0, given.nodes)))
-    given.rooms = [len(given.copy_nodes)] * 3
+    given.rooms = [len(given.copy_nodes)] * 4
 
 
 def one_copy_less(given, chance):
     if given.copy_nodes:
         given.copy_nodes.pop()
-        given.rooms = [len(given.copy_nodes)] * 3
+        given.rooms = [len(given.copy_nodes)] * 4
 
 
 def other_sizes(given, chance):
     if chance.random() < 0.5:
-        given.rooms[chance.randrange(3)] += chance.choice((1, 2))
+        given.rooms[chance.randrange(4)] += chance.choice((1, 2))
     else:
-        getattr(given, chance.choice(SLICES[4:])).append(0)
+        getattr(given, chance.choice(GRAPH_EDGES)).append(0)
 
 
 def other_places(given, chance):
-    k = chance.randrange(4)
+    k = chance.randrange(5)
     given.places[k] = max(0, given.places[k] + chance.choice((-1, 1)))
 
 
 def damage_the_design(given, chance):
-    name = chance.choice(("10", "12", "13", "14", "25", "30"))
+    name = chance.choice(("10", "12", "13", "14", "15", "25", "30"))
     if name == "10":
         given.nodes = 4097
-        given.places = [4097] * 4
+        given.places = [4097] * 5
     elif name == "25":
         given.allowed = 1_000_000_001
     elif name == "30":
-        given.delays.append(0)
+        getattr(given, chance.choice(DELAYS)).append(0)
     elif given.starts:
         k = chance.randrange(len(given.ends))
         if name == "12":
             given.ends[k] = given.nodes
         elif name == "13":
             given.ends[k] = given.starts[k]
+        elif name == "14":
+            getattr(given, chance.choice(DELAYS))[k] = chance.choice((1_000_001, -1_000_001))
         else:
-            given.delays[k] = chance.choice((1_000_001, -1_000_001))
+            given.early[k] = given.late[k] + 1
 
 
 DAMAGES = (change_a_number, change_a_number, drop_an_edge, swap_or_repeat_an_edge, one_more_copy, one_copy_less, other_sizes,
@@ -230,27 +255,14 @@ def cases():
         yield given
 
 
-def in_blocks(parts):
-    """The parts in the program's blocks, each with the count of its parts."""
-    blocks, rest = [], list(parts)
-    while rest:
-        count, size = 0, 5
-        while count < len(rest) and size + len(rest[count]) <= expected.BUFFER:
-            size += len(rest[count])
-            count += 1
-        blocks.append(walker.write_number(count) + b"".join(rest[:count]))
-        rest = rest[count:]
-    assert len(blocks) == BLOCKS, [len(block) for block in blocks]
-    return b"".join(block.ljust(expected.BUFFER, b"\0") for block in blocks[:-1]) + blocks[-1]
-
-
 def main():
     seen = Seen()
     all_cases = list(cases())
     text = "".join(lines(given, seen) for given in all_cases)
     assert set(NUMBERS) <= seen.times and {30, 10} <= seen.record and {30, 10} <= seen.records
     assert min(seen.none, seen.past, seen.own_slack, seen.large) > 0
-    expected.keep("times_cases", in_blocks([given.packed() for given in all_cases]), text.encode())
+    assert min(seen.not_by_late, seen.below_zero, seen.not_first, seen.not_last) > 0
+    expected.keep("times_cases", expected.in_blocks([given.packed() for given in all_cases], BLOCKS), text.encode())
     print("times_cases: %d graphs, %d of them pass" % (len(all_cases), seen.passed))
 
 

@@ -5,7 +5,7 @@ python3 tests/unfit_cases.py           writes crates/unfit_cases/stdin and stdou
 python3 tests/unfit_cases.py --check   says whether the two files are what it would write
 
 Every expected answer is what tests/walker.py, the separate program, refuses the deck with. A deck goes in as packed
-numbers, its five slices each by itself, so that they need not belong together (crates/unfit_cases/src/main.rt).
+numbers, its six slices each by itself, so that they need not belong together (crates/unfit_cases/src/main.rt).
 """
 import copy
 import itertools
@@ -13,22 +13,21 @@ import random
 
 import expected
 import walker
-from decks import WIDE_ROOM, random_design, random_paths
+from decks import WIDE_ROOM, design_of, random_design, random_paths
 
 TOP = 4294967295
 MANY_WORDS = 10 ** 9
-TABLES = (16400, 16400, 16400, 8200, 1040)      # the program's
-NUMBERS = (30, 10, 11, 12, 13, 14, 20, 21, 22, 23, 24, 25)
+BLOCKS = 2              # the program's
+TABLES = (16400, 16400, 16400, 16400, 8200, 1040)
+NUMBERS = (30, 10, 11, 12, 13, 14, 15, 20, 21, 22, 23, 24, 25)
 
 
 class Deck:
-    """n, T and the five slices, to be damaged."""
+    """n, T and the six slices, to be damaged."""
 
     def __init__(self, nodes, edges, paths, allowed):
-        self.nodes, self.allowed = nodes, allowed
-        self.starts = [start for start, _, _ in edges]
-        self.ends = [end for _, end, _ in edges]
-        self.delays = [delay for _, _, delay in edges]
+        self.allowed = allowed
+        self.nodes, self.starts, self.ends, self.early, self.late = design_of(nodes, edges)
         self.listed = [edge for path in paths for edge in path]
         self.lengths = [len(path) for path in paths]
 
@@ -41,7 +40,7 @@ class Deck:
 
 def answer(deck):
     """None or the refusal, by the separate program."""
-    design = walker.Design(deck.nodes, deck.starts, deck.ends, deck.delays)
+    design = walker.Design(deck.nodes, deck.starts, deck.ends, deck.early, deck.late)
     paths = walker.PathList(deck.lengths, deck.listed)
     refusal = walker.refusal_of(walker.removal, design, paths, None, MANY_WORDS, WIDE_ROOM, deck.allowed)
     assert refusal is None or refusal[0] in NUMBERS, refusal
@@ -58,8 +57,8 @@ def packed_slice(numbers):
 
 def packed(deck):
     numbers = [deck.nodes, deck.allowed]
-    codes = [walker.pack_delay(delay) for delay in deck.delays]
-    for part, table in zip((deck.starts, deck.ends, codes, deck.listed, deck.lengths), TABLES):
+    early, late = ([walker.pack_delay(delay) for delay in part] for part in (deck.early, deck.late))
+    for part, table in zip((deck.starts, deck.ends, early, late, deck.listed, deck.lengths), TABLES):
         assert len(part) <= table
         numbers += packed_slice(part)
     return b"".join(walker.write_number(number) for number in numbers)
@@ -69,7 +68,7 @@ def packed(deck):
 
 DECK_A = Deck(5, [(0, 2, 3), (1, 2, 5), (2, 3, 2), (2, 4, 1)], [[1, 2]], 10)
 # a chain with a shortcut; three of its paths have two edges or more, and can be broken
-BASE = Deck(6, [(0, 1, 1), (1, 2, -2), (2, 3, 3), (1, 3, 4), (3, 4, 5), (4, 5, -6)], [[0, 1, 2], [4], [0, 3, 4], [4, 5]], 9)
+BASE = Deck(6, [(0, 1, 0, 1), (1, 2, -2), (2, 3, -3, 3), (1, 3, 4), (3, 4, 1, 5), (4, 5, -9, -6)], [[0, 1, 2], [4], [0, 3, 4], [4, 5]], 9)
 
 # Faults: each damages a deck so that its number is due; k says where.
 
@@ -80,7 +79,7 @@ def put(numbers, k, value):
 
 def longer(deck, edges):
     """The edges' slices with the last edge repeated."""
-    for part in (deck.starts, deck.ends, deck.delays):
+    for part in (deck.starts, deck.ends, deck.early, deck.late):
         part.extend([part[-1] if part else 0] * (edges - len(part)))
 
 
@@ -113,7 +112,8 @@ def parted(deck, k):
 FAULTS = {
     "30, a start": lambda deck, k: deck.starts.append(0),
     "30, an end": lambda deck, k: deck.ends.pop(),
-    "30, a delay": lambda deck, k: deck.delays.append(0),
+    "30, an early delay": lambda deck, k: deck.early.append(0),
+    "30, a late delay": lambda deck, k: deck.late.pop(),
     "30, a length": lambda deck, k: deck.lengths.append(1 + k),
     "30, a listed edge": lambda deck, k: deck.listed.append(0),
     "10": lambda deck, k: setattr(deck, "nodes", 4097 + k),
@@ -121,7 +121,9 @@ FAULTS = {
     "12, a start": lambda deck, k: put(deck.starts, k, deck.nodes),
     "12, an end": lambda deck, k: put(deck.ends, k, deck.nodes + k),
     "13": lambda deck, k: put(deck.ends, k, deck.starts[k % len(deck.starts)]),
-    "14": lambda deck, k: put(deck.delays, k, 1_000_001 if k % 2 else -1_000_001),
+    "14, early": lambda deck, k: put(deck.early, k, 1_000_001 if k % 2 else -1_000_001),
+    "14, late": lambda deck, k: put(deck.late, k, 1_000_001 if k % 2 else -1_000_001),
+    "15": lambda deck, k: put(deck.early, k, deck.late[k % len(deck.late)] + 1),
     "20": lambda deck, k: more_paths(deck, 1025),
     "21": lambda deck, k: more_listed(deck, 8193),
     "22": emptied,
@@ -151,9 +153,11 @@ def edges_of_the_ranges():
         yield DECK_A.but(allowed=time)
     for delay in (-1_000_001, -1_000_000, -999_999, 999_999, 1_000_000, 1_000_001, 2 ** 31 - 1, -2 ** 31):
         for k in range(4):
-            deck = copy.deepcopy(DECK_A)
-            deck.delays[k] = delay
-            yield deck
+            for parts in (("early",), ("late",), ("early", "late")):
+                deck = copy.deepcopy(DECK_A)
+                for part in parts:
+                    getattr(deck, part)[k] = delay
+                yield deck
     for paths in ([[2, 1]], [[1, 2], [2, 1]], [[2, 1], [1, 2]], [[1, 2, 2]], [[0, 3], [1, 3], [3, 0]], [[2], [1]], [[2, 2]], [[4]],
                   [[0], [3], [4]], [[1, 4]], [[4, 1]], [[0, 2], [TOP]], [[]], [[1, 2], []], [[], [1, 2]]):
         yield Deck(5, [(0, 2, 3), (1, 2, 5), (2, 3, 2), (2, 4, 1)], paths, 10)
@@ -186,8 +190,8 @@ def edges_of_the_ranges():
         yield DECK_A.but(lengths=lengths)
     for listed in ([], [1], [1, 2, 2]):
         yield DECK_A.but(listed=listed)
-    for starts, ends, delays in itertools.product((0, 1, 2), repeat=3):
-        yield Deck(9, [], [], 5).but(starts=list(range(starts)), ends=list(range(1, 1 + ends)), delays=[4] * delays)
+    for starts, ends, early, late in itertools.product((0, 2), repeat=4):
+        yield Deck(9, [], [], 5).but(starts=list(range(starts)), ends=list(range(1, 1 + ends)), early=[3] * early, late=[4] * late)
 
 
 def faults_along_a_path():
@@ -209,7 +213,7 @@ def faults_along_a_path():
 def random_deck(chance):
     design = random_design(chance, most_nodes=6, most_edges=8)
     paths = random_paths(chance, design, 3) if design.starts else []
-    deck = Deck(design.nodes, list(zip(design.starts, design.ends, design.delays)), paths, chance.choice((0, 5, 1_000_000_000)))
+    deck = Deck(design.nodes, list(zip(*design[1:])), paths, chance.choice((0, 5, 1_000_000_000)))
     for _ in range(chance.randrange(4)):
         name = chance.choice(list(FAULTS))
         if name in ("11", "20", "21"):
@@ -248,8 +252,7 @@ def main():
     answers = [answer(deck) for deck in decks]
     missing = set(NUMBERS) - {refusal[0] for refusal in answers if refusal}
     assert not missing, missing
-    stdin = walker.write_number(len(decks)) + b"".join(packed(deck) for deck in decks)
-    assert len(stdin) <= expected.BUFFER, len(stdin)
+    stdin = expected.in_blocks([packed(deck) for deck in decks], BLOCKS)
     expected.keep("unfit_cases", stdin, "".join(line(refusal) for refusal in answers).encode())
     print("unfit_cases: %d decks" % len(decks))
 

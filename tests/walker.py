@@ -1,7 +1,7 @@
 #!/usr/bin/env python3
 """Reference program: true timing graphs by walking all paths.
 
-Written from document 01, the specification, with requests 4 and 9 of document 02, and from no code
+Written from document 01, the specification, with requests 1, 4 and 9 of document 02, and from no code
 or definition of this repository; points that they leave open are read as docs/DECISIONS.md
 says ("How document 01 is read"). Naive on purpose: every complete path is written out, the false ones are struck
 out, and copies, edges and times are read off the paths that remain. Text in double quotes in
@@ -21,17 +21,17 @@ MOST_DECK_BYTES = 65536
 WORDS_PER_UNIT = 8         # "8 words per candidate, listed edge and graph edge, where it was 16"
 MOST_WALKED = 200_000      # no limit of the document: more paths than this are not walked
 
-Design = namedtuple("Design", "nodes starts ends delays")             # delay of each edge
+Design = namedtuple("Design", "nodes starts ends early late")         # "Every edge is to carry an early and a late delay"
 PathList = namedtuple("PathList", "lengths flat")                     # "flat, with a length for each path"
 Graph = namedtuple("Graph", "copy_nodes starts ends design_edges")    # start copy, end copy, design edge
 Deck = namedtuple("Deck", "design path_list allowed_time")
 Path = namedtuple("Path", "first edges")                              # edges: (start copy, end copy, design edge)
-Times = namedtuple("Times", "arrival required slack")
-Tables = namedtuple("Tables", "starts ends delays listed paths")      # lent lengths
+Times = namedtuple("Times", "arrival required slack earliest")
+Tables = namedtuple("Tables", "starts ends early late listed paths")  # lent lengths
 Room = namedtuple("Room", "copies starts ends design_edges")          # lent lengths
 Call = namedtuple("Call", "path_list room scratch_words")             # one removal of a series
 
-PROGRAM_TABLES = Tables(1024, 1024, 1024, 1024, 256)
+PROGRAM_TABLES = Tables(1024, 1024, 1024, 1024, 1024, 256)
 PROGRAM_ROOM = Room(512, 2048, 2048, 2048)
 PROGRAM_SCRATCH = 16384
 
@@ -171,27 +171,31 @@ def slices_refusal(groups=(), path_list=None):
     return None
 
 def design_slices(design):
-    return len(design.starts), len(design.ends), len(design.delays)
+    """"30 now covers four edge slices of a design." """
+    return len(design.starts), len(design.ends), len(design.early), len(design.late)
 
 def graph_slices(graph):
     return len(graph.starts), len(graph.ends), len(graph.design_edges)
 
 def design_refusal(design):
-    """10 to 14, "one number over everything before the next"."""
-    edges = list(zip(design.starts, design.ends, design.delays))
+    """10 to 15, "one number over everything before the next"."""
+    edges = list(zip(design.starts, design.ends, design.early, design.late))
     if design.nodes > MOST_NODES:
         return 10, 0
     if len(edges) > MOST_EDGES:
         return 11, 0
-    for number, (start, end, _) in enumerate(edges):
+    for number, (start, end, _, _) in enumerate(edges):
         if start >= design.nodes or end >= design.nodes:    # "names a node not below n"
             return 12, number
-    for number, (start, end, _) in enumerate(edges):
+    for number, (start, end, _, _) in enumerate(edges):
         if start >= end:                                    # "it does not rise"
             return 13, number
-    for number, (_, _, delay) in enumerate(edges):
-        if not -MOST_DELAY <= delay <= MOST_DELAY:          # "delay out of range"
+    for number, (_, _, early, late) in enumerate(edges):    # "delay out of range"; "Both delays are held to 14's range"
+        if not -MOST_DELAY <= early <= MOST_DELAY or not -MOST_DELAY <= late <= MOST_DELAY:
             return 14, number
+    for number, (_, _, early, late) in enumerate(edges):
+        if early > late:                                    # "new 15, early above late, tested after 14, place the edge number"
+            return 15, number
     return None
 
 def list_refusal(design, path_list):
@@ -279,7 +283,7 @@ def room_refusal(graph, room):
 def removal(design, path_list, earlier, scratch_words, room, allowed_time=None):
     """One call: from the design (earlier None) or from an earlier true graph. T is None for
     the slice calls, which do not take it; the deck program and the C call give it ("25
-    included"). "Slice calls test 30, then 10 to 14, 20 to 25, 32, 31, 33, 34" """
+    included"). "Slice calls test 30, then 10 to 14" and the new 15, then "20 to 25, 32, 31, 33, 34" """
     groups = [design_slices(design), room[1:]]
     if earlier is not None:
         groups.append(graph_slices(earlier))
@@ -364,18 +368,20 @@ def same_within_nodes(design, first, second):
 def copy_times(design, graph, allowed_time):
     """"arrival is the largest delay of a path from a source copy (0 at a source copy);
     required is the smallest of T less the delay of a path to a sink copy (T at a sink copy);
-    slack is required less arrival". In a well-formed graph every copy is on a complete path."""
-    reached = [[] for _ in graph.copy_nodes]
-    to_go = [[] for _ in graph.copy_nodes]
+    slack is required less arrival": these "go on using the late delay". The earliest arrival is
+    "the smallest early delay of a path from a source copy, 0 at a source copy". In a well-formed
+    graph every copy is on a complete path."""
+    reached, to_go, soonest = ([[] for _ in graph.copy_nodes] for _ in range(3))
     for path in complete_paths(design, graph):
-        delays = [design.delays[design_edge] for design_edge in design_edges_along(path)]
+        late, early = ([delays[design_edge] for design_edge in design_edges_along(path)] for delays in (design.late, design.early))
         for position, copy in enumerate(copies_along(path)):
-            reached[copy].append(sum(delays[:position]))
-            to_go[copy].append(allowed_time - sum(delays[position:]))
-    return [Times(max(into), min(left), min(left) - max(into)) for into, left in zip(reached, to_go)]
+            reached[copy].append(sum(late[:position]))
+            to_go[copy].append(allowed_time - sum(late[position:]))
+            soonest[copy].append(sum(early[:position]))
+    return [Times(max(into), min(left), min(left) - max(into), min(soon)) for into, left, soon in zip(reached, to_go, soonest)]
 
 def times(design, graph, allowed_time, times_lengths):
-    """The call for the times at copies; times_lengths are those of its three result slices."""
+    """The call for the times at copies; times_lengths are those of its four result slices: "times, one place for each copy"."""
     refuse(slices_refusal([design_slices(design), graph_slices(graph),
                            (len(graph.copy_nodes),) + tuple(times_lengths)]))
     refuse(design_refusal(design))
@@ -383,25 +389,27 @@ def times(design, graph, allowed_time, times_lengths):
     refuse(graph_refusal(design, graph))
     return copy_times(design, graph, allowed_time)
 
-def node_record(nodes, copy_nodes, arrivals, requireds, slacks, node):
-    """"the largest arrival, the smallest required and the smallest slack of its copies", or
-    none (None) "when it has no copy or is not below n"."""
-    refuse(slices_refusal([(len(copy_nodes), len(arrivals), len(requireds), len(slacks))]))
+def node_record(nodes, copy_nodes, arrivals, requireds, slacks, earliests, node):
+    """"the largest arrival, the smallest required and the smallest slack of its copies", and of the
+    earliest arrivals "at a node the smallest over its copies"; or none (None) "when it has no copy or
+    is not below n"."""
+    refuse(slices_refusal([(len(copy_nodes), len(arrivals), len(requireds), len(slacks), len(earliests))]))
     if nodes > MOST_NODES:
         raise Refused(10)
     copies = [copy for copy, of_node in enumerate(copy_nodes) if of_node == node]
     if not copies or node >= nodes:
         return None
     return Times(max(arrivals[copy] for copy in copies), min(requireds[copy] for copy in copies),
-                 min(slacks[copy] for copy in copies))
+                 min(slacks[copy] for copy in copies), min(earliests[copy] for copy in copies))
 
-def node_records(nodes, copy_nodes, arrivals, requireds, slacks, places, asked=None):
-    """The call for the records of all nodes; places are the lengths of its four result slices, one
+def node_records(nodes, copy_nodes, arrivals, requireds, slacks, earliests, places, asked=None):
+    """The call for the records of all nodes; places are the lengths of its five result slices, one
     place for each node. The records of the asked nodes, or of all."""
-    refuse(slices_refusal([(len(copy_nodes), len(arrivals), len(requireds), len(slacks)), (nodes,) + tuple(places)]))
+    refuse(slices_refusal([(len(copy_nodes), len(arrivals), len(requireds), len(slacks), len(earliests)),
+                           (nodes,) + tuple(places)]))
     if nodes > MOST_NODES:
         raise Refused(10)
-    return [node_record(nodes, copy_nodes, arrivals, requireds, slacks, node)
+    return [node_record(nodes, copy_nodes, arrivals, requireds, slacks, earliests, node)
             for node in (range(nodes) if asked is None else asked)]
 
 # ---- Packed form ---------------------------------------------------------------------------
@@ -467,12 +475,13 @@ def packed(numbers, room):
 def read_deck(data, tables):
     """"After 30 the deck reader meets 1, 2, the counts (10, 11, 20, 21, and after 11, 20 and
     21 the 36 of that count) in file order, then 3" """
-    refuse(slices_refusal([tables[:3]]))
+    refuse(slices_refusal([tables[:4]]))
     reader = Reader(data)
     nodes = reader.count((MOST_NODES, 10))
     edges = []
     for _ in range(reader.count((MOST_EDGES, 11), (tables.starts, 36))):
-        edges.append((reader.number(), reader.number(), unpack_delay(reader.number())))
+        # "in the deck early first"
+        edges.append((reader.number(), reader.number(), unpack_delay(reader.number()), unpack_delay(reader.number())))
     lengths, flat, total = [], [], 0
     for _ in range(reader.count((MOST_PATHS, 20), (tables.paths, 36))):
         # "The path lengths are summed as they are met, for 21 and its 36."
@@ -482,16 +491,16 @@ def read_deck(data, tables):
         flat.extend(reader.number() for _ in range(lengths[-1]))
     allowed_time = reader.number()
     reader.end()
-    starts, ends, delays = ([edge[part] for edge in edges] for part in range(3))
-    return Deck(Design(nodes, starts, ends, delays), PathList(lengths, flat), allowed_time)
+    slices = ([edge[part] for edge in edges] for part in range(4))
+    return Deck(Design(nodes, *slices), PathList(lengths, flat), allowed_time)
 
 def deck_numbers(deck):
     """"Deck: n, m, then start, end, delay for each edge; the count of paths, then for each its
-    length and edges; T." """
+    length and edges; T." Of each edge both delays, "in the deck early first". """
     design, path_list, allowed_time = deck
     numbers = [design.nodes, len(design.starts)]
-    for start, end, delay in zip(design.starts, design.ends, design.delays):
-        numbers += [start, end, pack_delay(delay)]
+    for start, end, early, late in zip(design.starts, design.ends, design.early, design.late):
+        numbers += [start, end, pack_delay(early), pack_delay(late)]
     numbers.append(len(path_list.lengths))
     for path in listed_paths(path_list):
         numbers += [len(path), *path]
@@ -542,7 +551,8 @@ def deck_and_graph(data):
     return deck, graph
 
 def deck_program(data):
-    """All that the deck program prints."""
+    """All that the deck program prints. The earliest arrival "is printed last, after the word `earliest` on each copy line and bare
+    on each node line with times"."""
     try:
         deck, graph = deck_and_graph(data)
     except Refused as refused:
@@ -550,13 +560,13 @@ def deck_program(data):
     at_copies = copy_times(deck.design, graph, deck.allowed_time)
     lines = ["copies %d edges %d" % (len(graph.copy_nodes), len(graph.starts))]
     for copy, (node, at_copy) in enumerate(zip(graph.copy_nodes, at_copies)):
-        lines.append("copy %d node %d arrival %d required %d slack %d" % (copy, node, *at_copy))
+        lines.append("copy %d node %d arrival %d required %d slack %d earliest %d" % (copy, node, *at_copy))
     for edge in zip(graph.starts, graph.ends, graph.design_edges):
         lines.append("edge %d %d %d" % edge)
-    columns = [[at_copy[part] for at_copy in at_copies] for part in range(3)]
+    columns = [[at_copy[part] for at_copy in at_copies] for part in range(4)]
     for node in range(deck.design.nodes):
         record = node_record(deck.design.nodes, graph.copy_nodes, *columns, node)
-        lines.append("node %d none" % node if record is None else "node %d %d %d %d" % (node, *record))
+        lines.append("node %d none" % node if record is None else "node %d %d %d %d %d" % (node, *record))
     return "\n".join(lines) + "\n"
 
 def c_call(data, room):

@@ -32,16 +32,19 @@ fn say_tables(
     c: Counts,
     starts: &[u32],
     ends: &[u32],
-    codes: &[u32],
+    early: &[u32],
+    late: &[u32],
     listed: &[u32],
     lengths: &[u32],
 ) {
-    let k = say::three_kept(starts, ends, codes, c.edges);
+    let k = say::three_kept(starts, ends, early, c.edges);
+    let k = say::words_kept(k, late, c.edges);
     let k = say::words_kept(k, listed, c.listed);
     let k = say::words_kept(k, lengths, c.paths);
     say::table(starts, c.edges);
     say::table(ends, c.edges);
-    say::table(codes, c.edges);
+    say::table(early, c.edges);
+    say::table(late, c.edges);
     say::table(listed, c.listed);
     say::table(lengths, c.paths);
     say::kept(k);
@@ -52,17 +55,21 @@ fn say_deck(
     c: Counts,
     starts: &[u32],
     ends: &[u32],
-    delays: &[i32],
+    early: &[i32],
+    late: &[i32],
     listed: &[u32],
     lengths: &[u32],
 ) {
-    let mut codes = [0u32; 16400];
-    pack(delays, &mut codes);
+    let mut early_codes = [0u32; 16400];
+    let mut late_codes = [0u32; 16400];
+    pack(early, &mut early_codes);
+    pack(late, &mut late_codes);
     say_tables(
         c,
         starts,
         ends,
-        front(&codes, delays.len()),
+        front(&early_codes, early.len()),
+        front(&late_codes, late.len()),
         listed,
         lengths,
     );
@@ -107,12 +114,13 @@ fn write(
     allowed: u32,
     starts: &[u32],
     ends: &[u32],
-    delays: &[i32],
+    early: &[i32],
+    late: &[i32],
     listed: &[u32],
     lengths: &[u32],
     room: &mut [u8],
 ) -> Written {
-    let w = deck_writer::write_deck(n, starts, ends, delays, listed, lengths, allowed, room);
+    let w = deck_writer::write_deck(n, starts, ends, early, late, listed, lengths, allowed, room);
     text(b"write ");
     say::written(w, room);
     w
@@ -124,7 +132,8 @@ fn write_again(
     allowed: u32,
     starts: &[u32],
     ends: &[u32],
-    delays: &[i32],
+    early: &[i32],
+    late: &[i32],
     listed: &[u32],
     lengths: &[u32],
     size: usize,
@@ -136,7 +145,8 @@ fn write_again(
         allowed,
         starts,
         ends,
-        delays,
+        early,
+        late,
         listed,
         lengths,
         &mut room[..len],
@@ -147,7 +157,8 @@ fn write_answer(
     r: DeckRead,
     starts: &[u32],
     ends: &[u32],
-    delays: &[i32],
+    early: &[i32],
+    late: &[i32],
     listed: &[u32],
     lengths: &[u32],
     size: usize,
@@ -165,7 +176,8 @@ fn write_answer(
                 allowed,
                 front(starts, edges),
                 front(ends, edges),
-                front_delays(delays, edges),
+                front_delays(early, edges),
+                front_delays(late, edges),
                 front(listed, count),
                 front(lengths, paths),
                 size,
@@ -182,14 +194,15 @@ fn say_read(
     size: usize,
     starts: &[u32],
     ends: &[u32],
-    delays: &[i32],
+    early: &[i32],
+    late: &[i32],
     listed: &[u32],
     lengths: &[u32],
 ) {
     let c = say_answer(r);
-    say_deck(c, starts, ends, delays, listed, lengths);
+    say_deck(c, starts, ends, early, late, listed, lengths);
     if again {
-        write_answer(r, starts, ends, delays, listed, lengths, size);
+        write_answer(r, starts, ends, early, late, listed, lengths, size);
     }
 }
 
@@ -198,19 +211,31 @@ fn read(
     again: bool,
     starts: &mut [u32],
     ends: &mut [u32],
-    delays: &mut [i32],
+    early: &mut [i32],
+    late: &mut [i32],
     listed: &mut [u32],
     lengths: &mut [u32],
 ) {
-    let r = deck_reader::read_deck(s, starts, ends, delays, listed, lengths);
-    say_read(r, again, s.len(), starts, ends, delays, listed, lengths);
+    let r = deck_reader::read_deck(s, starts, ends, early, late, listed, lengths);
+    say_read(
+        r,
+        again,
+        s.len(),
+        starts,
+        ends,
+        early,
+        late,
+        listed,
+        lengths,
+    );
 }
 
 // The lengths of the tables, how many bytes there are, and the place of the first.
 struct Sizes {
     starts: usize,
     ends: usize,
-    delays: usize,
+    early: usize,
+    late: usize,
     listed: usize,
     lengths: usize,
     bytes: usize,
@@ -224,14 +249,16 @@ fn read_sizes(s: &[u8], at: usize) -> Sizes {
     let d = take_number(s, c.next);
     let e = take_number(s, d.next);
     let f = take_number(s, e.next);
+    let g = take_number(s, f.next);
     Sizes {
         starts: a.value as usize,
         ends: b.value as usize,
-        delays: c.value as usize,
-        listed: d.value as usize,
-        lengths: e.value as usize,
-        bytes: f.value as usize,
-        next: f.next,
+        early: c.value as usize,
+        late: d.value as usize,
+        listed: e.value as usize,
+        lengths: f.value as usize,
+        bytes: g.value as usize,
+        next: g.next,
     }
 }
 
@@ -239,22 +266,25 @@ fn read_sizes(s: &[u8], at: usize) -> Sizes {
 fn read_sized(s: &[u8], again: bool, q: Sizes) {
     let mut starts = [say::WORD; 16400];
     let mut ends = [say::WORD; 16400];
-    let mut delays = [say::DELAY; 16400];
+    let mut early = [say::DELAY; 16400];
+    let mut late = [say::DELAY; 16400];
     let mut listed = [say::WORD; 8200];
     let mut lengths = [say::WORD; 1040];
     let a = least(q.starts, 16400);
     let b = least(q.ends, 16400);
-    let c = least(q.delays, 16400);
-    let d = least(q.listed, 8200);
-    let e = least(q.lengths, 1040);
+    let c = least(q.early, 16400);
+    let d = least(q.late, 16400);
+    let e = least(q.listed, 8200);
+    let f = least(q.lengths, 1040);
     read(
         s,
         again,
         &mut starts[..a],
         &mut ends[..b],
-        &mut delays[..c],
-        &mut listed[..d],
-        &mut lengths[..e],
+        &mut early[..c],
+        &mut late[..d],
+        &mut listed[..e],
+        &mut lengths[..f],
     );
 }
 
@@ -272,7 +302,8 @@ fn read_back(s: &[u8], edges: usize, listed: usize, paths: usize) {
     let q = Sizes {
         starts: edges,
         ends: edges,
-        delays: edges,
+        early: edges,
+        late: edges,
         listed,
         lengths: paths,
         bytes: s.len(),
@@ -286,12 +317,13 @@ fn write_and_read(
     allowed: u32,
     starts: &[u32],
     ends: &[u32],
-    delays: &[i32],
+    early: &[i32],
+    late: &[i32],
     listed: &[u32],
     lengths: &[u32],
     room: &mut [u8],
 ) {
-    let w = write(n, allowed, starts, ends, delays, listed, lengths, room);
+    let w = write(n, allowed, starts, ends, early, late, listed, lengths, room);
     match w {
         Written::End(end) => {
             let len = least(end, room.len());
@@ -325,7 +357,8 @@ fn write_sized(
     q: Asked,
     starts: &[u32],
     ends: &[u32],
-    delays: &[i32],
+    early: &[i32],
+    late: &[i32],
     listed: &[u32],
     lengths: &[u32],
 ) {
@@ -336,7 +369,8 @@ fn write_sized(
         q.allowed,
         starts,
         ends,
-        delays,
+        early,
+        late,
         listed,
         lengths,
         &mut room[..len],
@@ -355,21 +389,24 @@ pub(crate) fn write_case(s: &[u8], at: usize) -> usize {
     let q = read_asked(s, at);
     let mut starts = [0u32; 16400];
     let mut ends = [0u32; 16400];
-    let mut delays = [0i32; 16400];
+    let mut early = [0i32; 16400];
+    let mut late = [0i32; 16400];
     let mut listed = [0u32; 8200];
     let mut lengths = [0u32; 1040];
     let a = fill(s, q.next, &mut starts);
     let b = fill(s, a.next, &mut ends);
-    let c = fill_delays(s, b.next, &mut delays);
-    let d = fill(s, c.next, &mut listed);
-    let e = fill(s, d.next, &mut lengths);
+    let c = fill_delays(s, b.next, &mut early);
+    let d = fill_delays(s, c.next, &mut late);
+    let e = fill(s, d.next, &mut listed);
+    let f = fill(s, e.next, &mut lengths);
     write_sized(
         q,
         front(&starts, a.len),
         front(&ends, b.len),
-        front_delays(&delays, c.len),
-        front(&listed, d.len),
-        front(&lengths, e.len),
+        front_delays(&early, c.len),
+        front_delays(&late, d.len),
+        front(&listed, e.len),
+        front(&lengths, f.len),
     );
-    e.next
+    f.next
 }

@@ -1,51 +1,52 @@
 -- The hypotheses of the theorems about times can be met: what the definitions say of a call is a call. So `times` on what the example
 -- series holds, with T 10, and `node_record` of node 2 from what that leaves.
-use Prim.Native.Nat.{ℕ}
+use Prim.Native.Nat.{ℕ, _<_}
 use mathlib.Core.Path.{_≡_, refl, ap}
 use mathlib.Core.List.{List, [], _∷_, map}
 use mathlib.Core.Option.{none, some}
-use lib.ListN.{length}
+use lib.ListN.{length, getD}
 use lib.IntN.{ℤ, pos}
+use lib.Signed.{_≤ℤ_}
 use Rattle.timing.specs.declared.Verdict.{Verdict}
 use Rattle.timing.specs.declared.Verdict.the-variants.{Passed}
 use Rattle.timing.specs.declared.NodeTimes.{NodeTimes}
 use Rattle.timing.specs.declared.NodeAnswer.the-variants.{Record}
-use Rattle.timing.specs.Graphs.{Design, designGraph, edgeDelay, edgesIn, edgesOut}
+use Rattle.timing.specs.Graphs.{Design, designGraph, edgeEarly, edgeLate, edgesIn, edgesOut}
 use Rattle.timing.specs.WellFormed.{wellFormed}
 use Rattle.timing.specs.Tests.{designTests}
-use Rattle.timing.specs.Calls.{GraphSlices, graphSlices, testTimes, arrivalsAfter, requiredsAfter, slacksAfter, recordOf}
+use Rattle.timing.specs.Calls.{GraphSlices, graphSlices, testTimes, arrivalsAfter, requiredsAfter, slacksAfter, earliestsAfter, recordOf}
 use Rattle.timing.specs.Series.{wholeAfter}
 use Rattle.timing.specs.Called.{Called, removalOf, lastHeld}
 use Rattle.timing.specs.Paths.{PassesAt}
 use Rattle.timing.specs.Demands.{PathTimes}
 use Rattle.timing.proofs.Marked.{deckA}
 use Rattle.called.specs.Removals.{calledOf}
-use Rattle.called.specs.Times.{TimesCall, timedDesign, timedGraph, arrivalsLeft, requiredsLeft, slacksLeft, RecordCall, RecordAfter}
-use Rattle.called.proofs.Times.{series-record}
+use Rattle.called.specs.Times.{TimesCall, timedDesign, timedGraph, arrivalsLeft, requiredsLeft, slacksLeft, earliestsLeft, RecordCall, RecordAfter}
+use Rattle.called.proofs.Times.{earliest-below, series-record}
 use Rattle.called.proofs.Example.{lent, example}
 
-abbrev timesOn : Design → ℕ → GraphSlices → List ℤ → List ℤ → List ℤ → TimesCall
-timesOn D T S ats rts sts =
-    let v : Verdict = testTimes D S T (length ats) (length rts) (length sts) in
+abbrev timesOn : Design → ℕ → GraphSlices → List ℤ → List ℤ → List ℤ → List ℤ → TimesCall
+timesOn D T S ats rts sts ets =
+    let v : Verdict = testTimes D S T (length ats) (length rts) (length sts) (length ets) in
     record {
-      lifetimes = ([], ([], ([], ([], ([], ([], ([], ([], ([], ([], tt))))))))));
-      passed = (D .nodes, (lent (D .starts), (lent (D .ends), (lent (D .delays), (T, (lent (S .nodes), (lent (S .starts), (lent (S .ends), (lent (S .names), (lent ats, (lent rts, (lent sts, tt))))))))))));
+      lifetimes = ([], ([], ([], ([], ([], ([], ([], ([], ([], ([], ([], ([], tt))))))))))));
+      passed = (D .nodes, (lent (D .starts), (lent (D .ends), (lent (D .early), (lent (D .late), (T, (lent (S .nodes), (lent (S .starts), (lent (S .ends), (lent (S .names), (lent ats, (lent rts, (lent sts, (lent ets, tt))))))))))))));
       answer = v;
-      left = (D .nodes, (lent (D .starts), (lent (D .ends), (lent (D .delays), (T, (lent (S .nodes), (lent (S .starts), (lent (S .ends), (lent (S .names), (lent (arrivalsAfter D S T v ats), (lent (requiredsAfter D S T v rts), (lent (slacksAfter D S T v sts), tt))))))))))));
-      learnt = (refl, refl, refl, refl);
+      left = (D .nodes, (lent (D .starts), (lent (D .ends), (lent (D .early), (lent (D .late), (T, (lent (S .nodes), (lent (S .starts), (lent (S .ends), (lent (S .names), (lent (arrivalsAfter D S T v ats), (lent (requiredsAfter D S T v rts), (lent (slacksAfter D S T v sts), (lent (earliestsAfter D S v ets), tt))))))))))))));
+      learnt = (refl, refl, refl, refl, refl);
     }
 
 abbrev recordOn : TimesCall → ℕ → RecordCall
 recordOn t v = record {
-  lifetimes = ([], ([], ([], ([], tt))));
-  passed = (timedDesign t .nodes, (lent (timedGraph t .nodes), (lent (arrivalsLeft t), (lent (requiredsLeft t), (lent (slacksLeft t), (v, tt))))));
-  answer = recordOf (timedDesign t .nodes) (timedGraph t .nodes) (arrivalsLeft t) (requiredsLeft t) (slacksLeft t) v;
-  left = (timedDesign t .nodes, (lent (timedGraph t .nodes), (lent (arrivalsLeft t), (lent (requiredsLeft t), (lent (slacksLeft t), (v, tt))))));
+  lifetimes = ([], ([], ([], ([], ([], tt)))));
+  passed = (timedDesign t .nodes, (lent (timedGraph t .nodes), (lent (arrivalsLeft t), (lent (requiredsLeft t), (lent (slacksLeft t), (lent (earliestsLeft t), (v, tt)))))));
+  answer = recordOf (timedDesign t .nodes) (timedGraph t .nodes) (arrivalsLeft t) (requiredsLeft t) (slacksLeft t) (earliestsLeft t) v;
+  left = (timedDesign t .nodes, (lent (timedGraph t .nodes), (lent (arrivalsLeft t), (lent (requiredsLeft t), (lent (slacksLeft t), (lent (earliestsLeft t), (v, tt)))))));
   learnt = refl;
 }
 
 record-on : (t : TimesCall) (v : ℕ) → RecordAfter t (recordOn t v)
-record-on t v = record { nodes = refl; copies = refl; arrivals = refl; requireds = refl; slacks = refl }
+record-on t v = record { nodes = refl; copies = refl; arrivals = refl; requireds = refl; slacks = refl; earliests = refl }
 
 -- what the example series holds
 abbrev held : GraphSlices
@@ -58,12 +59,15 @@ abbrev six : List ℤ
 six = pos 0 ∷ pos 0 ∷ pos 0 ∷ pos 0 ∷ pos 0 ∷ pos 0 ∷ []
 
 abbrev timed : TimesCall
-timed = timesOn deckA 10 held six six six
+timed = timesOn deckA 10 held six six six six
 
 timed-passed : timed .answer ≡ Passed
 unfolding designGraph edgesIn edgesOut wellFormed designTests testTimes
 timed-passed = refl
 
+pub window-example : (h : ℕ) → h < 6 → getD (earliestsLeft timed) h (pos 0) ≤ℤ getD (arrivalsLeft timed) h (pos 0)
+window-example = earliest-below timed timed-passed
+
 pub record-example : (L : List (List ℕ)) × (wholeAfter deckA none (map removalOf (map calledOf (example .0))) ≡ some L)
-    × ((x : NodeTimes) × (recordOn timed 2 .answer ≡ Record (record { node = 2; times = x })) × PathTimes (edgeDelay deckA) (pos 10) (PassesAt deckA L 2) x)
+    × ((x : NodeTimes) × (recordOn timed 2 .answer ≡ Record (record { node = 2; times = x })) × PathTimes (edgeEarly deckA) (edgeLate deckA) (pos 10) (PassesAt deckA L 2) x)
 record-example = series-record (example .0) held timed (recordOn timed 2) (example .1) is-held refl timed-passed (record-on timed 2)

@@ -8,7 +8,7 @@ use borrow.Fn.World.{ArgsD, ResD}
 use denote.Triple.Clauses.{AtExit}
 use lib.IntN.{ℤ, pos}
 use lib.ListN.{getD}
-use Rattle.timing.specs.Graphs.{Design, design, edgeDelay, Edge}
+use Rattle.timing.specs.Graphs.{Design, design, edgeEarly, edgeLate, Edge}
 use Rattle.timing.specs.Calls.{GraphSlices, graphSlices}
 use Rattle.timing.specs.Demands.{PathBest}
 use Rattle.times.proofs.times.{signature as timesSignature, ended as timesEnded}
@@ -18,40 +18,56 @@ use Rattle.times.proofs.node_record.Reads.{Learnt as RecordLearnt}
 
 -- a call of `times`
 pub record TimesCall : Type 0 where
-  pub lifetimes : Lfts 10
+  pub lifetimes : Lfts 12
   pub passed : ArgsD timesSignature lifetimes
   pub answer : ResD timesSignature lifetimes
   pub left : AtExit timesEnded lifetimes
   pub learnt : TimesLearnt lifetimes passed answer left
 
--- what stands in its slices: n, starts, ends, delays; T; the graph's four; the times' three
+-- what stands in its slices: n, starts, ends, early, late; T; the graph's four; the times' four
 abbrev pub timedDesign : TimesCall → Design
-timedDesign c = let a = c .passed in design (a .0) (a .1 .0 .now) (a .1 .1 .0 .now) (a .1 .1 .1 .0 .now)
+timedDesign c = let a = c .passed in design (a .0) (a .1 .0 .now) (a .1 .1 .0 .now) (a .1 .1 .1 .0 .now) (a .1 .1 .1 .1 .0 .now)
 
 abbrev pub allowedTime : TimesCall → ℕ
-allowedTime c = c .passed .1 .1 .1 .1 .0
+allowedTime c = c .passed .1 .1 .1 .1 .1 .0
 
 abbrev pub timedGraph : TimesCall → GraphSlices
-timedGraph c = let a = c .passed .1 .1 .1 .1 .1 in graphSlices (a .0 .now) (a .1 .0 .now) (a .1 .1 .0 .now) (a .1 .1 .1 .0 .now)
+timedGraph c = let a = c .passed .1 .1 .1 .1 .1 .1 in graphSlices (a .0 .now) (a .1 .0 .now) (a .1 .1 .0 .now) (a .1 .1 .1 .0 .now)
+
+-- the slices of times, as they were lent and as they are left
+abbrev pub arrivalsLent : TimesCall → List ℤ
+arrivalsLent c = c .passed .1 .1 .1 .1 .1 .1 .1 .1 .1 .1 .0 .now
+
+abbrev pub requiredsLent : TimesCall → List ℤ
+requiredsLent c = c .passed .1 .1 .1 .1 .1 .1 .1 .1 .1 .1 .1 .0 .now
+
+abbrev pub slacksLent : TimesCall → List ℤ
+slacksLent c = c .passed .1 .1 .1 .1 .1 .1 .1 .1 .1 .1 .1 .1 .0 .now
+
+abbrev pub earliestsLent : TimesCall → List ℤ
+earliestsLent c = c .passed .1 .1 .1 .1 .1 .1 .1 .1 .1 .1 .1 .1 .1 .0 .now
 
 abbrev pub arrivalsLeft : TimesCall → List ℤ
-arrivalsLeft c = c .left .1 .1 .1 .1 .1 .1 .1 .1 .1 .0 .now
+arrivalsLeft c = c .left .1 .1 .1 .1 .1 .1 .1 .1 .1 .1 .0 .now
 
 abbrev pub requiredsLeft : TimesCall → List ℤ
-requiredsLeft c = c .left .1 .1 .1 .1 .1 .1 .1 .1 .1 .1 .0 .now
+requiredsLeft c = c .left .1 .1 .1 .1 .1 .1 .1 .1 .1 .1 .1 .0 .now
 
 abbrev pub slacksLeft : TimesCall → List ℤ
-slacksLeft c = c .left .1 .1 .1 .1 .1 .1 .1 .1 .1 .1 .1 .0 .now
+slacksLeft c = c .left .1 .1 .1 .1 .1 .1 .1 .1 .1 .1 .1 .1 .0 .now
+
+abbrev pub earliestsLeft : TimesCall → List ℤ
+earliestsLeft c = c .left .1 .1 .1 .1 .1 .1 .1 .1 .1 .1 .1 .1 .1 .0 .now
 
 -- the times left at copy h are those of the paths P, each cut into two parts
 abbrev pub TimesLeft : TimesCall → ℕ → (List Edge → List Edge → Type 0) → Type 0
 TimesLeft c h P =
-    PathBest (edgeDelay (timedDesign c)) (pos (allowedTime c)) P
-    (getD (arrivalsLeft c) h (pos 0)) (getD (requiredsLeft c) h (pos 0)) (getD (slacksLeft c) h (pos 0))
+    PathBest (edgeEarly (timedDesign c)) (edgeLate (timedDesign c)) (pos (allowedTime c)) P
+    (getD (arrivalsLeft c) h (pos 0)) (getD (requiredsLeft c) h (pos 0)) (getD (slacksLeft c) h (pos 0)) (getD (earliestsLeft c) h (pos 0))
 
 -- a call of `node_record`
 pub record RecordCall : Type 0 where
-  pub lifetimes : Lfts 4
+  pub lifetimes : Lfts 5
   pub passed : ArgsD recordSignature lifetimes
   pub answer : ResD recordSignature lifetimes
   pub left : AtExit recordEnded lifetimes
@@ -59,7 +75,7 @@ pub record RecordCall : Type 0 where
 
 -- the node that it asks for
 abbrev pub askedNode : RecordCall → ℕ
-askedNode c = c .passed .1 .1 .1 .1 .1 .0
+askedNode c = c .passed .1 .1 .1 .1 .1 .1 .0
 
 -- it is lent n, the nodes of the copies, and the times that a call of `times` left
 pub record RecordAfter (t : TimesCall) (c : RecordCall) : Type 0 where
@@ -68,3 +84,4 @@ pub record RecordAfter (t : TimesCall) (c : RecordCall) : Type 0 where
   pub arrivals : c .passed .1 .1 .0 .now ≡ arrivalsLeft t
   pub requireds : c .passed .1 .1 .1 .0 .now ≡ requiredsLeft t
   pub slacks : c .passed .1 .1 .1 .1 .0 .now ≡ slacksLeft t
+  pub earliests : c .passed .1 .1 .1 .1 .1 .0 .now ≡ earliestsLeft t

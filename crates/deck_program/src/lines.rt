@@ -40,7 +40,7 @@ fn put_named_time(buf: &mut Text, at: usize, word: &[u8], t: i64) -> usize {
     put_time(buf, next, t)
 }
 
-// Three times, each behind a word, and the end of the line.
+// Four times, each behind a word, and the end of the line.
 fn put_times(
     buf: &mut Text,
     at: usize,
@@ -50,11 +50,14 @@ fn put_times(
     required: i64,
     before_slack: &[u8],
     slack: i64,
+    before_earliest: &[u8],
+    earliest: i64,
 ) -> usize {
     let x = put_named_time(buf, at, before_arrival, arrival);
     let y = put_named_time(buf, x, before_required, required);
     let z = put_named_time(buf, y, before_slack, slack);
-    end_line(buf, z)
+    let e = put_named_time(buf, z, before_earliest, earliest);
+    end_line(buf, e)
 }
 
 fn put_copy(
@@ -65,6 +68,7 @@ fn put_copy(
     arrival: i64,
     required: i64,
     slack: i64,
+    earliest: i64,
 ) -> usize {
     let next = put_two(buf, at, b"copy ", copy as u64, b" node ", node as u64);
     put_times(
@@ -76,6 +80,8 @@ fn put_copy(
         required,
         b" slack ",
         slack,
+        b" earliest ",
+        earliest,
     )
 }
 
@@ -86,6 +92,7 @@ fn put_copies(
     arrivals: &[i64],
     requireds: &[i64],
     slacks: &[i64],
+    earliests: &[i64],
 ) -> usize {
     let mut next = at;
     let mut c = 0;
@@ -98,6 +105,7 @@ fn put_copies(
             time_at(arrivals, c),
             time_at(requireds, c),
             time_at(slacks, c),
+            time_at(earliests, c),
         );
         c += 1;
     }
@@ -133,12 +141,13 @@ pub(crate) fn put_graph(
     arrivals: &[i64],
     requireds: &[i64],
     slacks: &[i64],
+    earliests: &[i64],
     from: &[u32],
     to: &[u32],
     via: &[u32],
 ) -> usize {
     let a = put_counts(buf, 0, nodes.len(), from.len());
-    let b = put_copies(buf, a, nodes, arrivals, requireds, slacks);
+    let b = put_copies(buf, a, nodes, arrivals, requireds, slacks, earliests);
     put_edges(buf, b, from, to, via)
 }
 
@@ -150,13 +159,25 @@ fn put_node(
     arrival: i64,
     required: i64,
     slack: i64,
+    earliest: i64,
 ) -> usize {
     let next = put_named(buf, at, b"node ", node as u64);
     if known == 0 {
         let next = put_text(buf, next, b" none");
         return end_line(buf, next);
     }
-    put_times(buf, next, b" ", arrival, b" ", required, b" ", slack)
+    put_times(
+        buf,
+        next,
+        b" ",
+        arrival,
+        b" ",
+        required,
+        b" ",
+        slack,
+        b" ",
+        earliest,
+    )
 }
 
 pub(crate) fn put_nodes(
@@ -166,6 +187,7 @@ pub(crate) fn put_nodes(
     na: &[i64],
     nr: &[i64],
     ns: &[i64],
+    ne: &[i64],
 ) -> usize {
     let mut next = at;
     let mut v = 0;
@@ -178,6 +200,7 @@ pub(crate) fn put_nodes(
             time_at(na, v),
             time_at(nr, v),
             time_at(ns, v),
+            time_at(ne, v),
         );
         v += 1;
     }

@@ -26,9 +26,10 @@ fn put_records(
     na: &[i64],
     nr: &[i64],
     ns: &[i64],
+    ne: &[i64],
 ) -> usize {
     match v {
-        Verdict::Passed => put_nodes(buf, at, known, na, nr, ns),
+        Verdict::Passed => put_nodes(buf, at, known, na, nr, ns, ne),
         Verdict::Refused(r) => put_refused(buf, at, r),
     }
 }
@@ -42,13 +43,27 @@ fn say_records(
     arrivals: &[i64],
     requireds: &[i64],
     slacks: &[i64],
+    earliests: &[i64],
     known: &mut [u32],
     na: &mut [i64],
     nr: &mut [i64],
     ns: &mut [i64],
+    ne: &mut [i64],
 ) -> usize {
-    let v = times::node_records(n, nodes, arrivals, requireds, slacks, known, na, nr, ns);
-    put_records(buf, at, v, known, na, nr, ns)
+    let v = times::node_records(
+        n,
+        nodes,
+        arrivals,
+        requireds,
+        slacks,
+        earliests,
+        known,
+        na,
+        nr,
+        ns,
+        ne,
+    );
+    put_records(buf, at, v, known, na, nr, ns, ne)
 }
 
 fn say_nodes(
@@ -59,11 +74,13 @@ fn say_nodes(
     arrivals: &[i64],
     requireds: &[i64],
     slacks: &[i64],
+    earliests: &[i64],
 ) -> usize {
     let mut known = [0; 4096];
     let mut na = [0; 4096];
     let mut nr = [0; 4096];
     let mut ns = [0; 4096];
+    let mut ne = [0; 4096];
     let count = least(n as usize, 4096);
     say_records(
         buf,
@@ -73,10 +90,12 @@ fn say_nodes(
         arrivals,
         requireds,
         slacks,
+        earliests,
         &mut known[..count],
         &mut na[..count],
         &mut nr[..count],
         &mut ns[..count],
+        &mut ne[..count],
     )
 }
 
@@ -92,11 +111,22 @@ fn say_found(
     arrivals: &[i64],
     requireds: &[i64],
     slacks: &[i64],
+    earliests: &[i64],
 ) -> usize {
     match v {
         Verdict::Passed => {
-            let at = put_graph(buf, nodes, arrivals, requireds, slacks, from, to, via);
-            say_nodes(buf, at, n, nodes, arrivals, requireds, slacks)
+            let at = put_graph(
+                buf,
+                nodes,
+                arrivals,
+                requireds,
+                slacks,
+                earliests,
+                from,
+                to,
+                via,
+            );
+            say_nodes(buf, at, n, nodes, arrivals, requireds, slacks, earliests)
         }
         Verdict::Refused(r) => put_refused(buf, 0, r),
     }
@@ -108,7 +138,8 @@ fn say_times(
     n: u32,
     starts: &[u32],
     ends: &[u32],
-    delays: &[i32],
+    early: &[i32],
+    late: &[i32],
     allowed: u32,
     nodes: &[u32],
     from: &[u32],
@@ -117,12 +148,14 @@ fn say_times(
     arrivals: &mut [i64],
     requireds: &mut [i64],
     slacks: &mut [i64],
+    earliests: &mut [i64],
 ) -> usize {
     let v = times::times(
         n,
         starts,
         ends,
-        delays,
+        early,
+        late,
         allowed,
         nodes,
         from,
@@ -131,8 +164,21 @@ fn say_times(
         arrivals,
         requireds,
         slacks,
+        earliests,
     );
-    say_found(buf, v, n, nodes, from, to, via, arrivals, requireds, slacks)
+    say_found(
+        buf,
+        v,
+        n,
+        nodes,
+        from,
+        to,
+        via,
+        arrivals,
+        requireds,
+        slacks,
+        earliests,
+    )
 }
 
 fn say_graph(
@@ -140,7 +186,8 @@ fn say_graph(
     n: u32,
     starts: &[u32],
     ends: &[u32],
-    delays: &[i32],
+    early: &[i32],
+    late: &[i32],
     allowed: u32,
     nodes: &[u32],
     from: &[u32],
@@ -150,13 +197,15 @@ fn say_graph(
     let mut arrivals = [0; 512];
     let mut requireds = [0; 512];
     let mut slacks = [0; 512];
+    let mut earliests = [0; 512];
     let count = least(nodes.len(), 512);
     say_times(
         buf,
         n,
         starts,
         ends,
-        delays,
+        early,
+        late,
         allowed,
         nodes,
         from,
@@ -165,6 +214,7 @@ fn say_graph(
         &mut arrivals[..count],
         &mut requireds[..count],
         &mut slacks[..count],
+        &mut earliests[..count],
     )
 }
 
@@ -174,7 +224,8 @@ fn say_made(
     n: u32,
     starts: &[u32],
     ends: &[u32],
-    delays: &[i32],
+    early: &[i32],
+    late: &[i32],
     allowed: u32,
     room_nodes: &[u32],
     room_from: &[u32],
@@ -188,7 +239,8 @@ fn say_made(
             n,
             starts,
             ends,
-            delays,
+            early,
+            late,
             allowed,
             front(room_nodes, copies),
             front(room_from, edges),
@@ -204,7 +256,8 @@ fn say_removal(
     n: u32,
     starts: &[u32],
     ends: &[u32],
-    delays: &[i32],
+    early: &[i32],
+    late: &[i32],
     listed: &[u32],
     lengths: &[u32],
     allowed: u32,
@@ -218,7 +271,8 @@ fn say_removal(
         n,
         starts,
         ends,
-        delays,
+        early,
+        late,
         listed,
         lengths,
         &mut room_nodes,
@@ -233,7 +287,8 @@ fn say_removal(
         n,
         starts,
         ends,
-        delays,
+        early,
+        late,
         allowed,
         &room_nodes,
         &room_from,
@@ -248,16 +303,17 @@ fn say_deck(
     n: u32,
     starts: &[u32],
     ends: &[u32],
-    delays: &[i32],
+    early: &[i32],
+    late: &[i32],
     listed: &[u32],
     lengths: &[u32],
     allowed: u32,
 ) -> usize {
-    let verdict = unfit::test_deck(n, starts, ends, delays, listed, lengths, allowed);
+    let verdict = unfit::test_deck(n, starts, ends, early, late, listed, lengths, allowed);
     if let Verdict::Refused(r) = verdict {
         return put_refused(buf, 0, r);
     }
-    say_removal(buf, n, starts, ends, delays, listed, lengths, allowed)
+    say_removal(buf, n, starts, ends, early, late, listed, lengths, allowed)
 }
 
 fn say_read(
@@ -265,7 +321,8 @@ fn say_read(
     read: DeckRead,
     starts: &[u32],
     ends: &[u32],
-    delays: &[i32],
+    early: &[i32],
+    late: &[i32],
     listed: &[u32],
     lengths: &[u32],
 ) -> usize {
@@ -282,7 +339,8 @@ fn say_read(
             nodes,
             front(starts, edges),
             front(ends, edges),
-            front_delays(delays, edges),
+            front_delays(early, edges),
+            front_delays(late, edges),
             front(listed, count),
             front(lengths, paths),
             allowed,
@@ -294,18 +352,20 @@ fn say_read(
 fn say(buf: &mut Text, deck: &[u8]) -> usize {
     let mut starts = [0; 1024];
     let mut ends = [0; 1024];
-    let mut delays = [0; 1024];
+    let mut early = [0; 1024];
+    let mut late = [0; 1024];
     let mut listed = [0; 1024];
     let mut lengths = [0; 256];
     let read = deck_reader::read_deck(
         deck,
         &mut starts,
         &mut ends,
-        &mut delays,
+        &mut early,
+        &mut late,
         &mut listed,
         &mut lengths,
     );
-    say_read(buf, read, &starts, &ends, &delays, &listed, &lengths)
+    say_read(buf, read, &starts, &ends, &early, &late, &listed, &lengths)
 }
 
 // Whether a further byte stands on standard input.

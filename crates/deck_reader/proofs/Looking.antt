@@ -1,5 +1,5 @@
 -- How far a reader gets, whatever it finds.
-use Prim.Native.Nat.{ℕ, suc, _+_, _-_, _≤_, _<_}
+use Prim.Native.Nat.{ℕ, suc, _+_, _-_, _*_, _≤_, _<_}
 use native.Mathlib.Omega.{arith}
 use mathlib.Core.Path.{_≡_, refl, sym, _∙_, ap}
 use mathlib.Core.List.{List, _∷_, _++_}
@@ -16,14 +16,14 @@ use Rattle.timing.specs.declared.NumberRead.the-variants.{Refused as NotRead}
 use Rattle.timing.specs.Marks.{PathList, pathList}
 use Rattle.timing.specs.Numbers.{readNumber}
 use Rattle.timing.specs.Refusals.{refusal, unless, _then_}
-use Rattle.timing.specs.Parsing.{Parsed, found, stopped, Reader, onward, _>>=_, _>>_, return, tested, parsedNumber, number, repeated, row, ended}
-use Rattle.timing.specs.Decks.{Tables, paths, readDeck}
+use Rattle.timing.specs.Parsing.{Parsed, found, stopped, Reader, onward, _>>=_, _>>_, return, tested, parsedNumber, number, repeated, ended}
+use Rattle.timing.specs.Decks.{Tables, edgeRow, paths, readDeck}
 use Rattle.timing.specs.declared.Looked.{Looked}
 use Rattle.timing.specs.declared.Looked.the-variants.{At, Refused}
 use Rattle.timing.specs.Looks.{looked, numberOf}
 use Rattle.deck_reader.specs.Reading.{verdictOf, nodesIn, countIn, pathIn, edgesIn, designIn, listIn, tailIn, placeOf, behind, verdictBehind}
 use Rattle.timing.proofs.Verdicts.{then-passed, unless-passed}
-use Rattle.packed_lists.proofs.Looking.{looked-made}
+use Rattle.packed_lists.proofs.Looking.{looked-made, Spans, spans-number, spans-rows}
 
 -- a reader that goes on, from where the one before it stopped
 verdict-onward : {A B C : Type 0} (p : Parsed A) (f : A → Reader B) (g : A → Reader C) → ((x : A) (at : ℕ) → verdictOf (f x at) ≡ verdictOf (g x at)) → verdictOf (onward p f) ≡ verdictOf (onward p g)
@@ -164,6 +164,14 @@ module _ {B : Type 0} (p : Parsed ℕ) (f : ℕ → Reader B) where
       by (found x a) q = absurd (let z : _≡_ {A = ℕ} 0 1 = cc in omega arith)
       by (stopped r') q = let d : r ≡ r' = cc in rw d
 
+-- the edges, whose rows were looked at as numbers
+edge-spans : (s : List ℕ) → Spans s 4 (edgeRow s)
+edge-spans s = spans-number s 3 _ (λ a. spans-number s 2 _ (λ b. spans-number s 1 _ (λ c. spans-number s 0 _ (λ d at. refl))))
+
+pub edges-at : (s : List ℕ) (table at m next : ℕ) (l : Looked) → numberOf (countIn s 0 11 16384 table at) ≡ Value m next → l ≡ looked (repeated (4 * m) (number s) next) → l ≡ looked (edgesIn s table at)
+edges-at s table at m next l e h =
+    number-at (countIn s 0 11 16384 table at) (λ m. repeated m (edgeRow s)) m next l e (h ∙ sym (spans-rows s 4 (edgeRow s) (edge-spans s) m next))
+
 -- n, by what was read
 pub nodes-is : (s : List ℕ) (at v next : ℕ) (w : Verdict) → readNumber s at ≡ Value v next → w ≡ unless 10 (leb v 4096)
     → numberOf (onward (tested w next) (λ x. return v)) ≡ numberOf (nodesIn s at)
@@ -226,8 +234,8 @@ look-is s tables =
     steps (designIn s (tables .edges) 0) (listIn s (tables .listed) (tables .paths)) (tailIn s)
     ∙ ap verdictOf (onward-assoc (nodesIn s 0) (λ n. edgesIn s (tables .edges)) (λ rows. rest))
     ∙ limited s 0 _ _
-    (λ n a. ap verdictOf (onward-assoc (countIn s 0 11 16384 (tables .edges) a) (λ m. repeated m (row s)) (λ rows. rest)) ∙ counted s 11 16384 (tables .edges) a _ _
-    (λ m b. verdict-onward (repeated m (row s) b) _ _
+    (λ n a. ap verdictOf (onward-assoc (countIn s 0 11 16384 (tables .edges) a) (λ m. repeated m (edgeRow s)) (λ rows. rest)) ∙ counted s 11 16384 (tables .edges) a _ _
+    (λ m b. verdict-onward (repeated m (edgeRow s) b) _ _
     (λ edges c. ap verdictOf (onward-assoc (countIn s 0 20 1024 (tables .paths) c) (λ count. paths s (tables .listed) count 0) (λ list. tailIn s)) ∙ counted s 20 1024 (tables .paths) c _ _
     (λ count d. verdict-onward (paths s (tables .listed) count 0 d) _ _
     (λ list e. tail-made s e _)))))

@@ -18,18 +18,16 @@ use Rattle.timing.specs.declared.NumberRead.the-variants.{Refused as NotRead}
 use Rattle.timing.specs.declared.DeckRead.{DeckRead}
 use Rattle.timing.specs.declared.DeckRead.the-variants.{Deck as DeckFound}
 use Rattle.timing.specs.Lists.{placed}
-use Rattle.timing.specs.Graphs.{design}
 use Rattle.timing.specs.Marks.{PathList, pathList}
 use Rattle.timing.specs.Numbers.{readNumber}
-use Rattle.timing.specs.Delays.{delayOf}
 use Rattle.timing.specs.Refusals.{unless, _then_}
-use Rattle.timing.specs.Parsing.{Parsed, found, stopped, Reader, onward, _>>=_, _>>_, return, tested, parsedNumber, number, repeated, Row, row, ended}
-use Rattle.timing.specs.Decks.{Deck, Tables, paths, readDeck}
+use Rattle.timing.specs.Parsing.{Parsed, found, stopped, Reader, onward, _>>=_, _>>_, return, tested, parsedNumber, number, repeated, ended}
+use Rattle.timing.specs.Decks.{Deck, Tables, EdgeRow, edgeRow, designOf, paths, readDeck}
 use Rattle.timing.specs.declared.DeckRead.the-variants.{Refused as NoDeck}
-use Rattle.timing.specs.Tests.{sameSizes}
+use Rattle.timing.specs.Tests.{edgeSizes}
 use Rattle.timing.specs.Calls.{Outcome, made, refused, parsed, filled, deckRead, deckAnswer}
-use Rattle.timing.specs.Looks.{valueOf, nextOf, valueAt, nextAt, rowAt, rowEnd}
-use Rattle.deck_reader.specs.Reading.{verdictOf, numbersFrom, numbersEnd, rowsFrom, rowsEnd, startsFrom, endsFrom, delaysFrom, pathEnd, edgesFrom, lengthsFrom, pathsEnd, edgesPlace, edgeCount, designFrom, countPlace, listFrom, listEnd, deckFrom, Fits}
+use Rattle.timing.specs.Looks.{valueOf, nextOf, valueAt, nextAt}
+use Rattle.deck_reader.specs.Reading.{verdictOf, numbersFrom, numbersEnd, behindTwo, edgeRowAt, edgeRowEnd, rowsFrom, rowsEnd, startsFrom, pathEnd, edgesFrom, lengthsFrom, pathsEnd, edgesPlace, edgeCount, designFrom, countPlace, listFrom, listEnd, deckFrom, Fits}
 use Rattle.timing.proofs.Verdicts.{then-passed, unless-passed}
 use Rattle.deck_reader.proofs.Looking.{count-passed}
 use Rattle.packed.proofs.Rooms.{sets-append}
@@ -72,24 +70,25 @@ is-numbers s (suc k) at =
     (λ x a h. is-onward (NumbersIs s k a) (NumbersIs s (suc k) at) (repeated k (number s) a) (λ xs. return (x ∷ xs)) (is-numbers s k a)
     (λ xs b g. (rw (h .0, g .0, h .1), rw (g .1, h .1))))
 
-abbrev RowIs : List ℕ → ℕ → Row → ℕ → Type 0
-RowIs s at r next = (r ≡ rowAt s at) × (next ≡ rowEnd s at)
+abbrev RowIs : List ℕ → ℕ → EdgeRow → ℕ → Type 0
+RowIs s at r next = (r ≡ edgeRowAt s at) × (next ≡ edgeRowEnd s at)
 
-is-row : (s : List ℕ) (at : ℕ) → Is (RowIs s at) (row s at)
+is-row : (s : List ℕ) (at : ℕ) → Is (RowIs s at) (edgeRow s at)
 is-row s at =
-    is-onward (NumberIs s at) (RowIs s at) (number s at) (λ a. number s >>= (λ b. number s >>= (λ c. return (record { first = a; second = b; third = c })))) (is-number s at)
-    (λ a p h. is-onward (NumberIs s p) (RowIs s at) (number s p) (λ b. number s >>= (λ c. return (record { first = a; second = b; third = c }))) (is-number s p)
-    (λ b q g. is-onward (NumberIs s q) (RowIs s at) (number s q) (λ c. return (record { first = a; second = b; third = c })) (is-number s q)
-    (λ c n f. (rw (h .0, g .0, f .0, g .1, h .1), rw (f .1, g .1, h .1)))))
+    is-onward (NumberIs s at) (RowIs s at) (number s at) _ (is-number s at)
+    (λ a p h. is-onward (NumberIs s p) (RowIs s at) (number s p) _ (is-number s p)
+    (λ b q g. is-onward (NumberIs s q) (RowIs s at) (number s q) _ (is-number s q)
+    (λ c n f. is-onward (NumberIs s n) (RowIs s at) (number s n) _ (is-number s n)
+    (λ d o e. (rw (h .0, g .0, f .0, e .0, f .1, g .1, h .1), rw (e .1, f .1, g .1, h .1))))))
 
-abbrev RowsIs : List ℕ → ℕ → ℕ → List Row → ℕ → Type 0
+abbrev RowsIs : List ℕ → ℕ → ℕ → List EdgeRow → ℕ → Type 0
 RowsIs s k at rs next = (rs ≡ rowsFrom s k at) × (next ≡ rowsEnd s k at)
 
-is-rows : (s : List ℕ) (k at : ℕ) → Is (RowsIs s k at) (repeated k (row s) at)
+is-rows : (s : List ℕ) (k at : ℕ) → Is (RowsIs s k at) (repeated k (edgeRow s) at)
 is-rows s zero at = (refl, refl)
 is-rows s (suc k) at =
-    is-onward (RowIs s at) (RowsIs s (suc k) at) (row s at) (λ r. repeated k (row s) >>= (λ rs. return (r ∷ rs))) (is-row s at)
-    (λ r a h. is-onward (RowsIs s k a) (RowsIs s (suc k) at) (repeated k (row s) a) (λ rs. return (r ∷ rs)) (is-rows s k a)
+    is-onward (RowIs s at) (RowsIs s (suc k) at) (edgeRow s at) (λ r. repeated k (edgeRow s) >>= (λ rs. return (r ∷ rs))) (is-row s at)
+    (λ r a h. is-onward (RowsIs s k a) (RowsIs s (suc k) at) (repeated k (edgeRow s) a) (λ rs. return (r ∷ rs)) (is-rows s k a)
     (λ rs b g. (rw (h .0, g .0, h .1), rw (g .1, h .1))))
 
 pub length-numbers : (s : List ℕ) (k at : ℕ) → length (numbersFrom s k at) ≡ k
@@ -98,7 +97,7 @@ length-numbers s (suc k) at = ap suc (length-numbers s k (nextAt s at))
 
 pub length-rows : (s : List ℕ) (k at : ℕ) → length (rowsFrom s k at) ≡ k
 length-rows s zero at = refl
-length-rows s (suc k) at = ap suc (length-rows s k (rowEnd s at))
+length-rows s (suc k) at = ap suc (length-rows s k (edgeRowEnd s at))
 
 pub length-lengths : (s : List ℕ) (k at : ℕ) → length (lengthsFrom s k at) ≡ k
 length-lengths s zero at = refl
@@ -143,13 +142,9 @@ abbrev DeckIs : List ℕ → Tables → Deck → ℕ → Type 0
 DeckIs s tables d next = (d ≡ deckFrom s 0) × Fits s 0 tables
 
 module _ (s : List ℕ) (tables : Tables) where
-  found-deck : (n a m b count p t e : ℕ) (rows : List Row) (list : PathList) → (n ≡ valueAt s 0) × (a ≡ nextAt s 0) → (m ≡ valueAt s a) × (b ≡ nextAt s a) → m ≤ tables .edges
+  found-deck : (n a m b count p t e : ℕ) (rows : List EdgeRow) (list : PathList) → (n ≡ valueAt s 0) × (a ≡ nextAt s 0) → (m ≡ valueAt s a) × (b ≡ nextAt s a) → m ≤ tables .edges
       → (c : ℕ) → RowsIs s m b rows c → (count ≡ valueAt s c) × (p ≡ nextAt s c) → count ≤ tables .paths → PathsIs s (tables .listed) count 0 p list t → e ≡ valueAt s t
-      → DeckIs s tables (record {
-        design = design n (map (λ r. r .first) rows) (map (λ r. r .second) rows) (map (λ r. delayOf (r .third)) rows);
-        list = list;
-        allowed = e;
-      }) 0
+      → DeckIs s tables (record { design = designOf n rows; list = list; allowed = e }) 0
   unfolding deckFrom countPlace
   found-deck n a m b count p t e rows list h g ml c r k cl l q =
       let mi : m ≡ edgeCount s 0 = rw (g .0, h .1) in
@@ -181,7 +176,7 @@ is-deck s tables =
     (λ u a' ta. is-onward (NumberIs s a') Q (number s a') _ (is-number s a')
     (λ m b g. is-onward (TestIs (unless 11 (leb m 16384) then unless 36 (leb m (tables .edges))) b) Q (tested (unless 11 (leb m 16384) then unless 36 (leb m (tables .edges))) b) _
     (is-tested (unless 11 (leb m 16384) then unless 36 (leb m (tables .edges))) b)
-    (λ u' b' tb. is-onward (RowsIs s m b') Q (repeated m (row s) b') _ (is-rows s m b')
+    (λ u' b' tb. is-onward (RowsIs s m b') Q (repeated m (edgeRow s) b') _ (is-rows s m b')
     (λ rows c r. is-onward (NumberIs s c) Q (number s c) _ (is-number s c)
     (λ count p k. is-onward (TestIs (unless 20 (leb count 1024) then unless 36 (leb count (tables .paths))) p) Q (tested (unless 20 (leb count 1024) then unless 36 (leb count (tables .paths))) p) _
     (is-tested (unless 20 (leb count 1024) then unless 36 (leb count (tables .paths))) p)
@@ -203,11 +198,10 @@ pub read-refused : (p : Parsed Deck) (r : Refusal) → verdictOf p ≡ NotPassed
 read-refused (found d at) r e = absurd (let z : _≡_ {A = ℕ} 0 1 = cc in omega arith)
 read-refused (stopped q) r e = let d : q ≡ r = cc in ap refused d
 
--- Filling: a number at a place.
--- a row, number by number
-pub row-is : (s : List ℕ) (at v a w b x c : ℕ) → (v ≡ valueAt s at) × (a ≡ nextAt s at) → (w ≡ valueAt s a) × (b ≡ nextAt s a) → (x ≡ valueAt s b) × (c ≡ nextAt s b)
-    → (c ≡ rowEnd s at) × (v ≡ rowAt s at .first) × (w ≡ rowAt s at .second) × (x ≡ rowAt s at .third)
-row-is s at v a w b x c h g f = (rw (f .1, g .1, h .1), h .0, rw (g .0, h .1), rw (f .0, g .1, h .1))
+-- Filling: two numbers at a place.
+pub two-are : (s : List ℕ) (at v a w b : ℕ) → (v ≡ valueAt s at) × (a ≡ nextAt s at) → (w ≡ valueAt s a) × (b ≡ nextAt s a)
+    → (b ≡ behindTwo s at) × (v ≡ valueAt s at) × (w ≡ valueAt s (nextAt s at))
+two-are s at v a w b h g = (rw (g .1, h .1), h .0, rw (g .0, h .1))
 
 -- numbers to a table
 module _ (s : List ℕ) (count i at : ℕ) where
@@ -231,9 +225,9 @@ numbers-whole s count at l from =
     let f : from + 0 ≡ from = omega arith in
     rw (d, f) (refl, refl)
 
--- rows to a table: one of the three, by what it holds of a row
-module _ {A : Type 0} (f : Row → A) (s : List ℕ) (m i at : ℕ) where
-  pub rows-step : (l l' : List A) (next : ℕ) → i < m → next ≡ rowEnd s at → l' ≡ set l i (f (rowAt s at))
+-- rows to a table: one of the four, by what it holds of a row
+module _ {A : Type 0} (f : EdgeRow → A) (s : List ℕ) (m i at : ℕ) where
+  pub rows-step : (l l' : List A) (next : ℕ) → i < m → next ≡ edgeRowEnd s at → l' ≡ set l i (f (edgeRowAt s at))
       → sets l' (i + 1) (map f (rowsFrom s (m - (i + 1)) next)) ≡ sets l i (map f (rowsFrom s (m - i) at))
   rows-step l l' next h e g =
       let d : m - i ≡ suc (m - (i + 1)) = omega arith in
@@ -244,12 +238,12 @@ module _ {A : Type 0} (f : Row → A) (s : List ℕ) (m i at : ℕ) where
       let d : m - i ≡ 0 = omega arith in
       rw d
 
-pub rows-whole : {A : Type 0} (f : Row → A) (s : List ℕ) (m at : ℕ) (l : List A) → sets l 0 (map f (rowsFrom s (m - 0) at)) ≡ sets l 0 (map f (rowsFrom s m at))
+pub rows-whole : {A : Type 0} (f : EdgeRow → A) (s : List ℕ) (m at : ℕ) (l : List A) → sets l 0 (map f (rowsFrom s (m - 0) at)) ≡ sets l 0 (map f (rowsFrom s m at))
 rows-whole f s m at l =
     let d : m - 0 ≡ m = omega arith in
     rw d
 
-pub rows-next : (s : List ℕ) (m i at next : ℕ) → i < m → next ≡ rowEnd s at → rowsEnd s (m - (i + 1)) next ≡ rowsEnd s (m - i) at
+pub rows-next : (s : List ℕ) (m i at next : ℕ) → i < m → next ≡ edgeRowEnd s at → rowsEnd s (m - (i + 1)) next ≡ rowsEnd s (m - i) at
 rows-next s m i at next h e =
     let d : m - i ≡ suc (m - (i + 1)) = omega arith in
     rw (d, e)
@@ -310,20 +304,10 @@ sets-placed l vs h =
 
 -- the design's tables, placed
 module _ (s : List ℕ) (from m at : ℕ) (mi : m ≡ edgeCount s from) (ai : at ≡ edgesPlace s from) where
-  pub starts-placed : (l l' : List ℕ) → m ≤ length l → l' ≡ sets l 0 (startsFrom s m at) → l' ≡ placed (designFrom s from .starts) l
-  starts-placed l l' h e =
-      let n : length (startsFrom s m at) ≡ m = length-map (rowsFrom s m at) (λ (r : Row). r .first) ∙ length-rows s m at in
-      e ∙ sets-placed l (startsFrom s m at) (omega arith) ∙ rw (mi, ai)
-
-  pub ends-placed : (l l' : List ℕ) → m ≤ length l → l' ≡ sets l 0 (endsFrom s m at) → l' ≡ placed (designFrom s from .ends) l
-  ends-placed l l' h e =
-      let n : length (endsFrom s m at) ≡ m = length-map (rowsFrom s m at) (λ (r : Row). r .second) ∙ length-rows s m at in
-      e ∙ sets-placed l (endsFrom s m at) (omega arith) ∙ rw (mi, ai)
-
-  pub delays-placed : (l l' : List ℤ) → m ≤ length l → l' ≡ sets l 0 (delaysFrom s m at) → l' ≡ placed (designFrom s from .delays) l
-  delays-placed l l' h e =
-      let n : length (delaysFrom s m at) ≡ m = length-map (rowsFrom s m at) (λ (r : Row). delayOf (r .third)) ∙ length-rows s m at in
-      e ∙ sets-placed l (delaysFrom s m at) (omega arith) ∙ rw (mi, ai)
+  pub rows-placed : {A : Type 0} (f : EdgeRow → A) (l l' : List A) → m ≤ length l → l' ≡ sets l 0 (map f (rowsFrom s m at)) → l' ≡ placed (map f (rowsFrom s (edgeCount s from) (edgesPlace s from))) l
+  rows-placed f l l' h e =
+      let n : length (map f (rowsFrom s m at)) ≡ m = length-map (rowsFrom s m at) f ∙ length-rows s m at in
+      e ∙ sets-placed l (map f (rowsFrom s m at)) (omega arith) ∙ rw (mi, ai)
 
   pub count-place : (next : ℕ) → next ≡ rowsEnd s m at → next ≡ countPlace s from
   unfolding countPlace
@@ -350,45 +334,45 @@ module _ (s : List ℕ) (next : ℕ) (behind : next ≡ countPlace s 0) where
   pub fits-list : (tables : Tables) → Fits s 0 tables → (length (listFrom s next .edges) ≤ tables .listed) × (valueAt s next ≤ tables .paths)
   fits-list tables f = rw behind (f .listed, f .paths)
 
-  pub deck-filled : (nodes edges listed paths t last : ℕ) (starts starts' ends ends' : List ℕ) (delays delays' : List ℤ) (table table' lengths lengths' : List ℕ)
+  pub deck-filled : (nodes edges listed paths t last : ℕ) (starts starts' ends ends' : List ℕ) (early early' late late' : List ℤ) (table table' lengths lengths' : List ℕ)
       → (nodes ≡ designFrom s 0 .nodes) × (edges ≡ edgeCount s 0) → (paths ≡ valueAt s next) × (listed ≡ length (listFrom s next .edges)) × (last ≡ listEnd s next) → t ≡ valueAt s last
-      → (starts' ≡ placed (designFrom s 0 .starts) starts) × (ends' ≡ placed (designFrom s 0 .ends) ends) × (delays' ≡ placed (designFrom s 0 .delays) delays)
+      → (starts' ≡ placed (designFrom s 0 .starts) starts) × (ends' ≡ placed (designFrom s 0 .ends) ends) × (early' ≡ placed (designFrom s 0 .early) early) × (late' ≡ placed (designFrom s 0 .late) late)
       → (table' ≡ placed (listFrom s next .edges) table) × (lengths' ≡ placed (listFrom s next .lengths) lengths)
-      → (let d = deckFrom s 0 in (DeckFound nodes edges listed paths t ≡ deckAnswer (made d)) × (starts' ≡ placed (d .design .starts) starts) × (ends' ≡ placed (d .design .ends) ends) × (delays' ≡ placed (d .design .delays) delays)
-      × (table' ≡ placed (d .list .edges) table) × (lengths' ≡ placed (d .list .lengths) lengths))
+      → (let d = deckFrom s 0 in (DeckFound nodes edges listed paths t ≡ deckAnswer (made d)) × (starts' ≡ placed (d .design .starts) starts) × (ends' ≡ placed (d .design .ends) ends)
+      × (early' ≡ placed (d .design .early) early) × (late' ≡ placed (d .design .late) late) × (table' ≡ placed (d .list .edges) table) × (lengths' ≡ placed (d .list .lengths) lengths))
   unfolding deckFrom
-  deck-filled nodes edges listed paths t last starts starts' ends ends' delays delays' table table' lengths lengths' h g q f e =
-      let n : length (startsFrom s (edgeCount s 0) (edgesPlace s 0)) ≡ edgeCount s 0 = length-map (rowsFrom s (edgeCount s 0) (edgesPlace s 0)) (λ (r : Row). r .first) ∙ length-rows s (edgeCount s 0) (edgesPlace s 0) in
+  deck-filled nodes edges listed paths t last starts starts' ends ends' early early' late late' table table' lengths lengths' h g q f e =
+      let n : length (startsFrom s (edgeCount s 0) (edgesPlace s 0)) ≡ edgeCount s 0 = length-map (rowsFrom s (edgeCount s 0) (edgesPlace s 0)) (λ (r : EdgeRow). r .start) ∙ length-rows s (edgeCount s 0) (edgesPlace s 0) in
       let p : length (lengthsFrom s (valueAt s (countPlace s 0)) (nextAt s (countPlace s 0))) ≡ valueAt s (countPlace s 0) = length-lengths s (valueAt s (countPlace s 0)) (nextAt s (countPlace s 0)) in
       let a : DeckFound nodes edges listed paths t ≡ deckAnswer (made (deckFrom s 0)) = rw (h .0, h .1, g .0, g .1, q, g .2, n, p, behind) in
-      (a, f .0, f .1, f .2, rw (← behind) (e .0), rw (← behind) (e .1))
+      (a, f .0, f .1, f .2, f .3, rw (← behind) (e .0), rw (← behind) (e .1))
 
 -- The reader as a whole: 30, then a refusal by the look, then the deck.
-module _ (s : List ℕ) (starts ends delays listed lengths : ℕ) where
-  pub read-sizes : (r : Refusal) → sameSizes starts ends delays ≡ NotPassed r → deckRead s starts ends delays listed lengths ≡ refused r
+module _ (s : List ℕ) (starts ends early late listed lengths : ℕ) where
+  pub read-sizes : (r : Refusal) → edgeSizes starts ends early late ≡ NotPassed r → deckRead s starts ends early late listed lengths ≡ refused r
   unfolding deckRead
   read-sizes r e = rw e
 
-  pub read-stopped : (r : Refusal) → sameSizes starts ends delays ≡ Passed → verdictOf (readDeck s (record { edges = starts; listed = listed; paths = lengths })) ≡ NotPassed r
-      → deckRead s starts ends delays listed lengths ≡ refused r
+  pub read-stopped : (r : Refusal) → edgeSizes starts ends early late ≡ Passed → verdictOf (readDeck s (record { edges = starts; listed = listed; paths = lengths })) ≡ NotPassed r
+      → deckRead s starts ends early late listed lengths ≡ refused r
   unfolding deckRead
   read-stopped r e f = rw e (read-refused (readDeck s (record { edges = starts; listed = listed; paths = lengths })) r f)
 
-  pub read-made : sameSizes starts ends delays ≡ Passed → verdictOf (readDeck s (record { edges = starts; listed = listed; paths = lengths })) ≡ Passed
-      → deckRead s starts ends delays listed lengths ≡ made (deckFrom s 0)
+  pub read-made : edgeSizes starts ends early late ≡ Passed → verdictOf (readDeck s (record { edges = starts; listed = listed; paths = lengths })) ≡ Passed
+      → deckRead s starts ends early late listed lengths ≡ made (deckFrom s 0)
   unfolding deckRead
   read-made e f = rw e (read-passed s (record { edges = starts; listed = listed; paths = lengths }) f .0)
 
 -- the answer and the tables
-module _ (starts ends : List ℕ) (delays : List ℤ) (listed lengths : List ℕ) (o : Outcome Deck) where
+module _ (starts ends : List ℕ) (early late : List ℤ) (listed lengths : List ℕ) (o : Outcome Deck) where
   pub tables-kept : (r : Refusal) → o ≡ refused r
-      → (NoDeck r ≡ deckAnswer o) × (starts ≡ filled (λ d. d .design .starts) o starts) × (ends ≡ filled (λ d. d .design .ends) o ends) × (delays ≡ filled (λ d. d .design .delays) o delays)
-      × (listed ≡ filled (λ d. d .list .edges) o listed) × (lengths ≡ filled (λ d. d .list .lengths) o lengths)
-  tables-kept r e = rw e (refl, refl, refl, refl, refl, refl)
+      → (NoDeck r ≡ deckAnswer o) × (starts ≡ filled (λ d. d .design .starts) o starts) × (ends ≡ filled (λ d. d .design .ends) o ends) × (early ≡ filled (λ d. d .design .early) o early)
+      × (late ≡ filled (λ d. d .design .late) o late) × (listed ≡ filled (λ d. d .list .edges) o listed) × (lengths ≡ filled (λ d. d .list .lengths) o lengths)
+  tables-kept r e = rw e (refl, refl, refl, refl, refl, refl, refl)
 
-  pub tables-filled : (d : Deck) (answer : DeckRead) (starts' ends' : List ℕ) (delays' : List ℤ) (listed' lengths' : List ℕ) → o ≡ made d
-      → (answer ≡ deckAnswer (made d)) × (starts' ≡ placed (d .design .starts) starts) × (ends' ≡ placed (d .design .ends) ends) × (delays' ≡ placed (d .design .delays) delays)
-      × (listed' ≡ placed (d .list .edges) listed) × (lengths' ≡ placed (d .list .lengths) lengths)
-      → (answer ≡ deckAnswer o) × (starts' ≡ filled (λ d. d .design .starts) o starts) × (ends' ≡ filled (λ d. d .design .ends) o ends) × (delays' ≡ filled (λ d. d .design .delays) o delays)
-      × (listed' ≡ filled (λ d. d .list .edges) o listed) × (lengths' ≡ filled (λ d. d .list .lengths) o lengths)
-  tables-filled d answer starts' ends' delays' listed' lengths' e f = rw e f
+  pub tables-filled : (d : Deck) (answer : DeckRead) (starts' ends' : List ℕ) (early' late' : List ℤ) (listed' lengths' : List ℕ) → o ≡ made d
+      → (answer ≡ deckAnswer (made d)) × (starts' ≡ placed (d .design .starts) starts) × (ends' ≡ placed (d .design .ends) ends) × (early' ≡ placed (d .design .early) early)
+      × (late' ≡ placed (d .design .late) late) × (listed' ≡ placed (d .list .edges) listed) × (lengths' ≡ placed (d .list .lengths) lengths)
+      → (answer ≡ deckAnswer o) × (starts' ≡ filled (λ d. d .design .starts) o starts) × (ends' ≡ filled (λ d. d .design .ends) o ends) × (early' ≡ filled (λ d. d .design .early) o early)
+      × (late' ≡ filled (λ d. d .design .late) o late) × (listed' ≡ filled (λ d. d .list .edges) o listed) × (lengths' ≡ filled (λ d. d .list .lengths) o lengths)
+  tables-filled d answer starts' ends' early' late' listed' lengths' e f = rw e f

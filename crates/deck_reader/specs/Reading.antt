@@ -9,13 +9,13 @@ use Rattle.timing.specs.declared.Verdict.the-variants.{Passed}
 use Rattle.timing.specs.declared.Verdict.the-variants.{Refused as NotPassed}
 use Rattle.timing.specs.declared.Looked.{Looked}
 use Rattle.timing.specs.declared.Looked.the-variants.{At, Refused}
-use Rattle.timing.specs.Graphs.{Design, design}
+use Rattle.timing.specs.Graphs.{Design}
 use Rattle.timing.specs.Marks.{PathList, pathList}
 use Rattle.timing.specs.Delays.{delayOf}
 use Rattle.timing.specs.Refusals.{unless, _then_}
-use Rattle.timing.specs.Parsing.{Parsed, found, stopped, Reader, onward, _>>=_, _>>_, return, tested, number, repeated, Row, row, ended}
-use Rattle.timing.specs.Looks.{valueAt, nextAt, rowAt, rowEnd}
-use Rattle.timing.specs.Decks.{Deck, Tables, paths}
+use Rattle.timing.specs.Parsing.{Parsed, found, stopped, Reader, onward, _>>=_, _>>_, return, tested, number, repeated, ended}
+use Rattle.timing.specs.Looks.{valueAt, nextAt}
+use Rattle.timing.specs.Decks.{Deck, Tables, EdgeRow, edgeRow, designOf, paths}
 
 -- whether a reader stopped
 abbrev pub verdictOf : {A : Type 0} → Parsed A → Verdict
@@ -44,12 +44,12 @@ pathIn s table sum = do
   return n
 
 -- the count of edges and the edges; the design; the list; T and the end
-abbrev pub edgesIn : List ℕ → ℕ → Reader (List Row)
+abbrev pub edgesIn : List ℕ → ℕ → Reader (List EdgeRow)
 edgesIn s table = do
   m ← countIn s 0 11 16384 table
-  repeated m (row s)
+  repeated m (edgeRow s)
 
-abbrev pub designIn : List ℕ → ℕ → Reader (List Row)
+abbrev pub designIn : List ℕ → ℕ → Reader (List EdgeRow)
 designIn s table = do
   n ← nodesIn s
   edgesIn s table
@@ -86,23 +86,41 @@ abbrev pub numbersEnd : List ℕ → ℕ → ℕ → ℕ
 numbersEnd s zero at = at
 numbersEnd s (suc k) at = numbersEnd s k (nextAt s at)
 
-abbrev pub rowsFrom : List ℕ → ℕ → ℕ → List Row
+abbrev pub behindTwo : List ℕ → ℕ → ℕ
+behindTwo s at = nextAt s (nextAt s at)
+
+-- an edge: its nodes, and behind these its delays
+abbrev pub edgeRowAt : List ℕ → ℕ → EdgeRow
+edgeRowAt s at = record {
+  start = valueAt s at;
+  end = valueAt s (nextAt s at);
+  early = valueAt s (behindTwo s at);
+  late = valueAt s (nextAt s (behindTwo s at));
+}
+
+abbrev pub edgeRowEnd : List ℕ → ℕ → ℕ
+edgeRowEnd s at = behindTwo s (behindTwo s at)
+
+abbrev pub rowsFrom : List ℕ → ℕ → ℕ → List EdgeRow
 rowsFrom s zero at = []
-rowsFrom s (suc k) at = rowAt s at ∷ rowsFrom s k (rowEnd s at)
+rowsFrom s (suc k) at = edgeRowAt s at ∷ rowsFrom s k (edgeRowEnd s at)
 
 -- the starts, ends and delays of k edges
 abbrev pub startsFrom : List ℕ → ℕ → ℕ → List ℕ
-startsFrom s k at = map (λ r. r .first) (rowsFrom s k at)
+startsFrom s k at = map (λ r. r .start) (rowsFrom s k at)
 
 abbrev pub endsFrom : List ℕ → ℕ → ℕ → List ℕ
-endsFrom s k at = map (λ r. r .second) (rowsFrom s k at)
+endsFrom s k at = map (λ r. r .end) (rowsFrom s k at)
 
-abbrev pub delaysFrom : List ℕ → ℕ → ℕ → List ℤ
-delaysFrom s k at = map (λ r. delayOf (r .third)) (rowsFrom s k at)
+abbrev pub earlyFrom : List ℕ → ℕ → ℕ → List ℤ
+earlyFrom s k at = map (λ r. delayOf (r .early)) (rowsFrom s k at)
+
+abbrev pub lateFrom : List ℕ → ℕ → ℕ → List ℤ
+lateFrom s k at = map (λ r. delayOf (r .late)) (rowsFrom s k at)
 
 abbrev pub rowsEnd : List ℕ → ℕ → ℕ → ℕ
 rowsEnd s zero at = at
-rowsEnd s (suc k) at = rowsEnd s k (rowEnd s at)
+rowsEnd s (suc k) at = rowsEnd s k (edgeRowEnd s at)
 
 abbrev pub pathEnd : List ℕ → ℕ → ℕ
 pathEnd s at = numbersEnd s (valueAt s at) (nextAt s at)
@@ -121,14 +139,13 @@ pathsEnd s (suc k) at = pathsEnd s k (pathEnd s at)
 
 -- the design at a place, with the place behind it; the list, likewise; and the deck
 abbrev pub edgesPlace : List ℕ → ℕ → ℕ
-edgesPlace s at = nextAt s (nextAt s at)
+edgesPlace s at = behindTwo s at
 
 abbrev pub edgeCount : List ℕ → ℕ → ℕ
 edgeCount s at = valueAt s (nextAt s at)
 
 abbrev pub designFrom : List ℕ → ℕ → Design
-designFrom s at =
-    design (valueAt s at) (startsFrom s (edgeCount s at) (edgesPlace s at)) (endsFrom s (edgeCount s at) (edgesPlace s at)) (delaysFrom s (edgeCount s at) (edgesPlace s at))
+designFrom s at = designOf (valueAt s at) (rowsFrom s (edgeCount s at) (edgesPlace s at))
 
 unfoldable pub countPlace : List ℕ → ℕ → ℕ
 countPlace s at = rowsEnd s (edgeCount s at) (edgesPlace s at)

@@ -6,10 +6,11 @@ ghost use lib.ListN.{length, set};
 ghost use lib.Seq.{sets};
 ghost use Rattle.timing.specs.Lists.{placed};
 ghost use Rattle.timing.specs.Delays.{delayOf};
-ghost use Rattle.timing.specs.Looks.{valueAt, nextAt, rowAt, rowEnd};
+ghost use Rattle.timing.specs.Looks.{valueAt, nextAt};
 ghost use Rattle.timing.specs.declared.DeckRead.the-variants.{Deck as DeckFound};
 ghost use Rattle.deck_reader.specs.Reading.{numbersFrom, numbersEnd, pathEnd, edgesFrom, lengthsFrom, pathsEnd};
-ghost use Rattle.deck_reader.specs.Reading.{startsFrom, endsFrom, delaysFrom, rowsEnd};
+ghost use Rattle.deck_reader.specs.Reading.{behindTwo, edgeRowAt, edgeRowEnd, rowsEnd};
+ghost use Rattle.deck_reader.specs.Reading.{startsFrom, endsFrom, earlyFrom, lateFrom};
 ghost use Rattle.deck_reader.specs.Reading.{edgeCount, countPlace, designFrom, listFrom, listEnd};
 use super::DesignRead;
 use super::ListRead;
@@ -25,32 +26,64 @@ fn set_delay(delays: &mut [i32], i: usize, x: u32)
     delays[i] = packed_delays::unpack_delay(x);
 }
 
-// An edge, to index i of its three tables.
+// The two nodes of an edge, to index i of their tables.
+fn fill_nodes(s: &[u8], at: usize, i: usize, starts: &mut [u32], ends: &mut [u32]) -> usize
+    requires { ⌜ (i < length (now starts)) × (i < length (now ends)) ⌝ }
+    ensures { λ r.
+        ⌜ (r ≡ behindTwo (now (s .entry)) at)
+        × (now (starts .exit) ≡ set (now (starts .entry)) i (valueAt (now (s .entry)) at))
+        × (now (ends .exit)
+        ≡ set (now (ends .entry)) i (valueAt (now (s .entry)) (nextAt (now (s .entry)) at))) ⌝ }
+{
+    let a = take_number(s, at);
+    let second = a.next;
+    let b = take_number(s, second);
+    starts[i] = a.value;
+    ends[i] = b.value;
+    b.next
+}
+
+// Its two delays.
+fn fill_delays(s: &[u8], at: usize, i: usize, early: &mut [i32], late: &mut [i32]) -> usize
+    requires { ⌜ (i < length (now early)) × (i < length (now late)) ⌝ }
+    ensures { λ r.
+        ⌜ (r ≡ behindTwo (now (s .entry)) at)
+        × (now (early .exit) ≡ set (now (early .entry)) i (delayOf (valueAt (now (s .entry)) at)))
+        × (now (late .exit)
+        ≡ set (now (late .entry)) i (delayOf (valueAt (now (s .entry)) (nextAt (now (s .entry)) at)))) ⌝ }
+{
+    let a = take_number(s, at);
+    let second = a.next;
+    let b = take_number(s, second);
+    set_delay(early, i, a.value);
+    set_delay(late, i, b.value);
+    b.next
+}
+
+// An edge, to index i of its four tables.
 fn fill_row(
     s: &[u8],
     at: usize,
     i: usize,
     starts: &mut [u32],
     ends: &mut [u32],
-    delays: &mut [i32],
+    early: &mut [i32],
+    late: &mut [i32],
 ) -> usize
-    requires { ⌜ (i < length (now starts)) × (i < length (now ends)) × (i < length (now delays)) ⌝ }
+    requires { ⌜ (i < length (now starts))
+        × (i < length (now ends))
+        × (i < length (now early))
+        × (i < length (now late)) ⌝ }
     ensures { λ r.
-        let row = rowAt (now (s .entry)) at in
-        ⌜ (r ≡ rowEnd (now (s .entry)) at)
-        × (now (starts .exit) ≡ set (now (starts .entry)) i (row .first))
-        × (now (ends .exit) ≡ set (now (ends .entry)) i (row .second))
-        × (now (delays .exit) ≡ set (now (delays .entry)) i (delayOf (row .third))) ⌝ }
+        let row = edgeRowAt (now (s .entry)) at in
+        ⌜ (r ≡ edgeRowEnd (now (s .entry)) at)
+        × (now (starts .exit) ≡ set (now (starts .entry)) i (row .start))
+        × (now (ends .exit) ≡ set (now (ends .entry)) i (row .end))
+        × (now (early .exit) ≡ set (now (early .entry)) i (delayOf (row .early)))
+        × (now (late .exit) ≡ set (now (late .entry)) i (delayOf (row .late))) ⌝ }
 {
-    let a = take_number(s, at);
-    let second = a.next;
-    let b = take_number(s, second);
-    let third = b.next;
-    let d = take_number(s, third);
-    starts[i] = a.value;
-    ends[i] = b.value;
-    set_delay(delays, i, d.value);
-    d.next
+    let delays = fill_nodes(s, at, i, starts, ends);
+    fill_delays(s, delays, i, early, late)
 }
 
 fn fill_rows(
@@ -59,18 +92,23 @@ fn fill_rows(
     m: usize,
     starts: &mut [u32],
     ends: &mut [u32],
-    delays: &mut [i32],
+    early: &mut [i32],
+    late: &mut [i32],
 ) -> usize
-    requires { ⌜ (m ≤ length (now starts)) × (m ≤ length (now ends)) × (m ≤ length (now delays)) ⌝ }
+    requires { ⌜ (m ≤ length (now starts))
+        × (m ≤ length (now ends))
+        × (m ≤ length (now early))
+        × (m ≤ length (now late)) ⌝ }
     ensures { λ r. ⌜ (r ≡ rowsEnd (now (s .entry)) m at)
         × (now (starts .exit) ≡ sets (now (starts .entry)) 0 (startsFrom (now (s .entry)) m at))
         × (now (ends .exit) ≡ sets (now (ends .entry)) 0 (endsFrom (now (s .entry)) m at))
-        × (now (delays .exit) ≡ sets (now (delays .entry)) 0 (delaysFrom (now (s .entry)) m at)) ⌝ }
+        × (now (early .exit) ≡ sets (now (early .entry)) 0 (earlyFrom (now (s .entry)) m at))
+        × (now (late .exit) ≡ sets (now (late .entry)) 0 (lateFrom (now (s .entry)) m at)) ⌝ }
 {
     let mut at = at;
     let mut i = 0;
     while i < m {
-        at = fill_row(s, at, i, starts, ends, delays);
+        at = fill_row(s, at, i, starts, ends, early, late);
         i += 1;
     }
     at
@@ -157,11 +195,13 @@ pub(crate) fn fill_design(
     at: usize,
     starts: &mut [u32],
     ends: &mut [u32],
-    delays: &mut [i32],
+    early: &mut [i32],
+    late: &mut [i32],
 ) -> DesignRead
     requires { ⌜ (edgeCount (now s) at ≤ length (now starts))
         × (length (now ends) ≡ length (now starts))
-        × (length (now delays) ≡ length (now starts)) ⌝ }
+        × (length (now early) ≡ length (now starts))
+        × (length (now late) ≡ length (now starts)) ⌝ }
     ensures { λ r.
         let d = designFrom (now (s .entry)) at in
         ⌜ (r .nodes ≡ d .nodes)
@@ -169,14 +209,15 @@ pub(crate) fn fill_design(
         × (r .next ≡ countPlace (now (s .entry)) at)
         × (now (starts .exit) ≡ placed (d .starts) (now (starts .entry)))
         × (now (ends .exit) ≡ placed (d .ends) (now (ends .entry)))
-        × (now (delays .exit) ≡ placed (d .delays) (now (delays .entry))) ⌝ }
+        × (now (early .exit) ≡ placed (d .early) (now (early .entry)))
+        × (now (late .exit) ≡ placed (d .late) (now (late .entry))) ⌝ }
 {
     let n = take_number(s, at);
     let second = n.next;
     let m = take_number(s, second);
     let rows = m.next;
     let edges = wide(m.value);
-    let next = fill_rows(s, rows, edges, starts, ends, delays);
+    let next = fill_rows(s, rows, edges, starts, ends, early, late);
     DesignRead {
         nodes: n.value,
         edges,

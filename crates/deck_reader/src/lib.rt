@@ -28,22 +28,25 @@ pub fn read_deck(
     s: &[u8],
     starts: &mut [u32],
     ends: &mut [u32],
-    delays: &mut [i32],
+    early: &mut [i32],
+    late: &mut [i32],
     listed: &mut [u32],
     lengths: &mut [u32],
 ) -> DeckRead
     ensures { λ r.
         let o = deckRead (now (s .entry))
-        (length (now (starts .entry))) (length (now (ends .entry))) (length (now (delays .entry)))
+        (length (now (starts .entry))) (length (now (ends .entry)))
+        (length (now (early .entry))) (length (now (late .entry)))
         (length (now (listed .entry))) (length (now (lengths .entry))) in
         ⌜ (r ≡ deckAnswer o)
         × (now (starts .exit) ≡ filled (λ d. d .design .starts) o (now (starts .entry)))
         × (now (ends .exit) ≡ filled (λ d. d .design .ends) o (now (ends .entry)))
-        × (now (delays .exit) ≡ filled (λ d. d .design .delays) o (now (delays .entry)))
+        × (now (early .exit) ≡ filled (λ d. d .design .early) o (now (early .entry)))
+        × (now (late .exit) ≡ filled (λ d. d .design .late) o (now (late .entry)))
         × (now (listed .exit) ≡ filled (λ d. d .list .edges) o (now (listed .entry)))
         × (now (lengths .exit) ≡ filled (λ d. d .list .lengths) o (now (lengths .entry))) ⌝ }
 {
-    let sizes = verdicts::same_sizes(starts.len(), ends.len(), delays.len());
+    let sizes = sizes::edge_sizes(starts.len(), ends.len(), early.len(), late.len());
     match sizes {
         Verdict::Refused(r) => {
             return DeckRead::Refused(r);
@@ -57,5 +60,5 @@ pub fn read_deck(
         }
         Verdict::Passed => {}
     }
-    reader::fill_deck(s, starts, ends, delays, listed, lengths)
+    reader::fill_deck(s, starts, ends, early, late, listed, lengths)
 }

@@ -105,13 +105,13 @@ fn look_paths(s: &[u8], at: usize, count: usize, table: usize) -> Looked
     Looked::At(at)
 }
 
-// The count of edges, and the edges.
+// The count of edges, and the edges, each of four numbers.
 fn look_edges(s: &[u8], at: usize, edges: usize) -> Looked
     ensures { λ r. ⌜ r ≡ looked (edgesIn (now (s .entry)) edges at) ⌝ }
 {
     let r = look_count(s, at, 0, 11, timing::MAX_EDGES, edges);
     match r {
-        NumberRead::Value { value, next } => look_rows(s, next, value),
+        NumberRead::Value { value, next } => look_rows(s, next, value, 4),
         NumberRead::Refused(e) => Looked::Refused(e),
     }
 }

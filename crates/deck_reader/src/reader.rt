@@ -52,25 +52,28 @@ pub(crate) fn fill_deck(
     s: &[u8],
     starts: &mut [u32],
     ends: &mut [u32],
-    delays: &mut [i32],
+    early: &mut [i32],
+    late: &mut [i32],
     listed: &mut [u32],
     lengths: &mut [u32],
 ) -> DeckRead
     requires { ⌜ Fits (now s) 0
         (record { edges = length (now starts); listed = length (now listed); paths = length (now lengths) })
         × (length (now ends) ≡ length (now starts))
-        × (length (now delays) ≡ length (now starts)) ⌝ }
+        × (length (now early) ≡ length (now starts))
+        × (length (now late) ≡ length (now starts)) ⌝ }
     ensures { λ a.
         let d = deckFrom (now (s .entry)) 0 in
         ⌜ (a ≡ deckAnswer (made d))
         × (now (starts .exit) ≡ placed (d .design .starts) (now (starts .entry)))
         × (now (ends .exit) ≡ placed (d .design .ends) (now (ends .entry)))
-        × (now (delays .exit) ≡ placed (d .design .delays) (now (delays .entry)))
+        × (now (early .exit) ≡ placed (d .design .early) (now (early .entry)))
+        × (now (late .exit) ≡ placed (d .design .late) (now (late .entry)))
         × (now (listed .exit) ≡ placed (d .list .edges) (now (listed .entry)))
         × (now (lengths .exit) ≡ placed (d .list .lengths) (now (lengths .entry))) ⌝ }
 {
     let r = at_front(s);
-    let d = filler::fill_design(r.bytes, r.at, starts, ends, delays);
+    let d = filler::fill_design(r.bytes, r.at, starts, ends, early, late);
     let r = onward(r, d.next);
     let l = filler::fill_list(r.bytes, r.at, listed, lengths);
     let r = onward(r, l.next);

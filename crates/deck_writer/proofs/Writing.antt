@@ -108,12 +108,13 @@ pub sizes-done : (s : List ℤ) (k : ℕ) → length s ≤ k → size (map packe
 sizes-done s k h = rw (drop-of-length-le s h) size-none
 
 -- The numbers of the edges, of a part of a list and of the paths, from an index on.
-pub edges-turn : (s t : List ℕ) (d : List ℤ) (k : ℕ) → k < length s → k < length t → k < length d
-    → edgeNumbers (drop k s) (drop k t) (drop k d) ≡ (getD s k 0 ∷ getD t k 0 ∷ packedDelay (getD d k (pos 0)) ∷ []) ++ edgeNumbers (drop (k + 1) s) (drop (k + 1) t) (drop (k + 1) d)
-edges-turn s t d k f g h = rw (drop-cons s k 0 f, drop-cons t k 0 g, drop-cons d k (pos 0) h, add-one k)
+pub edges-turn : (s t : List ℕ) (d l : List ℤ) (k : ℕ) → k < length s → k < length t → k < length d → k < length l
+    → edgeNumbers (drop k s) (drop k t) (drop k d) (drop k l)
+    ≡ (getD s k 0 ∷ getD t k 0 ∷ packedDelay (getD d k (pos 0)) ∷ packedDelay (getD l k (pos 0)) ∷ []) ++ edgeNumbers (drop (k + 1) s) (drop (k + 1) t) (drop (k + 1) d) (drop (k + 1) l)
+edges-turn s t d l k e f g h = rw (drop-cons s k 0 e, drop-cons t k 0 f, drop-cons d k (pos 0) g, drop-cons l k (pos 0) h, add-one k)
 
-pub edges-done : (s t : List ℕ) (d : List ℤ) (k : ℕ) → length s ≤ k → edgeNumbers (drop k s) (drop k t) (drop k d) ≡ []
-edges-done s t d k h = rw (drop-of-length-le s h)
+pub edges-done : (s t : List ℕ) (d l : List ℤ) (k : ℕ) → length s ≤ k → edgeNumbers (drop k s) (drop k t) (drop k d) (drop k l) ≡ []
+edges-done s t d l k h = rw (drop-of-length-le s h)
 
 pub part-turn : (s : List ℕ) (from count k : ℕ) → from + count ≤ length s → k < count
     → take (count - k) (drop (from + k) s) ≡ (getD s (from + k) 0 ∷ []) ++ take (count - (k + 1)) (drop (from + (k + 1)) s)
@@ -147,22 +148,27 @@ unfolding flatMap
 paths-done edges lengths from k h = rw (drop-of-length-le lengths h)
 
 -- The size of a deck: each number counted once.
-pub size-edges : (s t : List ℕ) (d : List ℤ) → length t ≡ length s → length d ≡ length s → size (edgeNumbers s t d) ≡ size s + size t + size (map packedDelay d)
-size-edges [] [] [] e f = omega (arith, size-none)
-size-edges [] (y ∷ t) d e f = absurd (omega arith)
-size-edges [] [] (z ∷ d) e f = absurd (omega arith)
-size-edges (x ∷ s) [] d e f = absurd (omega arith)
-size-edges (x ∷ s) (y ∷ t) [] e f = absurd (omega arith)
-size-edges (x ∷ s) (y ∷ t) (z ∷ d) e f =
+pub size-edges : (s t : List ℕ) (d l : List ℤ) → length t ≡ length s → length d ≡ length s → length l ≡ length s
+    → size (edgeNumbers s t d l) ≡ size s + size t + size (map packedDelay d) + size (map packedDelay l)
+size-edges [] [] [] [] e f g = omega (arith, size-none)
+size-edges [] (y ∷ t) d l e f g = absurd (omega arith)
+size-edges [] [] (z ∷ d) l e f g = absurd (omega arith)
+size-edges [] [] [] (w ∷ l) e f g = absurd (omega arith)
+size-edges (x ∷ s) [] d l e f g = absurd (omega arith)
+size-edges (x ∷ s) (y ∷ t) [] l e f g = absurd (omega arith)
+size-edges (x ∷ s) (y ∷ t) (z ∷ d) [] e f g = absurd (omega arith)
+size-edges (x ∷ s) (y ∷ t) (z ∷ d) (w ∷ l) e f g =
     omega (
       arith,
-      size-cons x (y ∷ packedDelay z ∷ edgeNumbers s t d),
-      size-cons y (packedDelay z ∷ edgeNumbers s t d),
-      size-cons (packedDelay z) (edgeNumbers s t d),
+      size-cons x (y ∷ packedDelay z ∷ packedDelay w ∷ edgeNumbers s t d l),
+      size-cons y (packedDelay z ∷ packedDelay w ∷ edgeNumbers s t d l),
+      size-cons (packedDelay z) (packedDelay w ∷ edgeNumbers s t d l),
+      size-cons (packedDelay w) (edgeNumbers s t d l),
       size-cons x s,
       size-cons y t,
       size-cons (packedDelay z) (map packedDelay d),
-      size-edges s t d (omega arith) (omega arith),
+      size-cons (packedDelay w) (map packedDelay l),
+      size-edges s t d l (omega arith) (omega arith) (omega arith),
     )
 
 pub size-paths : (edges lengths : List ℕ) → sum lengths ≡ length edges → size (flatMap pathNumbers (cut edges lengths)) ≡ size lengths + size edges
@@ -188,7 +194,7 @@ length-cut edges [] = refl
 length-cut edges (k ∷ lengths) = ap suc (length-cut (drop k edges) lengths)
 
 abbrev pub designNumbers : Deck → List ℕ
-designNumbers d = d .design .nodes ∷ length (d .design .starts) ∷ edgeNumbers (d .design .starts) (d .design .ends) (d .design .delays)
+designNumbers d = d .design .nodes ∷ length (d .design .starts) ∷ edgeNumbers (d .design .starts) (d .design .ends) (d .design .early) (d .design .late)
 
 abbrev pub listNumbers : Deck → List ℕ
 listNumbers d = length (d .list .lengths) ∷ flatMap pathNumbers (cut (d .list .edges) (d .list .lengths))
@@ -203,10 +209,10 @@ packed-deck d = refl
 
 pub size-deck : (d : Deck) → Fit d → length (packedDeck d)
     ≡ length (packed (d .design .nodes)) + length (packed (length (d .design .starts))) + length (packed (length (d .list .lengths))) + length (packed (d .allowed))
-    + (size (d .design .starts) + size (d .design .ends) + size (map packedDelay (d .design .delays))) + (size (d .list .lengths) + size (d .list .edges))
+    + size (edgeNumbers (d .design .starts) (d .design .ends) (d .design .early) (d .design .late)) + (size (d .list .lengths) + size (d .list .edges))
 size-deck d f =
     let D = d .design in
-    let es = edgeNumbers (D .starts) (D .ends) (D .delays) in
+    let es = edgeNumbers (D .starts) (D .ends) (D .early) (D .late) in
     let ps = flatMap pathNumbers (cut (d .list .edges) (d .list .lengths)) in
     rw (packed-deck d, deck-parts d)
     (omega (
@@ -215,7 +221,6 @@ size-deck d f =
       size-append (designNumbers d) (listNumbers d),
       size-cons (D .nodes) (length (D .starts) ∷ es),
       size-cons (length (D .starts)) es,
-      size-edges (D .starts) (D .ends) (D .delays) (f .ends) (f .delays),
       size-cons (length (d .list .lengths)) ps,
       size-paths (d .list .edges) (d .list .lengths) (f .adds),
       size-cons (d .allowed) [],

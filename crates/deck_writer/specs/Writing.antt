@@ -12,14 +12,15 @@ use Rattle.timing.specs.Numbers.{packed}
 use Rattle.timing.specs.Decks.{Deck}
 
 -- the deck that a writer is lent
-abbrev pub deckOf : ℕ → List ℕ → List ℕ → List ℤ → List ℕ → List ℕ → ℕ → Deck
-deckOf n starts ends delays listed lengths allowed =
-    record { design = design n starts ends delays; list = pathList listed lengths; allowed = allowed }
+abbrev pub deckOf : ℕ → List ℕ → List ℕ → List ℤ → List ℤ → List ℕ → List ℕ → ℕ → Deck
+deckOf n starts ends early late listed lengths allowed =
+    record { design = design n starts ends early late; list = pathList listed lengths; allowed = allowed }
 
 -- what the writer's tests say of a deck
 pub record Fit (d : Deck) : Type 0 where
   pub ends : length (d .design .ends) ≡ length (d .design .starts)
-  pub delays : length (d .design .delays) ≡ length (d .design .starts)
+  pub early : length (d .design .early) ≡ length (d .design .starts)
+  pub late : length (d .design .late) ≡ length (d .design .starts)
   pub adds : sum (d .list .lengths) ≡ length (d .list .edges)
   pub nodes : d .design .nodes ≤ 4096
   pub edges : length (d .design .starts) ≤ 16384

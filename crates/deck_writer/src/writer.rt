@@ -60,26 +60,50 @@ fn put(room: &mut [u8], at: usize, x: u32) -> usize
     }
 }
 
-fn put_row(room: &mut [u8], at: usize, start: u32, end: u32, delay: u32) -> usize
-    requires { ⌜ at + size (start ∷ end ∷ delay ∷ []) ≤ length (now room) ⌝ }
-    ensures { λ r. ⌜ Wrote (now (room .entry)) (now (room .exit)) at r (start ∷ end ∷ delay ∷ []) ⌝ }
+fn put_two(room: &mut [u8], at: usize, x: u32, y: u32) -> usize
+    requires { ⌜ at + size (x ∷ y ∷ []) ≤ length (now room) ⌝ }
+    ensures { λ r. ⌜ Wrote (now (room .entry)) (now (room .exit)) at r (x ∷ y ∷ []) ⌝ }
 {
-    let at = put(room, at, start);
-    let at = put(room, at, end);
-    put(room, at, delay)
+    let at = put(room, at, x);
+    put(room, at, y)
 }
 
-fn put_edges(room: &mut [u8], at: usize, starts: &[u32], ends: &[u32], delays: &[i32]) -> usize
-    requires { ⌜ (length (now ends) ≡ length (now starts)) × (length (now delays) ≡ length (now starts)) ⌝ }
-    requires { ⌜ at + size (edgeNumbers (now starts) (now ends) (now delays)) ≤ length (now room) ⌝ }
+// An edge: its nodes, then its delays.
+fn put_row(room: &mut [u8], at: usize, start: u32, end: u32, early: u32, late: u32) -> usize
+    requires { ⌜ at + size (start ∷ end ∷ early ∷ late ∷ []) ≤ length (now room) ⌝ }
+    ensures { λ r. ⌜ Wrote (now (room .entry)) (now (room .exit)) at r (start ∷ end ∷ early ∷ late ∷ []) ⌝ }
+{
+    let at = put_two(room, at, start, end);
+    put_two(room, at, early, late)
+}
+
+fn put_edges(
+    room: &mut [u8],
+    at: usize,
+    starts: &[u32],
+    ends: &[u32],
+    early: &[i32],
+    late: &[i32],
+) -> usize
+    requires { ⌜ (length (now ends) ≡ length (now starts))
+        × (length (now early) ≡ length (now starts))
+        × (length (now late) ≡ length (now starts)) ⌝ }
+    requires { ⌜ at + size (edgeNumbers (now starts) (now ends) (now early) (now late)) ≤ length (now room) ⌝ }
     ensures { λ r.
-        let numbers = edgeNumbers (now (starts .entry)) (now (ends .entry)) (now (delays .entry)) in
+        let numbers = edgeNumbers (now (starts .entry)) (now (ends .entry)) (now (early .entry)) (now (late .entry)) in
         ⌜ Wrote (now (room .entry)) (now (room .exit)) at r numbers ⌝ }
 {
     let mut at = at;
     let mut k = 0;
     while k < starts.len() {
-        at = put_row(room, at, starts[k], ends[k], delay_number(delays, k));
+        at = put_row(
+            room,
+            at,
+            starts[k],
+            ends[k],
+            delay_number(early, k),
+            delay_number(late, k),
+        );
         k += 1;
     }
     at
@@ -136,20 +160,22 @@ fn put_design(
     n: u32,
     starts: &[u32],
     ends: &[u32],
-    delays: &[i32],
+    early: &[i32],
+    late: &[i32],
 ) -> usize
     requires { ⌜ (length (now ends) ≡ length (now starts))
-        × (length (now delays) ≡ length (now starts))
+        × (length (now early) ≡ length (now starts))
+        × (length (now late) ≡ length (now starts))
         × (length (now starts) ≤ 16384) ⌝ }
-    requires { let numbers = n ∷ length (now starts) ∷ edgeNumbers (now starts) (now ends) (now delays) in
-        ⌜ at + size numbers ≤ length (now room) ⌝ }
+    requires { let edges = edgeNumbers (now starts) (now ends) (now early) (now late) in
+        ⌜ at + size (n ∷ length (now starts) ∷ edges) ≤ length (now room) ⌝ }
     ensures { λ r.
-        let edges = edgeNumbers (now (starts .entry)) (now (ends .entry)) (now (delays .entry)) in
+        let edges = edgeNumbers (now (starts .entry)) (now (ends .entry)) (now (early .entry)) (now (late .entry)) in
         ⌜ Wrote (now (room .entry)) (now (room .exit)) at r (n ∷ length (now (starts .entry)) ∷ edges) ⌝ }
 {
     let at = put(room, at, n);
     let at = put(room, at, starts.len() as u32);
-    put_edges(room, at, starts, ends, delays)
+    put_edges(room, at, starts, ends, early, late)
 }
 
 fn put_list(room: &mut [u8], at: usize, listed: &[u32], lengths: &[u32]) -> usize
@@ -164,19 +190,33 @@ fn put_list(room: &mut [u8], at: usize, listed: &[u32], lengths: &[u32]) -> usiz
     put_paths(room, at, listed, lengths)
 }
 
-// How many bytes the deck takes: each number is counted once, in any order.
+// How many bytes the edges take: each number is counted once, in any order.
+fn edges_size(starts: &[u32], ends: &[u32], early: &[i32], late: &[i32]) -> usize
+    requires { ⌜ (length (now ends) ≡ length (now starts))
+        × (length (now early) ≡ length (now starts))
+        × (length (now late) ≡ length (now starts))
+        × (length (now starts) ≤ 16384) ⌝ }
+    ensures { λ r.
+        let numbers = edgeNumbers (now (starts .entry)) (now (ends .entry)) (now (early .entry)) (now (late .entry)) in
+        ⌜ (r ≡ size numbers) × (r ≤ 327680) ⌝ }
+{
+    numbers_size(starts) + numbers_size(ends) + delays_size(early) + delays_size(late)
+}
+
+// How many bytes the deck takes, likewise.
 pub(crate) fn deck_size(
     n: u32,
     starts: &[u32],
     ends: &[u32],
-    delays: &[i32],
+    early: &[i32],
+    late: &[i32],
     listed: &[u32],
     lengths: &[u32],
     allowed: u32,
 ) -> usize
-    requires { ⌜ Fit (deckOf n (now starts) (now ends) (now delays) (now listed) (now lengths) allowed) ⌝ }
+    requires { ⌜ Fit (deckOf n (now starts) (now ends) (now early) (now late) (now listed) (now lengths) allowed) ⌝ }
     ensures { λ r.
-        let d = deckOf n (now (starts .entry)) (now (ends .entry)) (now (delays .entry))
+        let d = deckOf n (now (starts .entry)) (now (ends .entry)) (now (early .entry)) (now (late .entry))
         (now (listed .entry)) (now (lengths .entry)) allowed in
         ⌜ r ≡ length (packedDeck d) ⌝ }
 {
@@ -184,7 +224,7 @@ pub(crate) fn deck_size(
         + number_size(starts.len() as u32)
         + number_size(lengths.len() as u32)
         + number_size(allowed);
-    let edges = numbers_size(starts) + numbers_size(ends) + delays_size(delays);
+    let edges = edges_size(starts, ends, early, late);
     let paths = numbers_size(lengths) + numbers_size(listed);
     counts + edges + paths
 }
@@ -193,20 +233,21 @@ pub(crate) fn put_deck(
     n: u32,
     starts: &[u32],
     ends: &[u32],
-    delays: &[i32],
+    early: &[i32],
+    late: &[i32],
     listed: &[u32],
     lengths: &[u32],
     allowed: u32,
     room: &mut [u8],
 ) -> usize
-    requires { let d = deckOf n (now starts) (now ends) (now delays) (now listed) (now lengths) allowed in
+    requires { let d = deckOf n (now starts) (now ends) (now early) (now late) (now listed) (now lengths) allowed in
         ⌜ Fit d × (length (packedDeck d) ≤ length (now room)) ⌝ }
     ensures { λ r.
-        let d = deckOf n (now (starts .entry)) (now (ends .entry)) (now (delays .entry))
+        let d = deckOf n (now (starts .entry)) (now (ends .entry)) (now (early .entry)) (now (late .entry))
         (now (listed .entry)) (now (lengths .entry)) allowed in
         ⌜ Wrote (now (room .entry)) (now (room .exit)) 0 r (deckNumbers d) ⌝ }
 {
-    let at = put_design(room, 0, n, starts, ends, delays);
+    let at = put_design(room, 0, n, starts, ends, early, late);
     let at = put_list(room, at, listed, lengths);
     put(room, at, allowed)
 }

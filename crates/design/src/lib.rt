@@ -21,20 +21,22 @@ fn and_design_counts(before: Verdict, n: u32, m: usize) -> Verdict
     and_unless(nodes, 11, m <= MAX_EDGES)
 }
 
-// 10 to 14. The delays are tested for each edge that there is a start for.
+// 10 to 15. The delays are tested for each edge that there is a start for.
 pub fn and_design_tests(
     before: Verdict,
     n: u32,
     starts: &[u32],
     ends: &[u32],
-    delays: &[i32],
+    early: &[i32],
+    late: &[i32],
 ) -> Verdict
     ensures { λ r.
-        let D = design n (now (starts .entry)) (now (ends .entry)) (now (delays .entry)) in
+        let D = design n (now (starts .entry)) (now (ends .entry)) (now (early .entry)) (now (late .entry)) in
         ⌜ r ≡ (before then designTests D) ⌝ }
 {
     let counts = and_design_counts(before, n, starts.len());
     let known = edges::and_known(counts, n, starts, ends);
     let rising = edges::and_rise(known, starts, ends);
-    edges::and_in_range(rising, starts.len(), delays)
+    let ranged = edges::and_in_range(rising, starts.len(), early, late);
+    edges::and_ordered(ranged, starts.len(), early, late)
 }

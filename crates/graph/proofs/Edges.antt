@@ -99,10 +99,10 @@ out-graph nodes s t k c = nil-any (λ e. eqb (e .start) c) (edgesOf s t k) ∙ a
 length-design-edges : (s t : List ℕ) → length (edgesOf s t (upto (length s) 0)) ≡ min (length s) (length t)
 length-design-edges s t = omega (arith, length-edges s t (upto (length s) 0), length-upto (length s) 0)
 
-pub source-is : (n : ℕ) (s t : List ℕ) (v : ℕ) → isSource (design n s t []) v ≡ not (stands t (min (length s) (length t)) v)
+pub source-is : (n : ℕ) (s t : List ℕ) (v : ℕ) → isSource (design n s t [] []) v ≡ not (stands t (min (length s) (length t)) v)
 unfolding designGraph
 source-is n s t v = in-graph (upto n 0) s t (upto (length s) 0) v ∙ ap (λ (m : ℕ). not (stands t m v)) (length-design-edges s t)
 
-pub sink-is : (n : ℕ) (s t : List ℕ) (v : ℕ) → isSink (design n s t []) v ≡ not (stands s (min (length s) (length t)) v)
+pub sink-is : (n : ℕ) (s t : List ℕ) (v : ℕ) → isSink (design n s t [] []) v ≡ not (stands s (min (length s) (length t)) v)
 unfolding designGraph
 sink-is n s t v = out-graph (upto n 0) s t (upto (length s) 0) v ∙ ap (λ (m : ℕ). not (stands s m v)) (length-design-edges s t)

@@ -6,38 +6,18 @@ use mathlib.Core.Path.{_≡_, refl, sym, _∙_, ap, subst}
 use mathlib.Core.Logic.{⊎-elim}
 use mathlib.Core.Bool.{Bool, true, false, not, _&&_, _||_}
 use mathlib.Core.List.{List, [], List·Memᴰ}
-use lib.IntN.{ℤ}
 use lib.Dec.{T, eqb, ltb, leb, ltb→lt, leb→le, le→leb, lt→ltb, eqb-refl}
 use lib.ListN.{length, getD}
 use borrow.Author.Tests.{le-leb, lt-leb}
-use Rattle.timing.specs.declared.Verdict.{Verdict}
-use Rattle.timing.specs.declared.Verdict.the-variants.{Passed, Refused}
 use Rattle.timing.specs.Lists.{allOf, countOf, eachNext, upto}
-use Rattle.timing.specs.Graphs.{Design, design, Edge, edge, Graph, edgesOf, designGraph, nodeOf, startsAt, endsAt}
+use Rattle.timing.specs.Graphs.{Design, design, Edge, edge, Graph, edgesOf, nodeOf, startsAt, endsAt}
 use Rattle.timing.specs.WellFormed.{fewEnough, nodesFit, edgeFits, edgeRises, isSource, isSink, oneSinkCopy, linked, wellFormed}
-use Rattle.timing.specs.Refusals.{_then_}
-use Rattle.timing.specs.Tests.{nodeCount, graphTest}
 use Rattle.timing.specs.Calls.{graphSlices, graphOf}
 use Rattle.theorems.proofs.Lists.{and-intro, and-left, and-right, or-cases, or-left, or-right, holds, same-test, allOf-elim, allOf-intro, getD-mem}
 use Rattle.graph.specs.Passes.{stands, edgeAt, edgePasses, follows, joined, copyPasses}
 use Rattle.graph.proofs.Walk.{all-at, at-all}
 use Rattle.graph.proofs.Edges.{place-of, next-at, at-next, edge-at, mem-edge, of-edge, in-graph, out-graph, source-is, sink-is}
 use Rattle.graph.proofs.Sinks.{follows-le, sink-once, twice}
-
--- the delays of the design do not matter
-pub delays-free : (n : ℕ) (starts ends : List ℕ) (ds ds′ : List ℤ) (G : Graph) → graphTest (design n starts ends ds) G ≡ graphTest (design n starts ends ds′) G
-unfolding wellFormed designGraph
-delays-free n starts ends ds ds′ G = refl
-
--- A call that tests 32 has tested 10 before: there 10 and 32 are 32 alone, with the delays that the call has.
-pub after-ten : (n : ℕ) (starts ends : List ℕ) (ds : List ℤ) (G : Graph) → n ≤ 4096
-    → (nodeCount n then graphTest (design n starts ends []) G) ≡ graphTest (design n starts ends ds) G
-after-ten n starts ends ds G h = rw (le-leb n 4096 h) (delays-free n starts ends [] ds G)
-
-pub and-after-ten : (v : Verdict) (n : ℕ) (starts ends : List ℕ) (ds : List ℤ) (G : Graph) → (v ≡ Passed → n ≤ 4096)
-    → (v then nodeCount n then graphTest (design n starts ends []) G) ≡ (v then graphTest (design n starts ends ds) G)
-and-after-ten Passed n starts ends ds G h = after-ten n starts ends ds G (h refl)
-and-after-ten (Refused r) n starts ends ds G h = refl
 
 -- what the passes answer for the edges, and for the copies
 abbrev pub edgesPass : List ℕ → List ℕ → List ℕ → List ℕ → List ℕ → List ℕ → Bool
@@ -77,7 +57,7 @@ six-and a b c d f g p q r s t u =
 
 module _ (n : ℕ) (starts ends nodes from to via : List ℕ) where
   abbrev D : Design
-  D = design n starts ends []
+  D = design n starts ends [] []
 
   abbrev G : Graph
   G = graphOf (graphSlices nodes from to via)
@@ -224,7 +204,7 @@ module _ (n : ℕ) (starts ends nodes from to via : List ℕ) where
     links-of = at-all (linked D G) (length nodes) (λ c h. f c h .link)
 
   pub formed-is : length nodes ≤ 16384 → length (edgesOf from to via) ≤ 65536
-      → wellFormed (design n starts ends []) (graphOf (graphSlices nodes from to via))
+      → wellFormed (design n starts ends [] []) (graphOf (graphSlices nodes from to via))
       ≡ (edgesPass starts ends nodes from to via && copiesPass n starts ends nodes from to via)
   unfolding wellFormed
   formed-is few few′ =
@@ -267,11 +247,11 @@ module _ (n : ℕ) (starts ends nodes from to via : List ℕ) where
       C = copiesPass n starts ends nodes from to via
 
   -- a graph that is too large
-  pub too-many-copies : 16384 < length nodes → wellFormed (design n starts ends []) (graphOf (graphSlices nodes from to via)) ≡ false
+  pub too-many-copies : 16384 < length nodes → wellFormed (design n starts ends [] []) (graphOf (graphSlices nodes from to via)) ≡ false
   unfolding wellFormed
   too-many-copies h = rw (lt-leb (length nodes) 16384 h)
 
-  pub too-many-edges : length nodes ≤ 16384 → 65536 < length (edgesOf from to via) → wellFormed (design n starts ends []) (graphOf (graphSlices nodes from to via)) ≡ false
+  pub too-many-edges : length nodes ≤ 16384 → 65536 < length (edgesOf from to via) → wellFormed (design n starts ends [] []) (graphOf (graphSlices nodes from to via)) ≡ false
   unfolding wellFormed
   too-many-edges h k = rw (le-leb (length nodes) 16384 h, lt-leb (length (edgesOf from to via)) 65536 k)
 
@@ -279,5 +259,5 @@ module _ (n : ℕ) (starts ends nodes from to via : List ℕ) where
   pub formed-by : (m d : ℕ) → m ≡ length (edgesOf from to via) → d ≡ min (length starts) (length ends) → length nodes ≤ 16384 → m ≤ 65536
       → (allOf (edgePasses starts ends nodes from to via m) (upto m 0)
       && allOf (copyPasses n nodes (stands ends d) (stands starts d) (stands to m) (stands from m)) (upto (length nodes) 0))
-      ≡ wellFormed (design n starts ends []) (graphOf (graphSlices nodes from to via))
+      ≡ wellFormed (design n starts ends [] []) (graphOf (graphSlices nodes from to via))
   formed-by m d p q few few′ = rw (p, q) (sym (formed-is few (omega arith)))

@@ -29,7 +29,7 @@ edgeAt starts ends names k = edge (getD starts k 0) (getD ends k 0) (getD names 
 -- edge k of m fits and rises to the next, if there is one
 abbrev pub edgePasses : List ℕ → List ℕ → List ℕ → List ℕ → List ℕ → List ℕ → ℕ → ℕ → Bool
 edgePasses starts ends nodes from to via m k =
-    edgeFits (design 0 starts ends []) (graph nodes []) (edgeAt from to via k)
+    edgeFits (design 0 starts ends [] []) (graph nodes []) (edgeAt from to via k)
     && (leb m (k + 1) || edgeRises (edgeAt from to via k) (edgeAt from to via (k + 1)))
 
 -- node w may come after node v: it is higher, or the same and no sink

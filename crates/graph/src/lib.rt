@@ -49,7 +49,7 @@ fn mark(list: &[u32], count: usize, flags: &mut [bool])
 
 fn edge_fits(starts: &[u32], ends: &[u32], nodes: &[u32], s: u32, t: u32, k: u32) -> bool
     ensures { λ r.
-        let D = design 0 (now (starts .entry)) (now (ends .entry)) [] in
+        let D = design 0 (now (starts .entry)) (now (ends .entry)) [] [] in
         ⌜ r ≡ edgeFits D (graph (now (nodes .entry)) []) (edge s t k) ⌝ }
 {
     let there = both((s as usize) < nodes.len(), (t as usize) < nodes.len());
@@ -246,7 +246,7 @@ fn well_formed(
 ) -> bool
     requires { ⌜ n ≤ 4096 ⌝ }
     ensures { λ r.
-        let D = design n (now (starts .entry)) (now (ends .entry)) [] in
+        let D = design n (now (starts .entry)) (now (ends .entry)) [] [] in
         let S = graphSlices (now (nodes .entry)) (now (from .entry)) (now (to .entry)) (now (via .entry)) in
         ⌜ r ≡ wellFormed D (graphOf S) ⌝ }
 {
@@ -275,7 +275,7 @@ fn graph_test(
     via: &[u32],
 ) -> Verdict
     ensures { λ r.
-        let D = design n (now (starts .entry)) (now (ends .entry)) [] in
+        let D = design n (now (starts .entry)) (now (ends .entry)) [] [] in
         let S = graphSlices (now (nodes .entry)) (now (from .entry)) (now (to .entry)) (now (via .entry)) in
         ⌜ r ≡ (nodeCount n then graphTest D (graphOf S)) ⌝ }
 {
@@ -297,7 +297,7 @@ pub fn and_graph_test(
     via: &[u32],
 ) -> Verdict
     ensures { λ r.
-        let D = design n (now (starts .entry)) (now (ends .entry)) [] in
+        let D = design n (now (starts .entry)) (now (ends .entry)) [] [] in
         let S = graphSlices (now (nodes .entry)) (now (from .entry)) (now (to .entry)) (now (via .entry)) in
         ⌜ r ≡ (before then nodeCount n then graphTest D (graphOf S)) ⌝ }
 {

@@ -1,5 +1,5 @@
 -- How far a reader gets, whatever it finds.
-use Prim.Native.Nat.{ℕ, zero, suc, _-_, _≤_, _<_}
+use Prim.Native.Nat.{ℕ, zero, suc, _-_, _*_, _≤_, _<_}
 use native.Mathlib.Omega.{arith}
 use mathlib.Core.Path.{_≡_, refl, sym, _∙_, ap}
 use mathlib.Core.List.{List, [], _∷_, map}
@@ -23,6 +23,7 @@ use Rattle.timing.specs.Parsing.{Parsed, found, stopped, Reader, onward, _>>=_,
 use Rattle.timing.specs.Calls.{parsed, graphAnswer}
 use Rattle.timing.specs.declared.Looked.the-variants.{At, Refused}
 use Rattle.timing.specs.Looks.{looked, numberOf}
+use Rattle.packed_lists.proofs.Looking.{rows-numbers}
 use Rattle.graph_reader.specs.Reading.{countIn, edgesIn, madeOf}
 
 -- A count, by what was read and what its test says.
@@ -57,20 +58,20 @@ module _ {A : Type 0} where
   looked-no (found x a) q = absurd (let z : _≡_ {A = ℕ} 0 1 = cc in omega arith)
   looked-no {r} (stopped r′) q = let d : r′ ≡ r = cc in rw d
 
--- The edges, and 3.
+-- The edges, and 3. Their rows were looked at as numbers.
 module _ (s : List ℕ) (edges at m next : ℕ) (e : numberOf (countIn s 65536 34 edges at) ≡ Value m next) where
-  pub edges-end : (n after : ℕ) → looked (repeated m (row s) next) ≡ At after → length s ≤ after → Counts n m ≡ madeOf n (edgesIn s edges at)
+  pub edges-end : (n after : ℕ) → looked (repeated (3 * m) (number s) next) ≡ At after → length s ≤ after → Counts n m ≡ madeOf n (edgesIn s edges at)
   edges-end n after f h =
-      let r = looked-is (repeated m (row s) next) f in
+      let r = looked-is (repeated m (row s) next) (sym (rows-numbers s m next) ∙ f) in
       rw (number-is (countIn s 65536 34 edges at) e, r .1, le-leb (length s) after h)
 
-  pub edges-more : (n after : ℕ) → looked (repeated m (row s) next) ≡ At after → after < length s → NoGraph (refusal 3 after) ≡ madeOf n (edgesIn s edges at)
+  pub edges-more : (n after : ℕ) → looked (repeated (3 * m) (number s) next) ≡ At after → after < length s → NoGraph (refusal 3 after) ≡ madeOf n (edgesIn s edges at)
   edges-more n after f h =
-      let r = looked-is (repeated m (row s) next) f in
+      let r = looked-is (repeated m (row s) next) (sym (rows-numbers s m next) ∙ f) in
       rw (number-is (countIn s 65536 34 edges at) e, r .1, lt-leb (length s) after h)
 
-  pub edges-stop : (n : ℕ) (q : Refusal) → looked (repeated m (row s) next) ≡ Refused q → NoGraph q ≡ madeOf n (edgesIn s edges at)
-  edges-stop n q f = rw (number-is (countIn s 65536 34 edges at) e, looked-no (repeated m (row s) next) f)
+  pub edges-stop : (n : ℕ) (q : Refusal) → looked (repeated (3 * m) (number s) next) ≡ Refused q → NoGraph q ≡ madeOf n (edgesIn s edges at)
+  edges-stop n q f = rw (number-is (countIn s 65536 34 edges at) e, looked-no (repeated m (row s) next) (sym (rows-numbers s m next) ∙ f))
 
 pub edges-none : (s : List ℕ) (edges at n : ℕ) (r : Refusal) → numberOf (countIn s 65536 34 edges at) ≡ NotRead r → NoGraph r ≡ madeOf n (edgesIn s edges at)
 edges-none s edges at n r e = rw (number-no (countIn s 65536 34 edges at) e)

@@ -55,7 +55,7 @@ fn look_edges(s: &[u8], at: usize, copies: u32, edges: usize) -> GraphMade
     let r = look_count(s, at, timing::MAX_COPY_EDGES, 34, edges);
     match r {
         NumberRead::Value { value, next } => {
-            let q = look_rows(s, next, value);
+            let q = look_rows(s, next, value, 3);
             match q {
                 Looked::At(after) => {
                     if s.len() <= after {

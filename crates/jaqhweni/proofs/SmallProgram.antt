@@ -24,7 +24,7 @@ use Rattle.timing.specs.GraphBytes.{packedGraph}
 use Rattle.timing.specs.Calls.{GraphSlices, graphOf, graphSizes, writing, graphWriteTests}
 use Rattle.timing.specs.Calls.{Outcome, outcome, removal, removalTests, testDeck, parsed, programTables, programRoom, programRemoval, programFrom, program, cWritten, cNumber, cCall, roomAfterC, cRoom}
 use Rattle.true_graph.specs.Small.{SmallWritten, Small}
-use Rattle.true_graph.proofs.Small.{small-then, small-unless, small-sizes, small-list-sizes, small-design, small-list, small-scratch}
+use Rattle.true_graph.proofs.Small.{small-then, small-unless, small-sizes, small-design-sizes, small-list-sizes, small-design, small-list, small-scratch}
 use Rattle.true_graph.proofs.ReadLaws.{Within, within-deck}
 use Rattle.true_graph.proofs.ProgramLaws.{program-long, program-short}
 
@@ -37,7 +37,7 @@ small-room R H =
 small-deck : (D : Design) (L : PathList) (T : ℕ) → Small (testDeck D L T)
 unfolding testDeck
 small-deck D L T =
-    small-then (designSizes D) _ (small-sizes (length (D .starts)) (length (D .ends)) (length (D .delays)))
+    small-then (designSizes D) _ (small-design-sizes D)
     (λ e. small-then (listSizes L) _ (small-list-sizes L)
     (λ e. small-then (designTests D) _ (small-design D)
     (λ e. small-then (listTests D L) _ (small-list D L) (λ e. small-unless 25 (omega arith) (leb T 1000000000)))))

@@ -8,7 +8,7 @@ ghost use Rattle.timing.specs.Graphs.{design};
 ghost use Rattle.timing.specs.GraphBytes.{packedGraph};
 ghost use Rattle.timing.specs.Calls.{graphSlices, graphOf, lentRemoval, removeFromDesign, removeFromGraph, graphAnswer};
 ghost use Rattle.timing.specs.Calls.{nodesAfter, startsAfter, endsAfter, namesAfter, scratchAfter};
-ghost use Rattle.timing.specs.Calls.{testTimes, arrivalsAfter, requiredsAfter, slacksAfter};
+ghost use Rattle.timing.specs.Calls.{testTimes, arrivalsAfter, requiredsAfter, slacksAfter, earliestsAfter};
 ghost use Rattle.timing.specs.Calls.{graphWriteTests, writing, roomAfterWriting};
 ghost use Rattle.timing.specs.Calls.{refusalNumber, graphNumber, verdictNumber, cNumber, cCall, cRoom};
 ghost use Rattle.true_graph.specs.Small.{SmallRefusal, SmallGraph, SmallWritten, Small};
@@ -85,7 +85,8 @@ pub extern "C" fn jaqhweni_remove_from_design(
     n: u32,
     starts: &[u32],
     ends: &[u32],
-    delays: &[i32],
+    early: &[i32],
+    late: &[i32],
     listed: &[u32],
     lengths: &[u32],
     room_nodes: &mut [u32],
@@ -95,7 +96,7 @@ pub extern "C" fn jaqhweni_remove_from_design(
     scratch: &mut [u32],
 ) -> i64
     ensures { λ r.
-        let D = design n (now (starts .entry)) (now (ends .entry)) (now (delays .entry)) in
+        let D = design n (now (starts .entry)) (now (ends .entry)) (now (early .entry)) (now (late .entry)) in
         let lent = lentRemoval (now (listed .entry)) (now (lengths .entry))
         (now («room_nodes» .entry)) (now («room_from» .entry)) (now («room_to» .entry)) (now («room_via» .entry))
         (now (scratch .entry)) in
@@ -111,7 +112,8 @@ pub extern "C" fn jaqhweni_remove_from_design(
         n,
         starts,
         ends,
-        delays,
+        early,
+        late,
         listed,
         lengths,
         room_nodes,
@@ -129,7 +131,8 @@ pub extern "C" fn jaqhweni_remove_from_graph(
     n: u32,
     starts: &[u32],
     ends: &[u32],
-    delays: &[i32],
+    early: &[i32],
+    late: &[i32],
     listed: &[u32],
     lengths: &[u32],
     nodes: &[u32],
@@ -143,7 +146,7 @@ pub extern "C" fn jaqhweni_remove_from_graph(
     scratch: &mut [u32],
 ) -> i64
     ensures { λ r.
-        let D = design n (now (starts .entry)) (now (ends .entry)) (now (delays .entry)) in
+        let D = design n (now (starts .entry)) (now (ends .entry)) (now (early .entry)) (now (late .entry)) in
         let S = graphSlices (now (nodes .entry)) (now (from .entry)) (now (to .entry)) (now (via .entry)) in
         let lent = lentRemoval (now (listed .entry)) (now (lengths .entry))
         (now («room_nodes» .entry)) (now («room_from» .entry)) (now («room_to» .entry)) (now («room_via» .entry))
@@ -160,7 +163,8 @@ pub extern "C" fn jaqhweni_remove_from_graph(
         n,
         starts,
         ends,
-        delays,
+        early,
+        late,
         listed,
         lengths,
         nodes,
@@ -176,13 +180,14 @@ pub extern "C" fn jaqhweni_remove_from_graph(
     graph_number(made)
 }
 
-// Arrival, required time and slack of every copy of a true graph.
+// Arrival, required time, slack and earliest arrival of every copy of a true graph.
 #[no_mangle]
 pub extern "C" fn jaqhweni_times(
     n: u32,
     starts: &[u32],
     ends: &[u32],
-    delays: &[i32],
+    early: &[i32],
+    late: &[i32],
     allowed: u32,
     nodes: &[u32],
     from: &[u32],
@@ -191,22 +196,25 @@ pub extern "C" fn jaqhweni_times(
     arrivals: &mut [i64],
     requireds: &mut [i64],
     slacks: &mut [i64],
+    earliests: &mut [i64],
 ) -> i64
     ensures { λ r.
-        let D = design n (now (starts .entry)) (now (ends .entry)) (now (delays .entry)) in
+        let D = design n (now (starts .entry)) (now (ends .entry)) (now (early .entry)) (now (late .entry)) in
         let S = graphSlices (now (nodes .entry)) (now (from .entry)) (now (to .entry)) (now (via .entry)) in
-        let v = testTimes D S allowed
-        (length (now (arrivals .entry))) (length (now (requireds .entry))) (length (now (slacks .entry))) in
+        let v = testTimes D S allowed (length (now (arrivals .entry))) (length (now (requireds .entry)))
+        (length (now (slacks .entry))) (length (now (earliests .entry))) in
         ⌜ (r ≡ verdictNumber v)
         × (now (arrivals .exit) ≡ arrivalsAfter D S allowed v (now (arrivals .entry)))
         × (now (requireds .exit) ≡ requiredsAfter D S allowed v (now (requireds .entry)))
-        × (now (slacks .exit) ≡ slacksAfter D S allowed v (now (slacks .entry))) ⌝ }
+        × (now (slacks .exit) ≡ slacksAfter D S allowed v (now (slacks .entry)))
+        × (now (earliests .exit) ≡ earliestsAfter D S v (now (earliests .entry))) ⌝ }
 {
     let verdict = times::times(
         n,
         starts,
         ends,
-        delays,
+        early,
+        late,
         allowed,
         nodes,
         from,
@@ -215,6 +223,7 @@ pub extern "C" fn jaqhweni_times(
         arrivals,
         requireds,
         slacks,
+        earliests,
     );
     verdict_number(verdict)
 }

@@ -1,10 +1,10 @@
 // Packed numbers one after the other: how many bytes they take, and how far a reader gets.
 ghost use mathlib.Core.Path.{_≡_};
-ghost use Prim.Native.Nat.{ℕ, _≤_};
+ghost use Prim.Native.Nat.{ℕ, _*_, _≤_};
 ghost use lib.ListN.{length};
 ghost use mathlib.Core.List.{flatMap};
 ghost use Rattle.timing.specs.Numbers.{packed};
-ghost use Rattle.timing.specs.Parsing.{number, repeated, row};
+ghost use Rattle.timing.specs.Parsing.{number, repeated};
 ghost use Rattle.timing.specs.Looks.{looked, valueAt, nextAt};
 use entries::least;
 use entries::wide;
@@ -66,12 +66,13 @@ pub fn look_numbers(s: &[u8], at: usize, k: usize) -> Looked
     Looked::At(here)
 }
 
-// m times three numbers.
-pub fn look_rows(s: &[u8], at: usize, m: u32) -> Looked
-    ensures { λ r. ⌜ r ≡ looked (repeated m (row (now (s .entry))) at) ⌝ }
+// m rows of so many numbers each.
+pub fn look_rows(s: &[u8], at: usize, m: u32, width: u32) -> Looked
+    ensures { λ r. ⌜ r ≡ looked (repeated (width * m) (number (now (s .entry))) at) ⌝ }
 {
     let rows = m as usize;
-    look_numbers(s, at, 3 * rows)
+    let numbers = width as usize;
+    look_numbers(s, at, numbers * rows)
 }
 
 // The number at a place, where a look has passed over it.

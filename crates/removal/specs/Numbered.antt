@@ -13,14 +13,15 @@ use Rattle.removal.specs.Remove.{Removed, removalOutcome}
 
 -- a design and a list that pass their tests, with as many numbers as nodes and as edges
 pub record Numberable (starts ends listed lengths : List ℕ) (n m : ℕ) (room-from room-to room-via : List ℕ) : Type 0 where
-  pub delays : List ℤ
-  pub design-fits : DesignFits (design n starts ends delays)
-  pub list-fits : ListFits (design n starts ends delays) (pathList listed lengths)
+  pub early : List ℤ
+  pub late : List ℤ
+  pub design-fits : DesignFits (design n starts ends early late)
+  pub list-fits : ListFits (design n starts ends early late) (pathList listed lengths)
   pub numbers : m ≡ length starts
   pub same : SameRooms room-from room-to room-via
 
 -- the removal, whatever the delays are
 unfoldable pub DesignRemoved : List ℕ → List ℕ → List ℕ → List ℕ → ℕ → GraphMade → List ℕ → List ℕ → List ℕ → List ℕ → List ℕ → List ℕ → List ℕ → List ℕ → List ℕ → List ℕ → Type 0
 DesignRemoved starts ends listed lengths n r room-nodes room-from room-to room-via s room-nodes′ room-from′ room-to′ room-via′ s′ =
-    (delays : List ℤ) → DesignFits (design n starts ends delays) → ListFits (design n starts ends delays) (pathList listed lengths)
-    → Removed (removalOutcome (design n starts ends delays) (pathList listed lengths) (designGraph (design n starts ends delays)) room-nodes room-from room-to room-via s) r room-nodes room-from room-to room-via s room-nodes′ room-from′ room-to′ room-via′ s′
+    (early late : List ℤ) → DesignFits (design n starts ends early late) → ListFits (design n starts ends early late) (pathList listed lengths)
+    → Removed (removalOutcome (design n starts ends early late) (pathList listed lengths) (designGraph (design n starts ends early late)) room-nodes room-from room-to room-via s) r room-nodes room-from room-to room-via s room-nodes′ room-from′ room-to′ room-via′ s′

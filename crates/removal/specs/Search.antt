@@ -13,7 +13,7 @@ use Rattle.removal.specs.Slots.{Bounds, Bounded, slotBase}
 
 -- a design of which only the edges' starts are looked at, and a graph of which only the copies' nodes are
 abbrev pub ofStarts : List ℕ → Design
-ofStarts starts = design 0 starts [] []
+ofStarts starts = design 0 starts [] [] []
 
 abbrev pub ofNodes : List ℕ → Graph
 ofNodes nodes = graph nodes []

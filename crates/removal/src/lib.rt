@@ -54,25 +54,26 @@ mod step;
 mod tables;
 
 // The tests of a design and a list: 30, with those of the call's other slices between, and then 10
-// to 14 and 20 to 24.
+// to 15 and 20 to 24.
 fn list_tests(
     n: u32,
     starts: &[u32],
     ends: &[u32],
-    delays: &[i32],
+    early: &[i32],
+    late: &[i32],
     listed: &[u32],
     lengths: &[u32],
     others: Verdict,
 ) -> Verdict
     ensures { λ r.
-        let D = design n (now (starts .entry)) (now (ends .entry)) (now (delays .entry)) in
+        let D = design n (now (starts .entry)) (now (ends .entry)) (now (early .entry)) (now (late .entry)) in
         let L = pathList (now (listed .entry)) (now (lengths .entry)) in
         ⌜ r ≡ (designSizes D then listSizes L then others then designTests D then listTests D L) ⌝ }
 {
-    let slices = design_sizes(starts, ends, delays);
+    let slices = design_sizes(starts, ends, early, late);
     let sums = and_list_sizes(slices, listed, lengths);
     let sizes = then(sums, others);
-    let fit = and_design_tests(sizes, n, starts, ends, delays);
+    let fit = and_design_tests(sizes, n, starts, ends, early, late);
     and_list_tests(fit, starts, ends, listed, lengths)
 }
 
@@ -125,7 +126,8 @@ pub fn remove_from_design(
     n: u32,
     starts: &[u32],
     ends: &[u32],
-    delays: &[i32],
+    early: &[i32],
+    late: &[i32],
     listed: &[u32],
     lengths: &[u32],
     room_nodes: &mut [u32],
@@ -135,7 +137,7 @@ pub fn remove_from_design(
     scratch: &mut [u32],
 ) -> GraphMade
     ensures { λ r.
-        let D = design n (now (starts .entry)) (now (ends .entry)) (now (delays .entry)) in
+        let D = design n (now (starts .entry)) (now (ends .entry)) (now (early .entry)) (now (late .entry)) in
         let lent = lentRemoval (now (listed .entry)) (now (lengths .entry)) (now («room_nodes» .entry))
         (now («room_from» .entry)) (now («room_to» .entry)) (now («room_via» .entry)) (now (scratch .entry)) in
         let o = removeFromDesign D lent in
@@ -147,7 +149,7 @@ pub fn remove_from_design(
         × (now (scratch .exit) ≡ scratchAfter o (now (scratch .entry))) ⌝ }
 {
     let room = same_sizes(room_from.len(), room_to.len(), room_via.len());
-    let verdict = list_tests(n, starts, ends, delays, listed, lengths, room);
+    let verdict = list_tests(n, starts, ends, early, late, listed, lengths, room);
     if let Verdict::Refused(r) = verdict {
         return GraphMade::Refused(r);
     }
@@ -170,7 +172,8 @@ fn graph_tests(
     n: u32,
     starts: &[u32],
     ends: &[u32],
-    delays: &[i32],
+    early: &[i32],
+    late: &[i32],
     listed: &[u32],
     lengths: &[u32],
     nodes: &[u32],
@@ -180,7 +183,7 @@ fn graph_tests(
     room: Verdict,
 ) -> Verdict
     ensures { λ r.
-        let D = design n (now (starts .entry)) (now (ends .entry)) (now (delays .entry)) in
+        let D = design n (now (starts .entry)) (now (ends .entry)) (now (early .entry)) (now (late .entry)) in
         let L = pathList (now (listed .entry)) (now (lengths .entry)) in
         let S = graphSlices (now (nodes .entry)) (now (from .entry)) (now (to .entry)) (now (via .entry)) in
         ⌜ r ≡ (designSizes D then listSizes L then graphSizes S then room
@@ -188,7 +191,7 @@ fn graph_tests(
 {
     let earlier = same_sizes(from.len(), to.len(), via.len());
     let others = then(earlier, room);
-    let fit = list_tests(n, starts, ends, delays, listed, lengths, others);
+    let fit = list_tests(n, starts, ends, early, late, listed, lengths, others);
     and_graph_test(fit, n, starts, ends, nodes, from, to, via)
 }
 
@@ -197,7 +200,8 @@ pub fn remove_from_graph(
     n: u32,
     starts: &[u32],
     ends: &[u32],
-    delays: &[i32],
+    early: &[i32],
+    late: &[i32],
     listed: &[u32],
     lengths: &[u32],
     nodes: &[u32],
@@ -211,7 +215,7 @@ pub fn remove_from_graph(
     scratch: &mut [u32],
 ) -> GraphMade
     ensures { λ r.
-        let D = design n (now (starts .entry)) (now (ends .entry)) (now (delays .entry)) in
+        let D = design n (now (starts .entry)) (now (ends .entry)) (now (early .entry)) (now (late .entry)) in
         let S = graphSlices (now (nodes .entry)) (now (from .entry)) (now (to .entry)) (now (via .entry)) in
         let lent = lentRemoval (now (listed .entry)) (now (lengths .entry)) (now («room_nodes» .entry))
         (now («room_from» .entry)) (now («room_to» .entry)) (now («room_via» .entry)) (now (scratch .entry)) in
@@ -228,7 +232,8 @@ pub fn remove_from_graph(
         n,
         starts,
         ends,
-        delays,
+        early,
+        late,
         listed,
         lengths,
         nodes,

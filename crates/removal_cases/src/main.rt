@@ -4,19 +4,16 @@ mod output;
 mod remove;
 mod tables;
 
-use cases::unpack;
 use entries::front_delays;
 use libc::STDIN_FILENO;
 use packed_lists::take_number;
 use remove::lend;
-use tables::CODES;
 use tables::Design;
 use tables::Held;
 use tables::Step;
 use tables::WORDS;
 use tables::hold_given;
 use tables::nothing;
-use tables::part;
 use tables::read_design;
 use tables::read_list;
 use tables::read_sizes;
@@ -36,12 +33,19 @@ fn hold(choice: u32, s: &[u8], at: usize, held: Held, words: &mut [u32]) -> Step
 }
 
 // Runs the removal at a place.
-fn run_removal(s: &[u8], before: Step, d: Design, delays: &[i32], words: &mut [u32]) -> Step {
+fn run_removal(
+    s: &[u8],
+    before: Step,
+    d: Design,
+    early: &[i32],
+    late: &[i32],
+    words: &mut [u32],
+) -> Step {
     let choice = take_number(s, before.next);
     let start = hold(choice.value, s, choice.next, before.held, words);
     let l = read_list(s, start.next, words);
     let sizes = read_sizes(s, l.next);
-    let held = lend(words, d, delays, l, start.held, sizes);
+    let held = lend(words, d, early, late, l, start.held, sizes);
     Step {
         held,
         next: sizes.next,
@@ -49,7 +53,7 @@ fn run_removal(s: &[u8], before: Step, d: Design, delays: &[i32], words: &mut [u
 }
 
 // Runs the removals of a series, and answers the place behind them.
-fn run_removals(s: &[u8], d: Design, delays: &[i32], words: &mut [u32]) -> usize {
+fn run_removals(s: &[u8], d: Design, early: &[i32], late: &[i32], words: &mut [u32]) -> usize {
     let count = take_number(s, d.next);
     let mut step = Step {
         held: nothing(),
@@ -57,7 +61,7 @@ fn run_removals(s: &[u8], d: Design, delays: &[i32], words: &mut [u32]) -> usize
     };
     let mut left = count.value;
     while 0 < left {
-        step = run_removal(s, step, d, delays, words);
+        step = run_removal(s, step, d, early, late, words);
         left -= 1;
     }
     step.next
@@ -66,10 +70,16 @@ fn run_removals(s: &[u8], d: Design, delays: &[i32], words: &mut [u32]) -> usize
 // Runs the series at a place, and answers the place behind it.
 fn run_series(s: &[u8], at: usize) -> usize {
     let mut words = [0u32; WORDS];
-    let mut delays = [0i32; 16400];
-    let d = read_design(s, at, &mut words);
-    unpack(part(&words, CODES, d.codes), &mut delays);
-    run_removals(s, d, front_delays(&delays, d.codes), &mut words)
+    let mut early = [0i32; 16400];
+    let mut late = [0i32; 16400];
+    let d = read_design(s, at, &mut words, &mut early, &mut late);
+    run_removals(
+        s,
+        d,
+        front_delays(&early, d.early),
+        front_delays(&late, d.late),
+        &mut words,
+    )
 }
 
 // Runs the series of a block.

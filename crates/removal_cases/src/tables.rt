@@ -3,6 +3,7 @@
 // read into it.
 use cases::Slice;
 use cases::fill;
+use cases::unpack;
 use entries::least;
 use packed_lists::take_number;
 use timing::GraphMade;
@@ -13,7 +14,7 @@ pub(crate) const STARTS: usize = 0;
 
 pub(crate) const ENDS: usize = 16400;
 
-pub(crate) const CODES: usize = 32800;
+const CODES: usize = 32800;
 
 pub(crate) const LISTED: usize = 49200;
 
@@ -42,7 +43,8 @@ pub(crate) struct Design {
     pub n: u32,
     pub starts: usize,
     pub ends: usize,
-    pub codes: usize,
+    pub early: usize,
+    pub late: usize,
     pub next: usize,
 }
 
@@ -98,17 +100,32 @@ fn fill_part(s: &[u8], at: usize, words: &mut [u32], place: usize, room: usize) 
     Slice { len: 0, next: at }
 }
 
-pub(crate) fn read_design(s: &[u8], at: usize, words: &mut [u32]) -> Design {
+// Delays from their packed numbers.
+fn fill_delays(s: &[u8], at: usize, words: &mut [u32], delays: &mut [i32]) -> Slice {
+    let c = fill_part(s, at, words, CODES, EDGE_ROOM);
+    unpack(part(words, CODES, c.len), delays);
+    c
+}
+
+pub(crate) fn read_design(
+    s: &[u8],
+    at: usize,
+    words: &mut [u32],
+    early: &mut [i32],
+    late: &mut [i32],
+) -> Design {
     let n = take_number(s, at);
     let a = fill_part(s, n.next, words, STARTS, EDGE_ROOM);
     let b = fill_part(s, a.next, words, ENDS, EDGE_ROOM);
-    let c = fill_part(s, b.next, words, CODES, EDGE_ROOM);
+    let c = fill_delays(s, b.next, words, early);
+    let d = fill_delays(s, c.next, words, late);
     Design {
         n: n.value,
         starts: a.len,
         ends: b.len,
-        codes: c.len,
-        next: c.next,
+        early: c.len,
+        late: d.len,
+        next: d.next,
     }
 }
 

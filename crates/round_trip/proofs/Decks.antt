@@ -11,49 +11,56 @@ use borrow.Author.Tests.{le-leb, eq-eqb}
 use Rattle.timing.specs.declared.Verdict.{Verdict}
 use Rattle.timing.specs.declared.Verdict.the-variants.{Passed}
 use Rattle.timing.specs.Lists.{sum}
-use Rattle.timing.specs.Graphs.{design}
+use Rattle.timing.specs.Graphs.{Design, design}
 use Rattle.timing.specs.Marks.{PathList, pathList, cut}
 use Rattle.timing.specs.Delays.{packedDelay, delayOf}
 use Rattle.timing.specs.Refusals.{unless, _then_}
-use Rattle.timing.specs.Parsing.{Parsed, found, stopped, _>>=_, _>>_, return, tested, number, repeated, Row, row, ended}
-use Rattle.timing.specs.Decks.{Deck, Tables, edgeNumbers, pathNumbers, deckNumbers, packedDeck, paths, readDeck}
+use Rattle.timing.specs.Parsing.{Parsed, found, stopped, _>>=_, _>>_, return, tested, number, repeated, ended}
+use Rattle.timing.specs.Decks.{Deck, Tables, EdgeRow, edgeRow, designOf, edgeNumbers, pathNumbers, deckNumbers, packedDeck, paths, readDeck}
 use Rattle.timing.specs.declared.Verdict.the-variants.{Refused as NotPassed}
-use Rattle.timing.specs.Tests.{sameSizes}
+use Rattle.timing.specs.Tests.{edgeSizes}
 use Rattle.timing.specs.Calls.{made, parsed, guarded, deckRead}
 use Rattle.packed.proofs.Numbers.{Bytes}
 use Rattle.packed_delays.proofs.Delays.{delay-packed, packed-delay}
 use Rattle.deck_writer.specs.Writing.{Fit, bytesOf}
 use Rattle.deck_writer.proofs.Writing.{deck-parts, packed-deck}
 use Rattle.deck_reader.proofs.Reading.{Is, is-onward, TestIs, is-tested}
-use Rattle.round_trip.proofs.Numbers.{Small, small-append, There, number-there, numbers-there, Took, took-both, took-none, took-number, TookNumbers, took-numbers, TookRow, took-row, is-ended, whole}
+use Rattle.round_trip.proofs.Numbers.{Small, small-append, There, number-there, numbers-there, Took, took-both, took-none, took-number, TookNumbers, took-numbers, took-next, is-ended, whole}
 
 -- 1. Reading what was written.
-abbrev rowsOf : List ℕ → List ℕ → List ℤ → List Row
-rowsOf [] t d = []
-rowsOf (x ∷ s) [] d = []
-rowsOf (x ∷ s) (y ∷ t) [] = []
-rowsOf (x ∷ s) (y ∷ t) (z ∷ d) = record { first = x; second = y; third = packedDelay z } ∷ rowsOf s t d
+abbrev rowsOf : List ℕ → List ℕ → List ℤ → List ℤ → List EdgeRow
+rowsOf [] t d l = []
+rowsOf (x ∷ s) [] d l = []
+rowsOf (x ∷ s) (y ∷ t) [] l = []
+rowsOf (x ∷ s) (y ∷ t) (z ∷ d) [] = []
+rowsOf (x ∷ s) (y ∷ t) (z ∷ d) (w ∷ l) = record { start = x; end = y; early = packedDelay z; late = packedDelay w } ∷ rowsOf s t d l
 
-rows-there : (s : List ℕ) (at : ℕ) (a b : List ℕ) (d : List ℤ) (ys : List ℕ) → length b ≡ length a → length d ≡ length a → Small (edgeNumbers a b d)
-    → drop at s ≡ bytesOf (edgeNumbers a b d ++ ys) → There s (repeated (length a) (row s)) at (rowsOf a b d) ys
-rows-there s at [] b d ys f g h e = record { next = at; reads = refl; left = e }
-rows-there s at (x ∷ a) [] d ys f g h e = absurd (omega arith)
-rows-there s at (x ∷ a) (y ∷ b) [] ys f g h e = absurd (omega arith)
-rows-there s at (x ∷ a) (y ∷ b) (z ∷ d) ys f g h e =
-    let t = number-there s at x (y ∷ packedDelay z ∷ (edgeNumbers a b d ++ ys)) (h .0) e in
-    let u = number-there s (t .next) y (packedDelay z ∷ (edgeNumbers a b d ++ ys)) (h .1 .0) (t .left) in
-    let v = number-there s (u .next) (packedDelay z) (edgeNumbers a b d ++ ys) (h .1 .1 .0) (u .left) in
-    let w = rows-there s (v .next) a b d ys (omega arith) (omega arith) (h .1 .1 .1) (v .left) in
-    record { next = w .next; reads = rw (t .reads, u .reads, v .reads, w .reads); left = w .left }
+rows-there : (s : List ℕ) (at : ℕ) (a b : List ℕ) (d l : List ℤ) (ys : List ℕ) → length b ≡ length a → length d ≡ length a → length l ≡ length a → Small (edgeNumbers a b d l)
+    → drop at s ≡ bytesOf (edgeNumbers a b d l ++ ys) → There s (repeated (length a) (edgeRow s)) at (rowsOf a b d l) ys
+rows-there s at [] b d l ys f g h i e = record { next = at; reads = refl; left = e }
+rows-there s at (x ∷ a) [] d l ys f g h i e = absurd (omega arith)
+rows-there s at (x ∷ a) (y ∷ b) [] l ys f g h i e = absurd (omega arith)
+rows-there s at (x ∷ a) (y ∷ b) (z ∷ d) [] ys f g h i e = absurd (omega arith)
+rows-there s at (x ∷ a) (y ∷ b) (z ∷ d) (w ∷ l) ys f g h i e =
+    let rest = edgeNumbers a b d l ++ ys in
+    let p = number-there s at x (y ∷ packedDelay z ∷ packedDelay w ∷ rest) (i .0) e in
+    let q = number-there s (p .next) y (packedDelay z ∷ packedDelay w ∷ rest) (i .1 .0) (p .left) in
+    let u = number-there s (q .next) (packedDelay z) (packedDelay w ∷ rest) (i .1 .1 .0) (q .left) in
+    let v = number-there s (u .next) (packedDelay w) rest (i .1 .1 .1 .0) (u .left) in
+    let t = rows-there s (v .next) a b d l ys (omega arith) (omega arith) (omega arith) (i .1 .1 .1 .1) (v .left) in
+    record { next = t .next; reads = rw (p .reads, q .reads, u .reads, v .reads, t .reads); left = t .left }
 
-rows-parts : (a b : List ℕ) (d : List ℤ) → length b ≡ length a → length d ≡ length a
-    → (map (λ r. r .first) (rowsOf a b d) ≡ a) × (map (λ r. r .second) (rowsOf a b d) ≡ b) × (map (λ r. delayOf (r .third)) (rowsOf a b d) ≡ d)
-rows-parts [] [] [] f g = (refl, refl, refl)
-rows-parts [] (y ∷ b) d f g = absurd (omega arith)
-rows-parts [] [] (z ∷ d) f g = absurd (omega arith)
-rows-parts (x ∷ a) [] d f g = absurd (omega arith)
-rows-parts (x ∷ a) (y ∷ b) [] f g = absurd (omega arith)
-rows-parts (x ∷ a) (y ∷ b) (z ∷ d) f g = let p = rows-parts a b d (omega arith) (omega arith) in (rw (p .0), rw (p .1), rw (delay-packed z, p .2))
+rows-design : (n : ℕ) (a b : List ℕ) (d l : List ℤ) → length b ≡ length a → length d ≡ length a → length l ≡ length a → designOf n (rowsOf a b d l) ≡ design n a b d l
+rows-design n [] [] [] [] f g h = refl
+rows-design n [] (y ∷ b) d l f g h = absurd (omega arith)
+rows-design n [] [] (z ∷ d) l f g h = absurd (omega arith)
+rows-design n [] [] [] (w ∷ l) f g h = absurd (omega arith)
+rows-design n (x ∷ a) [] d l f g h = absurd (omega arith)
+rows-design n (x ∷ a) (y ∷ b) [] l f g h = absurd (omega arith)
+rows-design n (x ∷ a) (y ∷ b) (z ∷ d) [] f g h = absurd (omega arith)
+rows-design n (x ∷ a) (y ∷ b) (z ∷ d) (w ∷ l) f g h =
+    let e = rows-design n a b d l (omega arith) (omega arith) (omega arith) in
+    rw (delay-packed z, delay-packed w) (ap (λ (D : Design). design n (x ∷ D .starts) (y ∷ D .ends) (z ∷ D .early) (w ∷ D .late)) e)
 
 paths-there : (s : List ℕ) (at table before : ℕ) (edges lengths ys : List ℕ) → sum lengths ≡ length edges → before + length edges ≤ 8192 → before + length edges ≤ table
     → Small (flatMap pathNumbers (cut edges lengths)) → drop at s ≡ bytesOf (flatMap pathNumbers (cut edges lengths) ++ ys)
@@ -82,7 +89,7 @@ deck-there : (d : Deck) (tables : Tables) (s : List ℕ) → s ≡ bytesOf (deck
 unfolding readDeck bytesOf flatMap
 deck-there d tables s e f h te tp tl =
     let D = d .design in
-    let es = edgeNumbers (D .starts) (D .ends) (D .delays) in
+    let es = edgeNumbers (D .starts) (D .ends) (D .early) (D .late) in
     let ps = flatMap pathNumbers (cut (d .list .edges) (d .list .lengths)) in
     let q : deckNumbers d ≡ D .nodes ∷ length (D .starts) ∷ (es ++ (length (d .list .lengths) ∷ (ps ++ (d .allowed ∷ [])))) =
     deck-parts d ∙ ap (λ (l : List ℕ). D .nodes ∷ length (D .starts) ∷ l) (append-assoc es (length (d .list .lengths) ∷ ps) (d .allowed ∷ [])) in
@@ -91,12 +98,11 @@ deck-there d tables s e f h te tp tl =
     let gp = small-append ps (d .allowed ∷ []) (ge .1 .1) in
     let a = number-there s 0 (D .nodes) (length (D .starts) ∷ (es ++ (length (d .list .lengths) ∷ (ps ++ (d .allowed ∷ []))))) (g .0) (e ∙ ap bytesOf q) in
     let b = number-there s (a .next) (length (D .starts)) (es ++ (length (d .list .lengths) ∷ (ps ++ (d .allowed ∷ [])))) (g .1 .0) (a .left) in
-    let c = rows-there s (b .next) (D .starts) (D .ends) (D .delays) (length (d .list .lengths) ∷ (ps ++ (d .allowed ∷ []))) (f .ends) (f .delays) (ge .0) (b .left) in
+    let c = rows-there s (b .next) (D .starts) (D .ends) (D .early) (D .late) (length (d .list .lengths) ∷ (ps ++ (d .allowed ∷ []))) (f .ends) (f .early) (f .late) (ge .0) (b .left) in
     let k = number-there s (c .next) (length (d .list .lengths)) (ps ++ (d .allowed ∷ [])) (ge .1 .0) (c .left) in
     let l = paths-there s (k .next) (tables .listed) 0 (d .list .edges) (d .list .lengths) (d .allowed ∷ []) (f .adds) (omega (arith, f .listed)) (omega arith) (gp .0) (k .left) in
     let t = number-there s (l .next) (d .allowed) [] (gp .1 .0) (l .left) in
     let n : length s ≤ t .next = omega (arith, length-drop (t .next) s, ap length (t .left)) in
-    let r = rows-parts (D .starts) (D .ends) (D .delays) (f .ends) (f .delays) in
     rw (
       a .reads,
       le-leb (D .nodes) 4096 (f .nodes),
@@ -110,33 +116,41 @@ deck-there d tables s e f h te tp tl =
       l .reads,
       t .reads,
       le-leb (length s) (t .next) n,
-      r .0,
-      r .1,
-      r .2,
+      rows-design (D .nodes) (D .starts) (D .ends) (D .early) (D .late) (f .ends) (f .early) (f .late),
     )
 
 -- Reading a deck's packed form gives the deck, for every deck whose counts are within the limits and the tables and whose
 -- numbers fit 32 bits.
 pub read-written : (d : Deck) (edges listed paths : ℕ) → Fit d → Small (deckNumbers d)
-    → length (d .design .starts) ≤ edges → length (d .list .edges) ≤ listed → length (d .list .lengths) ≤ paths → deckRead (packedDeck d) edges edges edges listed paths ≡ made d
+    → length (d .design .starts) ≤ edges → length (d .list .edges) ≤ listed → length (d .list .lengths) ≤ paths → deckRead (packedDeck d) edges edges edges edges listed paths ≡ made d
 unfolding deckRead
 read-written d edges listed paths f h te tl tp =
     rw (eq-eqb edges edges refl) (deck-there d (record { edges = edges; listed = listed; paths = paths }) (packedDeck d) (packed-deck d) f h te tp tl)
 
 -- 2. Writing what was read.
 module _ (s : List ℕ) (bytes : Bytes s) where
-  abbrev rowNumbers : List Row → List ℕ
-  rowNumbers rs = edgeNumbers (map (λ r. r .first) rs) (map (λ r. r .second) rs) (map (λ r. delayOf (r .third)) rs)
+  abbrev TookRow : ℕ → EdgeRow → ℕ → Type 0
+  TookRow at r next = Took s at (r .start ∷ r .end ∷ r .early ∷ r .late ∷ []) next
 
-  abbrev TookRows : ℕ → ℕ → List Row → ℕ → Type 0
+  took-row : (at : ℕ) → Is (TookRow at) (edgeRow s at)
+  took-row at =
+      took-next s bytes (TookRow at) at at [] _ (took-none s at)
+      (λ a p f. took-next s bytes (TookRow at) at p (a ∷ []) _ f
+      (λ b q g. took-next s bytes (TookRow at) at q (a ∷ b ∷ []) _ g
+      (λ c n h. took-next s bytes (TookRow at) at n (a ∷ b ∷ c ∷ []) _ h (λ d o e. e))))
+
+  abbrev rowNumbers : List EdgeRow → List ℕ
+  rowNumbers rs = edgeNumbers (map (λ r. r .start) rs) (map (λ r. r .end) rs) (map (λ r. delayOf (r .early)) rs) (map (λ r. delayOf (r .late)) rs)
+
+  abbrev TookRows : ℕ → ℕ → List EdgeRow → ℕ → Type 0
   TookRows k at rs next = Took s at (rowNumbers rs) next × (length rs ≡ k)
 
-  took-rows : (k at : ℕ) → Is (TookRows k at) (repeated k (row s) at)
+  took-rows : (k at : ℕ) → Is (TookRows k at) (repeated k (edgeRow s) at)
   took-rows zero at = (took-none s at, refl)
   took-rows (suc k) at =
-      is-onward (TookRow s bytes at) (TookRows (suc k) at) (row s at) (λ r. repeated k (row s) >>= (λ rs. return (r ∷ rs))) (took-row s bytes at)
-      (λ r a f. is-onward (TookRows k a) (TookRows (suc k) at) (repeated k (row s) a) (λ rs. return (r ∷ rs)) (took-rows k a)
-      (λ rs b g. (rw (packed-delay (r .third)) (took-both s at a b (r .first ∷ r .second ∷ r .third ∷ []) (rowNumbers rs) f (g .0)), ap suc (g .1))))
+      is-onward (TookRow at) (TookRows (suc k) at) (edgeRow s at) (λ r. repeated k (edgeRow s) >>= (λ rs. return (r ∷ rs))) (took-row at)
+      (λ r a f. is-onward (TookRows k a) (TookRows (suc k) at) (repeated k (edgeRow s) a) (λ rs. return (r ∷ rs)) (took-rows k a)
+      (λ rs b g. (rw (packed-delay (r .early), packed-delay (r .late)) (took-both s at a b (r .start ∷ r .end ∷ r .early ∷ r .late ∷ []) (rowNumbers rs) f (g .0)), ap suc (g .1))))
 
   -- a path of n edges in front of the others
   path-numbers : (n : ℕ) (p : List ℕ) (edges lengths : List ℕ) → length p ≡ n → flatMap pathNumbers (cut (p ++ edges) (n ∷ lengths)) ≡ (n ∷ p) ++ flatMap pathNumbers (cut edges lengths)
@@ -166,16 +180,12 @@ module _ (s : List ℕ) (bytes : Bytes s) where
       )))))
 
   -- the parts of a deck, put together
-  took-parts : (n m count e : ℕ) (rows : List Row) (list : PathList) (a b c p t f : ℕ) → Took s 0 (n ∷ []) a → Took s a (m ∷ []) b → TookRows m b rows c → Took s c (count ∷ []) p
+  took-parts : (n m count e : ℕ) (rows : List EdgeRow) (list : PathList) (a b c p t f : ℕ) → Took s 0 (n ∷ []) a → Took s a (m ∷ []) b → TookRows m b rows c → Took s c (count ∷ []) p
       → TookPaths count p list t → Took s t (e ∷ []) f → length s ≤ f
-      → packedDeck (record {
-        design = design n (map (λ r. r .first) rows) (map (λ r. r .second) rows) (map (λ r. delayOf (r .third)) rows);
-        list = list;
-        allowed = e;
-      }) ≡ s
+      → packedDeck (record { design = designOf n rows; list = list; allowed = e }) ≡ s
   took-parts n m count e rows list a b c p t f hn hm hr hc hp ht he =
-      let d : Deck = record { design = design n (map (λ r. r .first) rows) (map (λ r. r .second) rows) (map (λ r. delayOf (r .third)) rows); list = list; allowed = e } in
-      let k : length (map (λ (r : Row). r .first) rows) ≡ m = length-map rows (λ (r : Row). r .first) ∙ hr .1 in
+      let d : Deck = record { design = designOf n rows; list = list; allowed = e } in
+      let k : length (map (λ (r : EdgeRow). r .start) rows) ≡ m = length-map rows (λ (r : EdgeRow). r .start) ∙ hr .1 in
       let ps = flatMap pathNumbers (cut (list .edges) (list .lengths)) in
       packed-deck d ∙ ap bytesOf (deck-parts d)
       ∙ rw (k, hp .1)
@@ -195,7 +205,7 @@ module _ (s : List ℕ) (bytes : Bytes s) where
       (λ u a' ta. is-onward (λ x next. Took s a' (x ∷ []) next) Q (number s a') _ (took-number s bytes a')
       (λ m b hm. is-onward (TestIs (unless 11 (leb m 16384) then unless 36 (leb m (tables .edges))) b) Q (tested (unless 11 (leb m 16384) then unless 36 (leb m (tables .edges))) b) _
       (is-tested (unless 11 (leb m 16384) then unless 36 (leb m (tables .edges))) b)
-      (λ u' b' tb. is-onward (TookRows m b') Q (repeated m (row s) b') _ (took-rows m b')
+      (λ u' b' tb. is-onward (TookRows m b') Q (repeated m (edgeRow s) b') _ (took-rows m b')
       (λ rows c hr. is-onward (λ x next. Took s c (x ∷ []) next) Q (number s c) _ (took-number s bytes c)
       (λ count p hc. is-onward (TestIs (unless 20 (leb count 1024) then unless 36 (leb count (tables .paths))) p) Q (tested (unless 20 (leb count 1024) then unless 36 (leb count (tables .paths))) p) _
       (is-tested (unless 20 (leb count 1024) then unless 36 (leb count (tables .paths))) p)
@@ -205,9 +215,9 @@ module _ (s : List ℕ) (bytes : Bytes s) where
       (λ v z he. took-parts n m count e rows list a' b' c p' t f (rw (ta .1) hn) (rw (tb .1) hm) hr (rw (tp .1) hc) hp ht he))))))))))
 
 -- Packing a deck that was read gives the bytes that were read, all of them.
-pub written-read : (s : List ℕ) (starts ends delays listed lengths : ℕ) (d : Deck) → Bytes s → deckRead s starts ends delays listed lengths ≡ made d → packedDeck d ≡ s
+pub written-read : (s : List ℕ) (starts ends early late listed lengths : ℕ) (d : Deck) → Bytes s → deckRead s starts ends early late listed lengths ≡ made d → packedDeck d ≡ s
 unfolding deckRead
-written-read s starts ends delays listed lengths d bytes e = by (sameSizes starts ends delays) e
+written-read s starts ends early late listed lengths d bytes e = by (edgeSizes starts ends early late) e
   where
     two : (p : Parsed Deck) → Is (λ d next. packedDeck d ≡ s) p → parsed p ≡ made d → packedDeck d ≡ s
     two (found x at) h q = let g : x ≡ d = cc in rw (← g) h

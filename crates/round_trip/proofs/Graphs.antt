@@ -24,7 +24,7 @@ use Rattle.deck_writer.specs.Writing.{bytesOf}
 use Rattle.deck_reader.proofs.Reading.{Is, is-onward, TestIs, is-tested}
 use Rattle.graph_reader.proofs.Looking.{edgeOfRow}
 use Rattle.graph_writer.proofs.Writing.{Fits, tests-are, tests-fit}
-use Rattle.round_trip.proofs.Numbers.{Small, small-append, There, number-there, numbers-there, Took, took-both, took-none, took-number, TookNumbers, took-numbers, TookRow, took-row, is-ended, whole, front-left, left-front}
+use Rattle.round_trip.proofs.Numbers.{Small, small-append, There, number-there, numbers-there, Took, took-both, took-none, took-number, TookNumbers, took-numbers, took-next, is-ended, whole, front-left, left-front}
 
 abbrev rowNumbers : List Edge → List ℕ
 rowNumbers es = flatMap (λ e. e .start ∷ e .end ∷ e .name ∷ []) es
@@ -125,6 +125,15 @@ read-written S room n R sn ss se sm z hn he w =
 
 -- 2. Writing what was read.
 module _ (s : List ℕ) (bytes : Bytes s) where
+  abbrev TookRow : ℕ → Row → ℕ → Type 0
+  TookRow at r next = Took s at (r .first ∷ r .second ∷ r .third ∷ []) next
+
+  took-row : (at : ℕ) → Is (TookRow at) (row s at)
+  took-row at =
+      took-next s bytes (TookRow at) at at [] _ (took-none s at)
+      (λ a p f. took-next s bytes (TookRow at) at p (a ∷ []) _ f
+      (λ b q g. took-next s bytes (TookRow at) at q (a ∷ b ∷ []) _ g (λ c n h. h)))
+
   abbrev TookRows : ℕ → ℕ → List Row → ℕ → Type 0
   TookRows k at rs next = Took s at (rowNumbers (map edgeOfRow rs)) next × (length rs ≡ k)
 
@@ -132,7 +141,7 @@ module _ (s : List ℕ) (bytes : Bytes s) where
   unfolding flatMap
   took-rows zero at = (took-none s at, refl)
   took-rows (suc k) at =
-      is-onward (TookRow s bytes at) (TookRows (suc k) at) (row s at) (λ r. repeated k (row s) >>= (λ rs. return (r ∷ rs))) (took-row s bytes at)
+      is-onward (TookRow at) (TookRows (suc k) at) (row s at) (λ r. repeated k (row s) >>= (λ rs. return (r ∷ rs))) (took-row at)
       (λ r a f. is-onward (TookRows k a) (TookRows (suc k) at) (repeated k (row s) a) (λ rs. return (r ∷ rs)) (took-rows k a)
       (λ rs b g. (took-both s at a b (r .first ∷ r .second ∷ r .third ∷ []) (rowNumbers (map edgeOfRow rs)) f (g .0), ap suc (g .1))))
 

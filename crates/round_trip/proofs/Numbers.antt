@@ -18,7 +18,7 @@ use Rattle.timing.specs.declared.Written.the-variants.{End}
 use Rattle.timing.specs.declared.Written.the-variants.{Refused as NotWritten}
 use Rattle.timing.specs.Numbers.{packed, groupsIn, numberAnswer, readNumber, writeAnswer, writtenRoom}
 use Rattle.timing.specs.Refusals.{refusal}
-use Rattle.timing.specs.Parsing.{found, stopped, Reader, _>>=_, return, parsedNumber, number, repeated, Row, row, ended}
+use Rattle.timing.specs.Parsing.{found, stopped, Reader, onward, _>>=_, return, parsedNumber, number, repeated, ended}
 use Rattle.timing.specs.Calls.{writing, roomAfterWriting}
 use Rattle.packed.proofs.Numbers.{cap-32, Bytes, bytes-drop, read-packed, Back, packed-read}
 use Rattle.deck_writer.specs.Writing.{bytesOf}
@@ -89,15 +89,9 @@ module _ (s : List ℕ) (bytes : Bytes s) where
       (λ x a f. is-onward (TookNumbers k a) (TookNumbers (suc k) at) (repeated k (number s) a) (λ xs. return (x ∷ xs)) (took-numbers k a)
       (λ xs b g. (took-both s at a b (x ∷ []) xs f (g .0), ap suc (g .1))))
 
-  abbrev pub TookRow : ℕ → Row → ℕ → Type 0
-  TookRow at r next = Took s at (r .first ∷ r .second ∷ r .third ∷ []) next
-
-  pub took-row : (at : ℕ) → Is (TookRow at) (row s at)
-  took-row at =
-      is-onward (λ x next. Took s at (x ∷ []) next) (TookRow at) (number s at) (λ a. number s >>= (λ b. number s >>= (λ c. return (record { first = a; second = b; third = c })))) (took-number at)
-      (λ a p f. is-onward (λ x next. Took s p (x ∷ []) next) (TookRow at) (number s p) (λ b. number s >>= (λ c. return (record { first = a; second = b; third = c }))) (took-number p)
-      (λ b q g. is-onward (λ x next. Took s q (x ∷ []) next) (TookRow at) (number s q) (λ c. return (record { first = a; second = b; third = c })) (took-number q)
-      (λ c n h. took-both s at p n (a ∷ []) (b ∷ c ∷ []) f (took-both s p q n (b ∷ []) (c ∷ []) g h))))
+  -- one number more, behind the numbers xs
+  pub took-next : {A : Type 0} (Q : A → ℕ → Type 0) (from at : ℕ) (xs : List ℕ) (f : ℕ → Reader A) → Took s from xs at → ((x a : ℕ) → Took s from (xs ++ (x ∷ [])) a → Is Q (f x a)) → Is Q (onward (number s at) f)
+  took-next Q from at xs f h k = is-onward (λ x next. Took s at (x ∷ []) next) Q (number s at) f (took-number at) (λ x a g. k x a (took-both s from at a xs (x ∷ []) h g))
 
   pub is-ended : (at : ℕ) → Is (λ u next. length s ≤ at) (ended s at)
   is-ended at = by (leb (length s) at) refl

@@ -7,7 +7,7 @@ ghost use Rattle.timing.specs.Refusals.{_then_};
 ghost use Rattle.timing.specs.Refusals.{unless as passedIf};
 ghost use Rattle.timing.specs.Graphs.{design};
 ghost use Rattle.timing.specs.Marks.{pathList};
-ghost use Rattle.timing.specs.Tests.{sameSizes, designSizes, listSizes, wordsTest};
+ghost use Rattle.timing.specs.Tests.{edgeSizes, designSizes, timeSizes, listSizes, wordsTest};
 use entries::least;
 use timing::MAX_COPIES;
 use timing::MAX_COPY_EDGES;
@@ -17,21 +17,37 @@ use verdicts::same_sizes;
 use verdicts::then;
 use verdicts::unless;
 
-// 30 for the three slices of a design.
-pub fn design_sizes(starts: &[u32], ends: &[u32], delays: &[i32]) -> Verdict
-    ensures { λ r.
-        ⌜ ((n : ℕ)
-        → r ≡ designSizes (design n (now (starts .entry)) (now (ends .entry)) (now (delays .entry)))) ⌝ }
+// 30 for four slices of edges, from their lengths: those of a design, and the tables that the deck reader is lent.
+pub fn edge_sizes(starts: usize, ends: usize, early: usize, late: usize) -> Verdict
+    ensures { λ r. ⌜ r ≡ edgeSizes starts ends early late ⌝ }
 {
-    same_sizes(starts.len(), ends.len(), delays.len())
+    let joined = same_sizes(starts, starts, ends);
+    let delays = same_sizes(starts, early, late);
+    then(joined, delays)
 }
 
-// 30 for the slices that hold what is known of each copy.
-pub fn copy_sizes(copies: usize, arrivals: usize, requireds: usize, slacks: usize) -> Verdict
-    ensures { λ r. ⌜ r ≡ (sameSizes copies arrivals requireds then sameSizes copies copies slacks) ⌝ }
+// 30 for the four slices of a design.
+pub fn design_sizes(starts: &[u32], ends: &[u32], early: &[i32], late: &[i32]) -> Verdict
+    ensures { λ r.
+        ⌜ ((n : ℕ)
+        → r ≡ designSizes (design n
+        (now (starts .entry)) (now (ends .entry)) (now (early .entry)) (now (late .entry)))) ⌝ }
 {
-    let sizes = same_sizes(copies, arrivals, requireds);
-    let more = same_sizes(copies, copies, slacks);
+    edge_sizes(starts.len(), ends.len(), early.len(), late.len())
+}
+
+// 30 for four slices of times, with one place for each of some copies or nodes.
+pub fn time_sizes(
+    places: usize,
+    arrivals: usize,
+    requireds: usize,
+    slacks: usize,
+    earliests: usize,
+) -> Verdict
+    ensures { λ r. ⌜ r ≡ timeSizes places arrivals requireds slacks earliests ⌝ }
+{
+    let sizes = same_sizes(places, arrivals, requireds);
+    let more = same_sizes(places, slacks, earliests);
     then(sizes, more)
 }
 

@@ -14,7 +14,7 @@ use Rattle.timing.specs.declared.NodeTimes.the-variants.{Times, None}
 use Rattle.timing.specs.Graphs.{Design, Edge, Graph, designGraph, nodeOf, Run, completeRuns, names, delayAlong}
 use Rattle.timing.specs.Marks.{permitted, mark}
 use Rattle.timing.specs.TrueGraphs.{Copy, copyAt, permittedRuns}
-use Rattle.timing.specs.Times.{arrivalAt, requiredAt, slackAt}
+use Rattle.timing.specs.Times.{arrivalAt, requiredAt, slackAt, earliestAt}
 use Rattle.timing.specs.Paths.{reached, CutAt, PassesAt, PassesNode, Shows, Best}
 use Rattle.timing.specs.Demands.{PathBest, PathTimes}
 use Rattle.theorems.proofs.Lists.{of-keep}
@@ -23,7 +23,7 @@ use Rattle.theorems.proofs.Copies.{Passes, passes-run}
 use Rattle.theorems.proofs.Stands.{Stands, passes-inside, lowered, names-lowered, way-down, way-up, leads-lift, start-up}
 use Rattle.theorems.proofs.Legal.{length-design, node-design}
 use Rattle.theorems.proofs.Extremes.{AtMost, AtLeast, best-moved, best-on, largest-of, smallest-of}
-use Rattle.theorems.proofs.Times.{To, Through, runs-to-some, runs-from-some, arrival-best, required-best, slack-best}
+use Rattle.theorems.proofs.Times.{To, Through, runs-to-some, runs-from-some, arrival-best, required-best, slack-best, earliest-best}
 use Rattle.theorems.proofs.Nodes.{CopyOf, At, mem-copies, nodeTimesAt, node-times, node-none}
 use Rattle.theorems.proofs.Demand2.{delay-names, cut-down}
 
@@ -71,24 +71,25 @@ module _ (G : Graph) (L : List (List ℕ)) (up : Rising G) where
       )
 
 -- the same paths, said in another way
-paths-on : {d : ℕ → ℤ} {t : ℤ} {P Q : List Edge → List Edge → Type 0} {x : NodeTimes} → ((p q : List Edge) → P p q ↔ Q p q)
-    → PathTimes d t P x → PathTimes d t Q x
-paths-on {d} {t} {P} {Q} e b =
+paths-on : {early late : ℕ → ℤ} {t : ℤ} {P Q : List Edge → List Edge → Type 0} {x : NodeTimes} → ((p q : List Edge) → P p q ↔ Q p q)
+    → PathTimes early late t P x → PathTimes early late t Q x
+paths-on {early} {late} {t} {P} {Q} e b =
     record {
       none = (λ h p q m. b .none .0 h p q (e p q .1 m), λ f. b .none .1 (λ p q m. f p q (e p q .0 m)));
-      some = λ p q m. let o = b .some p q (e p q .1 m) in (o .0, o .1, o .2, o .3, moved (o .0) (o .1) (o .2) (o .4));
+      some = λ p q m. let o = b .some p q (e p q .1 m) in (o .0, o .1, o .2, o .3, o .4, moved (o .5));
     }
   where
-    moved : (a r s : ℤ) → PathBest d t P a r s → PathBest d t Q a r s
-    moved a r s o =
+    moved : {a r s f : ℤ} → PathBest early late t P a r s f → PathBest early late t Q a r s f
+    moved o =
         record {
           arrival = best-on (λ x. e (x .0) (x .1)) (o .arrival);
           required = best-on (λ x. e (x .0) (x .1)) (o .required);
           slack = best-on (λ x. e (x .0) (x .1)) (o .slack);
+          earliest = best-on (λ x. e (x .0) (x .1)) (o .earliest);
         }
 
 abbrev HasTimes : NodeTimes → Type 0
-HasTimes (Times a r s) = Unit {0}
+HasTimes (Times a r s e) = Unit {0}
 HasTimes None = ⊥
 
 module _ (G H : Graph) (L : List (List ℕ)) (up : Rising G) (S : Stands G L H) where
@@ -158,43 +159,50 @@ module _ (G H : Graph) (L : List (List ℕ)) (up : Rising G) (S : Stands G L H) 
       (inside : (h : ℕ) → C h → h < length (H .nodes))
       (down : (h : ℕ) (p q : List Edge) → C h → To H h p → Way H h q → P (low p) (low q))
       (lift : (p q : List Edge) → P p q → (h : ℕ) × C h × Lifted h p q)
-      (d : ℕ → ℤ) (t : ℤ) where
-    paths-best : {a r s : ℤ} → Best AtMost (At C (To H)) (delayAlong d) a → Best AtLeast (At C (Way H)) (λ es. t -ℤ delayAlong d es) r
-        → Best AtLeast (At C (Through H)) (λ es. t -ℤ delayAlong d es) s → PathBest d t P a r s
-    paths-best a r s =
+      (early late : ℕ → ℤ) (t : ℤ) where
+    paths-best : {a r s e : ℤ} → Best AtMost (At C (To H)) (delayAlong late) a → Best AtLeast (At C (Way H)) (λ es. t -ℤ delayAlong late es) r
+        → Best AtLeast (At C (Through H)) (λ es. t -ℤ delayAlong late es) s → Best AtLeast (At C (To H)) (delayAlong early) e → PathBest early late t P a r s e
+    paths-best a r s e =
         record {
-          arrival =
-              best-moved (largest-of a)
-              (λ p (h, c, to). let w = some-way h (inside h c) in ((low p, low (w .0)), down h p (w .0) c to (w .1), low-delay d p (low p) refl))
-              (λ x m. let o = lift (x .0) (x .1) m in let l = o .2 in (l .head, (o .0, o .1, l .to), low-delay d (l .head) (x .0) (l .heads)));
+          arrival = heads late (largest-of a);
+          earliest = heads early (smallest-of e);
           required =
               best-moved (smallest-of r)
-              (λ q (h, c, w). let p = some-to h (inside h c) in ((low (p .0), low q), down h (p .0) q c (p .1) w, less (low-delay d q (low q) refl)))
-              (λ x m. let o = lift (x .0) (x .1) m in let l = o .2 in (l .rest, (o .0, o .1, l .way), less (low-delay d (l .rest) (x .1) (l .rests))));
+              (λ q (h, c, w). let p = some-to h (inside h c) in ((low (p .0), low q), down h (p .0) q c (p .1) w, less (low-delay late q (low q) refl)))
+              (λ x m. let o = lift (x .0) (x .1) m in let l = o .2 in (l .rest, (o .0, o .1, l .way), less (low-delay late (l .rest) (x .1) (l .rests))));
           slack =
               best-moved (smallest-of s)
               (λ es (h, c, (p, q, to, w, e)).
-              ((low p, low q), down h p q c to w, less (low-delay d es (low p ++ low q) (ap low e ∙ map-append (lowered G H L up S) p q))))
+              ((low p, low q), down h p q c to w, less (low-delay late es (low p ++ low q) (ap low e ∙ map-append (lowered G H L up S) p q))))
               (λ x m.
               let o = lift (x .0) (x .1) m in
               let l = o .2 in
               let e : low (l .head ++ l .rest) ≡ x .0 ++ x .1 = map-append (lowered G H L up S) (l .head) (l .rest) ∙ (λ i. l .heads i ++ l .rests i) in
-              (l .head ++ l .rest, (o .0, o .1, (l .head, l .rest, l .to, l .way, refl)), less (low-delay d (l .head ++ l .rest) (x .0 ++ x .1) e)));
+              (l .head ++ l .rest, (o .0, o .1, (l .head, l .rest, l .to, l .way, refl)), less (low-delay late (l .head ++ l .rest) (x .0 ++ x .1) e)));
         }
       where
+        -- the parts up to the cut, by any order
+        heads : (d : ℕ → ℤ) {le : ℤ → ℤ → Type 0} {m : ℤ} → Best le (At C (To H)) (delayAlong d) m
+            → Best {A = (p : List Edge) × List Edge} le (λ x. P (x .0) (x .1)) (λ x. delayAlong d (x .0)) m
+        heads d b =
+            best-moved b
+            (λ p (h, c, to). let w = some-way h (inside h c) in ((low p, low (w .0)), down h p (w .0) c to (w .1), low-delay d p (low p) refl))
+            (λ x m. let o = lift (x .0) (x .1) m in let l = o .2 in (l .head, (o .0, o .1, l .to), low-delay d (l .head) (x .0) (l .heads)))
+
         less : {x y : ℤ} → x ≡ y → t -ℤ x ≡ t -ℤ y
         less e = ap (λ (z : ℤ). t -ℤ z) e
 
   -- The times of a copy are those of the permitted complete paths of G that show what it stands for.
-  pub copy-times : (d : ℕ → ℤ) (t : ℤ) (h : ℕ) → h < length (H .nodes)
-      → PathBest d t (Shows G L (S .label h)) (arrivalAt d t H h) (requiredAt d t H h) (slackAt d t H h)
-  copy-times d t h k =
+  pub copy-times : (early late : ℕ → ℤ) (t : ℤ) (h : ℕ) → h < length (H .nodes)
+      → PathBest early late t (Shows G L (S .label h)) (arrivalAt late t H h) (requiredAt late t H h) (slackAt late t H h) (earliestAt early H h)
+  copy-times early late t h k =
       paths-best (λ i. i ≡ h) (Shows G L (S .label h)) (λ i e. subst (λ (x : ℕ). x < length (H .nodes)) (sym e) k)
       (λ i p q e to w. copy-down h p q k (subst (λ (x : ℕ). To H x p) e to) (subst (λ (x : ℕ). Way H x q) e w))
       (λ p q (m, e).
       let same : copyAt L (S .label h .at) q ≡ S .label h = λ i. record { at = S .label h .at; mark = e i } in
       (h, refl, subst (λ (x : ℕ). Lifted x p q) (ap (S .number) same ∙ S .every h k .1) (cut-up (S .label h .at) p q m .2)))
-      d t (only (To H) (arrival-best d t H (S .rising) h k)) (only (Way H) (required-best d t H (S .rising) h k)) (only (Through H) (slack-best d t H (S .rising) h k))
+      early late t (only (To H) (arrival-best late t H (S .rising) h k)) (only (Way H) (required-best late t H (S .rising) h k))
+      (only (Through H) (slack-best late t H (S .rising) h k)) (only (To H) (earliest-best early H (S .rising) h k))
     where
       only : {le : ℤ → ℤ → Type 0} {f : List Edge → ℤ} {m : ℤ} (R : ℕ → List Edge → Type 0) → Best le (R h) f m → Best le (At (λ i. i ≡ h) R) f m
       only R b = best-on (λ es. (λ r. (h, refl, r), λ (i, e, r). subst (λ (x : ℕ). R x es) e r)) b
@@ -209,15 +217,15 @@ module _ (G H : Graph) (L : List (List ℕ)) (up : Rising G) (S : Stands G L H) 
         let h = S .number (copyAt L c q) in
         (h, (o .0, S .every h (o .0) .2 ∙ ap (λ (x : Copy). nodeOf G (x .at)) (o .1) ∙ n), o .2)
 
-    module _ (d : ℕ → ℤ) (t : ℤ) where
+    module _ (early late : ℕ → ℤ) (t : ℤ) where
       -- where n is such that a path passes v only if v is below it
-      pub record-below : (n : ℕ) → ((p q : List Edge) → PassesNode G L v p q → v < n) → PathTimes d t (PassesNode G L v) (nodeTimesAt d t H n v)
+      pub record-below : (n : ℕ) → ((p q : List Edge) → PassesNode G L v p q → v < n) → PathTimes early late t (PassesNode G L v) (nodeTimesAt early late t H n v)
       record-below n below =
           record {
             none = (
-              λ e p q m. subst HasTimes (sym (some p q m .3) ∙ e) tt,
+              λ e p q m. subst HasTimes (sym (some p q m .4) ∙ e) tt,
               λ f.
-                  node-none d t H n v
+                  node-none early late t H n v
                   (inr (λ c.
                   let k = mem-copies H v (c .0) .0 (c .1) in
                   let p = some-to (c .0) (k .0) in
@@ -228,16 +236,17 @@ module _ (G H : Graph) (L : List (List ℕ)) (up : Rising G) (S : Stands G L H) 
           }
         where
           some : (p q : List Edge) → PassesNode G L v p q
-              → (a : ℤ) × (r : ℤ) × (s : ℤ) × (nodeTimesAt d t H n v ≡ Times a r s) × PathBest d t (PassesNode G L v) a r s
+              → (a : ℤ) × (r : ℤ) × (s : ℤ) × (e : ℤ) × (nodeTimesAt early late t H n v ≡ Times a r s e) × PathBest early late t (PassesNode G L v) a r s e
           some p q m =
               let o = node-up p q m in
-              let b = node-times d t H n v (S .rising) (below p q m) (o .0, mem-copies H v (o .0) .1 (o .1)) in
-              (b .0, b .1, b .2, b .3, paths-best (CopyOf H v) (PassesNode G L v) (λ h k. k .0) node-down node-up d t (b .4 .arrival) (b .4 .required) (b .4 .slack))
+              let b = node-times early late t H n v (S .rising) (below p q m) (o .0, mem-copies H v (o .0) .1 (o .1)) in
+              let best = b .5 in
+              (b .0, b .1, b .2, b .3, b .4, paths-best (CopyOf H v) (PassesNode G L v) (λ h k. k .0) node-down node-up early late t (best .arrival) (best .required) (best .slack) (best .earliest))
 
       -- T4: the record of a node below n is that of the permitted complete paths of G that pass a copy of the node: none
       -- exactly if there is no such path, and otherwise the largest delay up to the copy, the smallest of t less the
-      -- delay from it on, and the smallest of t less the whole delay.
-      pub node-record : (n : ℕ) → v < n → PathTimes d t (PassesNode G L v) (nodeTimesAt d t H n v)
+      -- delay from it on, the smallest of t less the whole delay, and the smallest early delay up to the copy.
+      pub node-record : (n : ℕ) → v < n → PathTimes early late t (PassesNode G L v) (nodeTimesAt early late t H n v)
       node-record n h = record-below n (λ p q m. h)
 
 -- a path that passes a copy passes one that is there
@@ -247,10 +256,10 @@ cut-inside {G} {L} {c} {p} {q} up m = passes-inside up (cut-passes G L up c p q 
 -- T4 at the design: the record of any node, in any true graph of the design and the list, is that of the permitted complete
 -- paths of the design that pass the node. (A number that is no node is passed by none.)
 pub design-record : (D : Design) (H : Graph) (L : List (List ℕ)) → Rising (designGraph D) → Stands (designGraph D) L H
-    → (v : ℕ) (d : ℕ → ℤ) (t : ℤ) → PathTimes d t (PassesAt D L v) (nodeTimesAt d t H (D .nodes) v)
-design-record D H L up S v d t =
+    → (v : ℕ) (early late : ℕ → ℤ) (t : ℤ) → PathTimes early late t (PassesAt D L v) (nodeTimesAt early late t H (D .nodes) v)
+design-record D H L up S v early late t =
     paths-on (λ p q. (here p q, λ m. (v, node-design D v (inside m), m)))
-    (record-below (designGraph D) H L up S v d t (D .nodes) (λ p q m. inside (here p q m)))
+    (record-below (designGraph D) H L up S v early late t (D .nodes) (λ p q m. inside (here p q m)))
   where
     inside : {c : ℕ} {p q : List Edge} → CutAt (designGraph D) L c p q → c < D .nodes
     inside m = omega (arith, cut-inside up m, length-design D)

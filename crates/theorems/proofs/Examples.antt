@@ -67,16 +67,16 @@ deckA-made = removed-demand2 deckA (part listA) graphA made-A
 abbrev six : List ℤ
 six = pos 0 ∷ pos 0 ∷ pos 0 ∷ pos 0 ∷ pos 0 ∷ pos 0 ∷ []
 
-tested-A : testTimes deckA (slicesOf graphA) 10 6 6 6 ≡ Passed
+tested-A : testTimes deckA (slicesOf graphA) 10 6 6 6 6 ≡ Passed
 unfolding flatMap designGraph edgesIn edgesOut runsFrom completeRuns permitted tails mark permittedRuns copies joins trueGraph wellFormed designTests testTimes
 tested-A = refl
 
-pub deckA-copy : TimesOfPaths deckA graphA 10 six six six 3 (Shows (designGraph deckA) (pathsOf listA) (record { at = 2; mark = 2 ∷ [] }))
+pub deckA-copy : TimesOfPaths deckA graphA 10 six six six six 3 (Shows (designGraph deckA) (pathsOf listA) (record { at = 2; mark = 2 ∷ [] }))
 unfolding flatMap designGraph edgesIn edgesOut runsFrom completeRuns permitted tails mark permittedRuns copies joins trueGraph
-deckA-copy = removed-copy-times deckA graphA 10 six six six tested-A (part listA) made-A 3 (omega arith)
+deckA-copy = removed-copy-times deckA graphA 10 six six six six tested-A (part listA) made-A 3 (omega arith)
 
-pub deckA-record : RecordOfPaths deckA graphA 10 six six six 2 (PassesAt deckA (pathsOf listA) 2)
-deckA-record = removed-record deckA graphA 10 six six six tested-A (part listA) made-A 2
+pub deckA-record : RecordOfPaths deckA graphA 10 six six six six 2 (PassesAt deckA (pathsOf listA) 2)
+deckA-record = removed-record deckA graphA 10 six six six six tested-A (part listA) made-A 2
 
 -- M6 by parts: no removal is refused, so that the graph held is that of the whole list
 abbrev m6 : List Removal

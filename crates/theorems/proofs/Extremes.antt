@@ -23,7 +23,7 @@ abbrev pub AtLeast : ℤ → ℤ → Type 0
 AtLeast x y = AtMost y x
 
 -- the order of the kit, in which the statements are
-order : (x y : ℤ) → AtMost x y → x ≤ℤ y
+pub order : (x y : ℤ) → AtMost x y → x ≤ℤ y
 order x y h = go (ltZ y x) refl
   where
     go : (b : Bool) → ltZ y x ≡ b → x ≤ℤ y

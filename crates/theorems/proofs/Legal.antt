@@ -1,4 +1,4 @@
--- What the theory asks of a graph of a design. The design as a graph has it, where document 01's tests 10 to 14 pass, and
+-- What the theory asks of a graph of a design. The design as a graph has it, where tests 10 to 15 pass, and
 -- so has every well-formed true graph (32).
 use Prim.Native.Nat.{ℕ, zero, suc, _+_, _≤_, _<_}
 use mathlib.Core.Path.{_≡_, refl, sym, ap, _∙_, subst}

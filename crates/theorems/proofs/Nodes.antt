@@ -13,12 +13,12 @@ use Rattle.timing.specs.declared.NodeTimes.{NodeTimes}
 use Rattle.timing.specs.declared.NodeTimes.the-variants.{Times, None}
 use Rattle.timing.specs.Lists.{isNil, keep, upto}
 use Rattle.timing.specs.Graphs.{Edge, Graph, nodeOf, delayAlong}
-use Rattle.timing.specs.Times.{largest, smallest, arrivalAt, requiredAt, slackAt, nodeTimes}
+use Rattle.timing.specs.Times.{largest, smallest, arrivalAt, requiredAt, slackAt, earliestAt, nodeTimes}
 use Rattle.timing.specs.Paths.{Best}
 use Rattle.theorems.proofs.Lists.{and-intro, and-left, and-right, mem-keep, of-keep, mem-upto, of-upto}
 use Rattle.theorems.proofs.Runs.{Rising, Way}
 use Rattle.theorems.proofs.Extremes.{AtMost, AtLeast, Some, not-nil, Picks, best-moved, best-nested, best-value, larges, smalls}
-use Rattle.theorems.proofs.Times.{To, Through, arrival-best, required-best, slack-best}
+use Rattle.theorems.proofs.Times.{To, Through, arrival-best, required-best, slack-best, earliest-best}
 
 -- what is held of each copy, read back
 pub at-copy : {A : Type 0} (z : A) (f : ℕ → A) (n i c : ℕ) → c < n → getD (map f (upto n i)) c z ≡ f (i + c)
@@ -57,11 +57,12 @@ node-best K G v P f m each s =
     (λ q w. let o = mem-copies G v (q .0) .0 (w .0) in (q .1, (q .0, o, w .1), refl))
     (λ es r. ((r .0, es), (mem-copies G v (r .0) .1 (r .1), r .2), refl))
 
--- the three times of a node's record, over runs
-pub record NodeBest (d : ℕ → ℤ) (t : ℤ) (G : Graph) (v : ℕ) (a r s : ℤ) : Type 0 where
-  pub arrival : Best AtMost (At (CopyOf G v) (To G)) (delayAlong d) a
-  pub required : Best AtLeast (At (CopyOf G v) (Way G)) (λ es. t -ℤ delayAlong d es) r
-  pub slack : Best AtLeast (At (CopyOf G v) (Through G)) (λ es. t -ℤ delayAlong d es) s
+-- the four times of a node's record, over runs
+pub record NodeBest (early late : ℕ → ℤ) (t : ℤ) (G : Graph) (v : ℕ) (a r s e : ℤ) : Type 0 where
+  pub arrival : Best AtMost (At (CopyOf G v) (To G)) (delayAlong late) a
+  pub required : Best AtLeast (At (CopyOf G v) (Way G)) (λ es. t -ℤ delayAlong late es) r
+  pub slack : Best AtLeast (At (CopyOf G v) (Through G)) (λ es. t -ℤ delayAlong late es) s
+  pub earliest : Best AtLeast (At (CopyOf G v) (To G)) (delayAlong early) e
 
 -- what a test decides
 taken : {A : Type 0} (b : Bool) (x y : A) → T b → cond b x y ≡ x
@@ -73,12 +74,13 @@ not-taken true x y p = absurd (p tt)
 not-taken false x y p = refl
 
 -- a node's times, from the slices that hold a time of each copy
-abbrev pub nodeTimesAt : (ℕ → ℤ) → ℤ → Graph → ℕ → ℕ → NodeTimes
-nodeTimesAt d t G n v =
-    nodeTimes n (G .nodes) (map (arrivalAt d t G) (upto (length (G .nodes)) 0)) (map (requiredAt d t G) (upto (length (G .nodes)) 0))
-    (map (slackAt d t G) (upto (length (G .nodes)) 0)) v
+abbrev pub nodeTimesAt : (ℕ → ℤ) → (ℕ → ℤ) → ℤ → Graph → ℕ → ℕ → NodeTimes
+nodeTimesAt early late t G n v =
+    let copies : List ℕ = upto (length (G .nodes)) 0 in
+    nodeTimes n (G .nodes) (map (arrivalAt late t G) copies) (map (requiredAt late t G) copies) (map (slackAt late t G) copies)
+    (map (earliestAt early G) copies) v
 
-module _ (d : ℕ → ℤ) (t : ℤ) (G : Graph) (n v : ℕ) where
+module _ (early late : ℕ → ℤ) (t : ℤ) (G : Graph) (n v : ℕ) where
   read-back : (f : ℕ → ℤ) → map (λ c. getD (map f (upto (length (G .nodes)) 0)) c (pos 0)) (copiesOf G v) ≡ map f (copiesOf G v)
   read-back f =
       map-on (λ c. getD (map f (upto (length (G .nodes)) 0)) c (pos 0)) f (copiesOf G v)
@@ -86,22 +88,24 @@ module _ (d : ℕ → ℤ) (t : ℤ) (G : Graph) (n v : ℕ) where
 
   -- a node below n that has copies
   pub node-times : Rising G → v < n → Some (copiesOf G v)
-      → (a : ℤ) × (r : ℤ) × (s : ℤ) × (nodeTimesAt d t G n v ≡ Times a r s) × NodeBest d t G v a r s
+      → (a : ℤ) × (r : ℤ) × (s : ℤ) × (e : ℤ) × (nodeTimesAt early late t G n v ≡ Times a r s e) × NodeBest early late t G v a r s e
   unfolding nodeTimes
   node-times R h s = (
-    largest (map (arrivalAt d t G) (copiesOf G v)),
-    smallest (map (requiredAt d t G) (copiesOf G v)),
-    smallest (map (slackAt d t G) (copiesOf G v)),
-    rw (read-back (arrivalAt d t G), read-back (requiredAt d t G), read-back (slackAt d t G)) (taken (ltb v n && not (isNil (copiesOf G v))) _ None (and-intro (ltb v n) (not (isNil (copiesOf G v))) (lt→ltb v n h) (not-nil (copiesOf G v) .1 s))),
+    largest (map (arrivalAt late t G) (copiesOf G v)),
+    smallest (map (requiredAt late t G) (copiesOf G v)),
+    smallest (map (slackAt late t G) (copiesOf G v)),
+    smallest (map (earliestAt early G) (copiesOf G v)),
+    rw (read-back (arrivalAt late t G), read-back (requiredAt late t G), read-back (slackAt late t G), read-back (earliestAt early G)) (taken (ltb v n && not (isNil (copiesOf G v))) _ None (and-intro (ltb v n) (not (isNil (copiesOf G v))) (lt→ltb v n h) (not-nil (copiesOf G v) .1 s))),
     record {
-      arrival = node-best larges G v (To G) (delayAlong d) (arrivalAt d t G) (arrival-best d t G R) s;
-      required = node-best smalls G v (Way G) (λ es. t -ℤ delayAlong d es) (requiredAt d t G) (required-best d t G R) s;
-      slack = node-best smalls G v (Through G) (λ es. t -ℤ delayAlong d es) (slackAt d t G) (slack-best d t G R) s;
+      arrival = node-best larges G v (To G) (delayAlong late) (arrivalAt late t G) (arrival-best late t G R) s;
+      required = node-best smalls G v (Way G) (λ es. t -ℤ delayAlong late es) (requiredAt late t G) (required-best late t G R) s;
+      slack = node-best smalls G v (Through G) (λ es. t -ℤ delayAlong late es) (slackAt late t G) (slack-best late t G R) s;
+      earliest = node-best smalls G v (To G) (delayAlong early) (earliestAt early G) (earliest-best early G R) s;
     },
   )
 
   -- any other node
-  pub node-none : (n ≤ v) ⊎ (Some (copiesOf G v) → ⊥) → nodeTimesAt d t G n v ≡ None
+  pub node-none : (n ≤ v) ⊎ (Some (copiesOf G v) → ⊥) → nodeTimesAt early late t G n v ≡ None
   unfolding nodeTimes
   node-none p =
       not-taken (ltb v n && not (isNil (copiesOf G v))) _ None

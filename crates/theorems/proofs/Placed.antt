@@ -67,6 +67,12 @@ module _ (n : ℕ) (low : 22 ≤ n) (high : n ≤ 24) where
   other-same : (a b c : ℕ) → Other n (sameSizes a b c)
   other-same a b c = other-unless n 30 (λ h. omega arith) (eqb a b && eqb a c)
 
+  other-sizes : (D : Design) → Other n (designSizes D)
+  other-sizes D =
+      let m = length (D .starts) in
+      other-then n (sameSizes m m (length (D .ends))) (sameSizes m (length (D .early)) (length (D .late)))
+      (other-same m m (length (D .ends))) (other-same m (length (D .early)) (length (D .late)))
+
   other-sums : (L : PathList) → Other n (listSizes L)
   other-sums L = other-unless n 30 (λ h. omega arith) (eqb (sum (L .lengths)) (length (L .edges)))
 
@@ -87,7 +93,7 @@ module _ (n : ℕ) (low : 22 ≤ n) (high : n ≤ 24) where
     from-list : (D : Design) (L : PathList) (o w : Verdict) → Other n o → Other n w
         → (designSizes D then (listSizes L then (o then (designTests D then (listTests D L then w))))) ≡ Refused x → listTests D L ≡ Refused x
     from-list D L o w a b e =
-        let sizes = behind n x number (designSizes D) (listSizes L then (o then (designTests D then (listTests D L then w)))) (other-same (length (D .starts)) (length (D .ends)) (length (D .delays))) e in
+        let sizes = behind n x number (designSizes D) (listSizes L then (o then (designTests D then (listTests D L then w)))) (other-sizes D) e in
         let sums = behind n x number (listSizes L) (o then (designTests D then (listTests D L then w))) (other-sums L) (sizes .1) in
         let others = behind n x number o (designTests D then (listTests D L then w)) a (sums .1) in
         let design = behind n x number (designTests D) (listTests D L then w) (other-design D) (others .1) in
@@ -123,7 +129,7 @@ module _ (n : ℕ) (low : 22 ≤ n) (high : n ≤ 24) where
     test-list : (D : Design) (L : PathList) → testList D L ≡ Refused x → listTests D L ≡ Refused x
     unfolding testList
     test-list D L e =
-        let sizes = behind n x number (designSizes D) (listSizes L then (designTests D then listTests D L)) (other-same (length (D .starts)) (length (D .ends)) (length (D .delays))) e in
+        let sizes = behind n x number (designSizes D) (listSizes L then (designTests D then listTests D L)) (other-sizes D) e in
         let sums = behind n x number (listSizes L) (designTests D then listTests D L) (other-sums L) (sizes .1) in
         behind n x number (designTests D) (listTests D L) (other-design D) (sums .1) .1
 

@@ -11,19 +11,20 @@ use lib.Dec.{T, eqb, leb, eqb-refl, le→leb}
 use lib.IntN.{ℤ, pos}
 use lib.ListN.{length, getD, take, drop, length-map}
 use lib.Seq.{take-append-seam}
+use lib.Signed.{_≤ℤ_}
 use Rattle.timing.specs.declared.Verdict.{Verdict}
 use Rattle.timing.specs.declared.Verdict.the-variants.{Passed}
 use Rattle.timing.specs.declared.NodeTimes.{NodeTimes}
 use Rattle.timing.specs.declared.NodeAnswer.the-variants.{Record}
 use Rattle.timing.specs.Lists.{placed, upto}
-use Rattle.timing.specs.Graphs.{Design, edgeDelay, Edge, Graph, designGraph}
+use Rattle.timing.specs.Graphs.{Design, edgeEarly, edgeLate, Edge, Graph, designGraph}
 use Rattle.timing.specs.Marks.{pathsOf}
 use Rattle.timing.specs.TrueGraphs.{Copy, trueGraph}
-use Rattle.timing.specs.Times.{arrivalAt, requiredAt, slackAt, nodeTimes, nodeRecord}
+use Rattle.timing.specs.Times.{arrivalAt, requiredAt, slackAt, earliestAt, nodeTimes, nodeRecord}
 use Rattle.timing.specs.WellFormed.{wellFormed}
 use Rattle.timing.specs.Refusals.{unless}
-use Rattle.timing.specs.Tests.{sameSizes, nodeCount, designSizes, designTests, listSizes, listTests, graphTest, roomSizes}
-use Rattle.timing.specs.Calls.{GraphSlices, graphSlices, graphOf, slicesOf, graphSizes, made, Removal, removalTests, removeFromDesign, removeFromGraph, nodesAfter, startsAfter, endsAfter, namesAfter, testTimes, arrivalsAfter, requiredsAfter, slacksAfter, recordOf, recordsAfter}
+use Rattle.timing.specs.Tests.{sameSizes, timeSizes, nodeCount, allowedTest, designSizes, designTests, listSizes, listTests, graphTest, roomSizes}
+use Rattle.timing.specs.Calls.{GraphSlices, graphSlices, graphOf, slicesOf, graphSizes, made, Removal, removalTests, removeFromDesign, removeFromGraph, nodesAfter, startsAfter, endsAfter, namesAfter, testTimes, arrivalsAfter, requiredsAfter, slacksAfter, earliestsAfter, recordOf, recordsAfter}
 use Rattle.timing.specs.Series.{heldAfter, wholeAfter, Renumbered}
 use Rattle.timing.specs.Paths.{PassesNode, PassesAt, Shows, pairOf}
 use Rattle.timing.specs.Demands.{Demand2, PathBest, TimesOfPaths, recordAfter, RecordOfPaths}
@@ -31,9 +32,11 @@ use Rattle.theorems.proofs.Lists.{holds, and-intro, length-upto, getD-m
 use Rattle.timing.proofs.Verdicts.{then-passed, unless-passed}
 use Rattle.theorems.proofs.Runs.{Rising}
 use Rattle.theorems.proofs.Stands.{Stands, true-stands, true-label}
-use Rattle.theorems.proofs.Tested.{design-fits, tests-count}
+use Rattle.theorems.proofs.Tested.{design-fits, tests-count, formed}
 use Rattle.theorems.proofs.Legal.{Legal, fits-legal, design-legal, wellFormed-legal}
 use Rattle.theorems.proofs.Kept.{true-formed}
+use Rattle.theorems.proofs.Extremes.{AtMost, order}
+use Rattle.theorems.proofs.Times.{earliest-below}
 use Rattle.theorems.proofs.Demand2.{stands-demand2}
 use Rattle.theorems.proofs.Nodes.{at-copy, nodeTimesAt}
 use Rattle.theorems.proofs.Demand2Times.{copy-times, cut-inside, record-below, design-record}
@@ -64,22 +67,22 @@ fit-passed number false h = absurd h
 same-sizes : (n a b : ℕ) → a ≡ n → b ≡ n → sameSizes n a b ≡ Passed
 same-sizes n a b p q = rw (p, q) (fit-passed 30 (eqb n n && eqb n n) (and-intro (eqb n n) (eqb n n) (eqb-refl n) (eqb-refl n)))
 
--- the tests of `node_record` pass on slices that `times` filled
-times-count : (D : Design) (S : GraphSlices) (t a r s : ℕ) → testTimes D S t a r s ≡ Passed → nodeCount (D .nodes) ≡ Passed
-unfolding testTimes
-times-count D S t a r s e =
-    let n = length (S .nodes) in
-    let e₁ = then-passed (designSizes D) _ e in
-    let e₂ = then-passed (graphSizes S) _ (e₁ .1) in
-    let e₃ = then-passed (sameSizes n a r) _ (e₂ .1) in
-    let e₄ = then-passed (sameSizes n n s) _ (e₃ .1) in
-    tests-count D (then-passed (designTests D) _ (e₄ .1) .0)
+time-sizes : (n a r s e : ℕ) → a ≡ n → r ≡ n → s ≡ n → e ≡ n → timeSizes n a r s e ≡ Passed
+time-sizes n a r s e p q o l = rw (same-sizes n a r p q) (same-sizes n s e o l)
 
-record-passed : (n : ℕ) (nodes : List ℕ) (ats rts sts : List ℤ) (v : ℕ) → length ats ≡ length nodes → length rts ≡ length nodes → length sts ≡ length nodes
-    → nodeCount n ≡ Passed → recordOf n nodes ats rts sts v ≡ Record (nodeRecord n nodes ats rts sts v)
+-- the tests of `node_record` pass on slices that `times` filled
+times-count : (D : Design) (S : GraphSlices) (t a r s e : ℕ) → testTimes D S t a r s e ≡ Passed → nodeCount (D .nodes) ≡ Passed
+unfolding testTimes
+times-count D S t a r s e p =
+    let p₁ = then-passed (designSizes D) _ p in
+    let p₂ = then-passed (graphSizes S) _ (p₁ .1) in
+    let p₃ = then-passed (timeSizes (length (S .nodes)) a r s e) _ (p₂ .1) in
+    tests-count D (then-passed (designTests D) _ (p₃ .1) .0)
+
+record-passed : (n : ℕ) (nodes : List ℕ) (ats rts sts ets : List ℤ) (v : ℕ) → timeSizes (length nodes) (length ats) (length rts) (length sts) (length ets) ≡ Passed
+    → nodeCount n ≡ Passed → recordOf n nodes ats rts sts ets v ≡ Record (nodeRecord n nodes ats rts sts ets v)
 unfolding recordOf
-record-passed n nodes ats rts sts v p q r c =
-    rw (same-sizes (length nodes) (length ats) (length rts) p q, same-sizes (length nodes) (length nodes) (length sts) refl r, c)
+record-passed n nodes ats rts sts ets v p c = rw (p, c)
 
 -- what a removal that is not refused says of the design and of its result
 pub record Removed (D : Design) (G : Graph) (L : List (List ℕ)) (H : Graph) : Type 0 where
@@ -147,85 +150,115 @@ series-demand2 D rs H e =
     (h .0, h .1, stands-demand2 D (designGraph D) H (h .0) (fits-legal D (h .2 .fit) .rising) (h .2 .stands) (h .2 .legal))
 
 -- `times` refuses such a result only for T and for the lengths of its slices
-pub removed-times : (D : Design) (G : Graph) (L : List (List ℕ)) (H : Graph) (t a r s : ℕ) → Removed D G L H → t ≤ 1000000000
-    → a ≡ length (H .nodes) → r ≡ length (H .nodes) → s ≡ length (H .nodes) → testTimes D (slicesOf H) t a r s ≡ Passed
+pub removed-times : (D : Design) (G : Graph) (L : List (List ℕ)) (H : Graph) (t a r s e : ℕ) → Removed D G L H → t ≤ 1000000000
+    → a ≡ length (H .nodes) → r ≡ length (H .nodes) → s ≡ length (H .nodes) → e ≡ length (H .nodes) → testTimes D (slicesOf H) t a r s e ≡ Passed
 unfolding testTimes
-removed-times D G L H t a r s m h p q o =
-    let n = length (H .nodes) in
-    rw (m .sizes, slices-sizes H, same-sizes n a r p q, same-sizes n n s refl o, m .tests, fit-passed 25 (leb t 1000000000) (le→leb t 1000000000 h))
+removed-times D G L H t a r s e m h p q o l =
+    rw (m .sizes, slices-sizes H, time-sizes (length (H .nodes)) a r s e p q o l, m .tests, fit-passed 25 (leb t 1000000000) (le→leb t 1000000000 h))
     (ap (graphTest D) (graph-slices H) ∙ fit-passed 32 (wellFormed D H) (m .formed))
 
+-- Whatever true graph `times` passes, it leaves at no copy an earliest arrival above the arrival.
+pub earliest-left : (D : Design) (S : GraphSlices) (t : ℕ) (ats ets : List ℤ) (a r s e : ℕ) → testTimes D S t a r s e ≡ Passed
+    → (h : ℕ) → h < length (S .nodes) → getD (earliestsAfter D S Passed ets) h (pos 0) ≤ℤ getD (arrivalsAfter D S t Passed ats) h (pos 0)
+unfolding testTimes arrivalsAfter earliestsAfter
+earliest-left D S t ats ets a r s e p h k =
+    let p₁ = then-passed (designSizes D) _ p in
+    let p₂ = then-passed (graphSizes S) _ (p₁ .1) in
+    let p₃ = then-passed (timeSizes (length (S .nodes)) a r s e) _ (p₂ .1) in
+    let p₄ = then-passed (designTests D) _ (p₃ .1) in
+    let p₅ = then-passed (allowedTest t) _ (p₄ .1) in
+    let w = holds (wellFormed D (graphOf S)) (unless-passed 32 (wellFormed D (graphOf S)) (p₅ .1)) in
+    let up = wellFormed-legal D (graphOf S) (p₁ .0) (p₄ .0) w .rising in
+    let named : (x : Edge) → List·Memᴰ x (graphOf S .edges) → AtMost (edgeEarly D (x .name)) (edgeLate D (x .name)) =
+    λ x m. design-fits D (p₁ .0) (p₄ .0) .ordered (x .name) (formed D (graphOf S) w .fits x m .named) in
+    rw (left (earliestAt (edgeEarly D) (graphOf S)), left (arrivalAt (edgeLate D) (pos t) (graphOf S)))
+    (order _ _ (earliest-below (edgeEarly D) (edgeLate D) (pos t) (graphOf S) up named h k))
+  where
+    left : (f : ℕ → ℤ) → getD (map f (upto (length (S .nodes)) 0)) h (pos 0) ≡ f h
+    left f = at-copy (pos 0) f (length (S .nodes)) 0 h k ∙ ap f (omega arith)
+
 -- what the slices hold where `times` passes: a time of each copy
-module _ (D : Design) (H : Graph) (t : ℕ) (ats rts sts : List ℤ) (tested : testTimes D (slicesOf H) t (length ats) (length rts) (length sts) ≡ Passed) where
-  arrivals-filled : arrivalsAfter D (slicesOf H) t (testTimes D (slicesOf H) t (length ats) (length rts) (length sts)) ats
-      ≡ map (arrivalAt (edgeDelay D) (pos t) H) (upto (length (H .nodes)) 0)
+module _ (D : Design) (H : Graph) (t : ℕ) (ats rts sts ets : List ℤ)
+    (tested : testTimes D (slicesOf H) t (length ats) (length rts) (length sts) (length ets) ≡ Passed) where
+  arrivals-filled : arrivalsAfter D (slicesOf H) t (testTimes D (slicesOf H) t (length ats) (length rts) (length sts) (length ets)) ats
+      ≡ map (arrivalAt (edgeLate D) (pos t) H) (upto (length (H .nodes)) 0)
   unfolding arrivalsAfter
   arrivals-filled =
       ap (λ (w : Verdict). arrivalsAfter D (slicesOf H) t w ats) tested
-      ∙ ap (λ (G : Graph). map (arrivalAt (edgeDelay D) (pos t) G) (upto (length (H .nodes)) 0)) (graph-slices H)
+      ∙ ap (λ (G : Graph). map (arrivalAt (edgeLate D) (pos t) G) (upto (length (H .nodes)) 0)) (graph-slices H)
 
-  requireds-filled : requiredsAfter D (slicesOf H) t (testTimes D (slicesOf H) t (length ats) (length rts) (length sts)) rts
-      ≡ map (requiredAt (edgeDelay D) (pos t) H) (upto (length (H .nodes)) 0)
+  requireds-filled : requiredsAfter D (slicesOf H) t (testTimes D (slicesOf H) t (length ats) (length rts) (length sts) (length ets)) rts
+      ≡ map (requiredAt (edgeLate D) (pos t) H) (upto (length (H .nodes)) 0)
   unfolding requiredsAfter
   requireds-filled =
       ap (λ (w : Verdict). requiredsAfter D (slicesOf H) t w rts) tested
-      ∙ ap (λ (G : Graph). map (requiredAt (edgeDelay D) (pos t) G) (upto (length (H .nodes)) 0)) (graph-slices H)
+      ∙ ap (λ (G : Graph). map (requiredAt (edgeLate D) (pos t) G) (upto (length (H .nodes)) 0)) (graph-slices H)
 
-  slacks-filled : slacksAfter D (slicesOf H) t (testTimes D (slicesOf H) t (length ats) (length rts) (length sts)) sts
-      ≡ map (slackAt (edgeDelay D) (pos t) H) (upto (length (H .nodes)) 0)
+  slacks-filled : slacksAfter D (slicesOf H) t (testTimes D (slicesOf H) t (length ats) (length rts) (length sts) (length ets)) sts
+      ≡ map (slackAt (edgeLate D) (pos t) H) (upto (length (H .nodes)) 0)
   unfolding slacksAfter
   slacks-filled =
       ap (λ (w : Verdict). slacksAfter D (slicesOf H) t w sts) tested
-      ∙ ap (λ (G : Graph). map (slackAt (edgeDelay D) (pos t) G) (upto (length (H .nodes)) 0)) (graph-slices H)
+      ∙ ap (λ (G : Graph). map (slackAt (edgeLate D) (pos t) G) (upto (length (H .nodes)) 0)) (graph-slices H)
+
+  earliests-filled : earliestsAfter D (slicesOf H) (testTimes D (slicesOf H) t (length ats) (length rts) (length sts) (length ets)) ets
+      ≡ map (earliestAt (edgeEarly D) H) (upto (length (H .nodes)) 0)
+  unfolding earliestsAfter
+  earliests-filled =
+      ap (λ (w : Verdict). earliestsAfter D (slicesOf H) w ets) tested
+      ∙ ap (λ (G : Graph). map (earliestAt (edgeEarly D) G) (upto (length (H .nodes)) 0)) (graph-slices H)
 
   each : (f : ℕ → ℤ) → length (map f (upto (length (H .nodes)) 0)) ≡ length (H .nodes)
   each f = length-map (upto (length (H .nodes)) 0) f ∙ length-upto (length (H .nodes)) 0
 
-  pub record-after : (v : ℕ) → recordAfter D H t ats rts sts v ≡ Record (record { node = v; times = nodeTimesAt (edgeDelay D) (pos t) H (D .nodes) v })
+  pub record-after : (v : ℕ) → recordAfter D H t ats rts sts ets v ≡ Record (record { node = v; times = nodeTimesAt (edgeEarly D) (edgeLate D) (pos t) H (D .nodes) v })
   record-after v =
-      (λ i. recordOf (D .nodes) (H .nodes) (arrivals-filled i) (requireds-filled i) (slacks-filled i) v)
-      ∙ record-passed (D .nodes) (H .nodes) _ _ _ v (each (arrivalAt (edgeDelay D) (pos t) H)) (each (requiredAt (edgeDelay D) (pos t) H)) (each (slackAt (edgeDelay D) (pos t) H))
-      (times-count D (slicesOf H) t (length ats) (length rts) (length sts) tested)
+      (λ i. recordOf (D .nodes) (H .nodes) (arrivals-filled i) (requireds-filled i) (slacks-filled i) (earliests-filled i) v)
+      ∙ record-passed (D .nodes) (H .nodes) _ _ _ _ v
+      (time-sizes (length (H .nodes)) _ _ _ _ (each (arrivalAt (edgeLate D) (pos t) H)) (each (requiredAt (edgeLate D) (pos t) H)) (each (slackAt (edgeLate D) (pos t) H)) (each (earliestAt (edgeEarly D) H)))
+      (times-count D (slicesOf H) t (length ats) (length rts) (length sts) (length ets) tested)
 
   -- and what `node_records` leaves at the place of node v tells the same record
   pub records-after : {A : Type 0} (z : A) (f : NodeTimes → A) (room : List A) (v : ℕ) → v < D .nodes
       → getD
       (recordsAfter f (D .nodes) (H .nodes)
-      (arrivalsAfter D (slicesOf H) t (testTimes D (slicesOf H) t (length ats) (length rts) (length sts)) ats)
-      (requiredsAfter D (slicesOf H) t (testTimes D (slicesOf H) t (length ats) (length rts) (length sts)) rts)
-      (slacksAfter D (slicesOf H) t (testTimes D (slicesOf H) t (length ats) (length rts) (length sts)) sts)
+      (arrivalsAfter D (slicesOf H) t (testTimes D (slicesOf H) t (length ats) (length rts) (length sts) (length ets)) ats)
+      (requiredsAfter D (slicesOf H) t (testTimes D (slicesOf H) t (length ats) (length rts) (length sts) (length ets)) rts)
+      (slacksAfter D (slicesOf H) t (testTimes D (slicesOf H) t (length ats) (length rts) (length sts) (length ets)) sts)
+      (earliestsAfter D (slicesOf H) (testTimes D (slicesOf H) t (length ats) (length rts) (length sts) (length ets)) ets)
       Passed room)
       v z
-      ≡ f (nodeTimesAt (edgeDelay D) (pos t) H (D .nodes) v)
+      ≡ f (nodeTimesAt (edgeEarly D) (edgeLate D) (pos t) H (D .nodes) v)
   unfolding recordsAfter
   records-after z f room v h =
-      (λ i. getD (map (λ w. f (nodeTimes (D .nodes) (H .nodes) (arrivals-filled i) (requireds-filled i) (slacks-filled i) w)) (upto (D .nodes) 0)) v z)
-      ∙ at-copy z (λ w. f (nodeTimesAt (edgeDelay D) (pos t) H (D .nodes) w)) (D .nodes) 0 v h
-      ∙ ap (λ (w : ℕ). f (nodeTimesAt (edgeDelay D) (pos t) H (D .nodes) w)) (omega arith)
+      (λ i. getD (map (λ w. f (nodeTimes (D .nodes) (H .nodes) (arrivals-filled i) (requireds-filled i) (slacks-filled i) (earliests-filled i) w)) (upto (D .nodes) 0)) v z)
+      ∙ at-copy z (λ w. f (nodeTimesAt (edgeEarly D) (edgeLate D) (pos t) H (D .nodes) w)) (D .nodes) 0 v h
+      ∙ ap (λ (w : ℕ). f (nodeTimesAt (edgeEarly D) (edgeLate D) (pos t) H (D .nodes) w)) (omega arith)
 
   -- the times that are left at a copy
   times-left : (h : ℕ) (P : List Edge → List Edge → Type 0) → h < length (H .nodes)
-      → PathBest (edgeDelay D) (pos t) P (arrivalAt (edgeDelay D) (pos t) H h) (requiredAt (edgeDelay D) (pos t) H h) (slackAt (edgeDelay D) (pos t) H h)
-      → TimesOfPaths D H t ats rts sts h P
+      → PathBest (edgeEarly D) (edgeLate D) (pos t) P (arrivalAt (edgeLate D) (pos t) H h) (requiredAt (edgeLate D) (pos t) H h) (slackAt (edgeLate D) (pos t) H h) (earliestAt (edgeEarly D) H h)
+      → TimesOfPaths D H t ats rts sts ets h P
   times-left h P k b =
-      let a = left (arrivalAt (edgeDelay D) (pos t) H) arrivals-filled in
-      let r = left (requiredAt (edgeDelay D) (pos t) H) requireds-filled in
-      let s = left (slackAt (edgeDelay D) (pos t) H) slacks-filled in
-      rw (a, r, s) b
+      let a = left (arrivalAt (edgeLate D) (pos t) H) arrivals-filled in
+      let r = left (requiredAt (edgeLate D) (pos t) H) requireds-filled in
+      let s = left (slackAt (edgeLate D) (pos t) H) slacks-filled in
+      let e = left (earliestAt (edgeEarly D) H) earliests-filled in
+      rw (a, r, s, e) b
     where
       left : (f : ℕ → ℤ) {ts : List ℤ} → ts ≡ map f (upto (length (H .nodes)) 0) → getD ts h (pos 0) ≡ f h
       left f e = ap (λ (l : List ℤ). getD l h (pos 0)) e ∙ at-copy (pos 0) f (length (H .nodes)) 0 h k ∙ ap f (omega arith)
 
   stands-times : (G : Graph) (L : List (List ℕ)) → Rising G → (S : Stands G L H) (h : ℕ) (k : Copy) → S .label h ≡ k → h < length (H .nodes)
-      → TimesOfPaths D H t ats rts sts h (Shows G L k)
+      → TimesOfPaths D H t ats rts sts ets h (Shows G L k)
   stands-times G L up S h k e i =
-      subst (λ (x : Copy). TimesOfPaths D H t ats rts sts h (Shows G L x)) e
-      (times-left h (Shows G L (S .label h)) i (copy-times G H L up S (edgeDelay D) (pos t) h i))
+      subst (λ (x : Copy). TimesOfPaths D H t ats rts sts ets h (Shows G L x)) e
+      (times-left h (Shows G L (S .label h)) i (copy-times G H L up S (edgeEarly D) (edgeLate D) (pos t) h i))
 
   -- After a removal from the design, the times of copy h are those of the design's permitted complete paths that show its
   -- (node, mark).
   pub removed-copy-times : (r : Removal) → removeFromDesign D r ≡ made H → (h : ℕ) → h < length (H .nodes)
-      → TimesOfPaths D H t ats rts sts h (Shows (designGraph D) (pathsOf (r .list)) (pairOf (designGraph D) (pathsOf (r .list)) h))
+      → TimesOfPaths D H t ats rts sts ets h (Shows (designGraph D) (pathsOf (r .list)) (pairOf (designGraph D) (pathsOf (r .list)) h))
   removed-copy-times r e h =
       let m = from-design-removed D r H e in
       stands-times (designGraph D) (pathsOf (r .list)) (m .legal .rising) (m .stands) h _ (m .pairs h)
@@ -233,7 +266,7 @@ module _ (D : Design) (H : Graph) (t : ℕ) (ats rts sts : List ℤ) (tested : t
   -- After a removal from any earlier graph, however it was made: of that graph's permitted complete paths that show its
   -- (earlier copy, mark).
   pub further-copy-times : (S : GraphSlices) (r : Removal) → removeFromGraph D S r ≡ made H → (h : ℕ) → h < length (H .nodes)
-      → TimesOfPaths D H t ats rts sts h (Shows (graphOf S) (pathsOf (r .list)) (pairOf (graphOf S) (pathsOf (r .list)) h))
+      → TimesOfPaths D H t ats rts sts ets h (Shows (graphOf S) (pathsOf (r .list)) (pairOf (graphOf S) (pathsOf (r .list)) h))
   further-copy-times S r e h =
       let m = from-graph-removed D S r H e in
       stands-times (graphOf S) (pathsOf (r .list)) (m .legal .rising) (m .stands) h _ (m .pairs h)
@@ -243,7 +276,7 @@ module _ (D : Design) (H : Graph) (t : ℕ) (ats rts sts : List ℤ) (tested : t
   -- mark) of its new number.
   pub series-copy-times : (rs : List Removal) → heldAfter D none rs ≡ some H
       → (L : List (List ℕ)) × (wholeAfter D none rs ≡ some L) × (N : Renumbered H (trueGraph (designGraph D) L))
-      × ((h : ℕ) → h < length (H .nodes) → TimesOfPaths D H t ats rts sts h (Shows (designGraph D) L (pairOf (designGraph D) L (N .to h))))
+      × ((h : ℕ) → h < length (H .nodes) → TimesOfPaths D H t ats rts sts ets h (Shows (designGraph D) L (pairOf (designGraph D) L (N .to h))))
   series-copy-times rs e =
       let x = series-held D rs H e in
       let L = x .0 in
@@ -254,33 +287,33 @@ module _ (D : Design) (H : Graph) (t : ℕ) (ats rts sts : List ℤ) (tested : t
         λ h k. stands-times (designGraph D) L (fits-legal D (held .fit) .rising) (held .stands) h _ (held-pair D L H held h k) k,
       )
 
-  stands-record : (L : List (List ℕ)) → Rising (designGraph D) → Stands (designGraph D) L H → (v : ℕ) → RecordOfPaths D H t ats rts sts v (PassesAt D L v)
+  stands-record : (L : List (List ℕ)) → Rising (designGraph D) → Stands (designGraph D) L H → (v : ℕ) → RecordOfPaths D H t ats rts sts ets v (PassesAt D L v)
   stands-record L up stands v = record {
-    times = nodeTimesAt (edgeDelay D) (pos t) H (D .nodes) v;
+    times = nodeTimesAt (edgeEarly D) (edgeLate D) (pos t) H (D .nodes) v;
     answer = record-after v;
-    paths = design-record D H L up stands v (edgeDelay D) (pos t);
+    paths = design-record D H L up stands v (edgeEarly D) (edgeLate D) (pos t);
   }
 
   -- After a removal from the design, the record of any node is that of the design's permitted complete paths through it.
-  pub removed-record : (r : Removal) → removeFromDesign D r ≡ made H → (v : ℕ) → RecordOfPaths D H t ats rts sts v (PassesAt D (pathsOf (r .list)) v)
+  pub removed-record : (r : Removal) → removeFromDesign D r ≡ made H → (v : ℕ) → RecordOfPaths D H t ats rts sts ets v (PassesAt D (pathsOf (r .list)) v)
   removed-record r e = let m = from-design-removed D r H e in stands-record (pathsOf (r .list)) (m .legal .rising) (m .stands)
 
   -- After a series, the record of any node is that of the design's complete paths through it that the whole list permits.
   pub series-record : (rs : List Removal) → heldAfter D none rs ≡ some H
-      → (L : List (List ℕ)) × (wholeAfter D none rs ≡ some L) × ((v : ℕ) → RecordOfPaths D H t ats rts sts v (PassesAt D L v))
+      → (L : List (List ℕ)) × (wholeAfter D none rs ≡ some L) × ((v : ℕ) → RecordOfPaths D H t ats rts sts ets v (PassesAt D L v))
   series-record rs e = let h = series-held D rs H e in (h .0, h .1, stands-record (h .0) (fits-legal D (h .2 .fit) .rising) (h .2 .stands))
 
   -- After a removal from any earlier graph, however it was made: of that graph's permitted complete paths through a copy of
   -- the node.
   pub further-record : (S : GraphSlices) (r : Removal) → removeFromGraph D S r ≡ made H
-      → (v : ℕ) → RecordOfPaths D H t ats rts sts v (PassesNode (graphOf S) (pathsOf (r .list)) v)
+      → (v : ℕ) → RecordOfPaths D H t ats rts sts ets v (PassesNode (graphOf S) (pathsOf (r .list)) v)
   further-record S r e v =
       let m = from-graph-removed D S r H e in
       let up = m .legal .rising in
       record {
-        times = nodeTimesAt (edgeDelay D) (pos t) H (D .nodes) v;
+        times = nodeTimesAt (edgeEarly D) (edgeLate D) (pos t) H (D .nodes) v;
         answer = record-after v;
         paths =
-            record-below (graphOf S) H (pathsOf (r .list)) up (m .stands) v (edgeDelay D) (pos t) (D .nodes)
+            record-below (graphOf S) H (pathsOf (r .list)) up (m .stands) v (edgeEarly D) (edgeLate D) (pos t) (D .nodes)
             (λ p q (c, n, h). m .legal .below v (subst (λ (x : ℕ). List·Memᴰ x (S .nodes)) n (getD-mem (S .nodes) c 0 (cut-inside up h))));
       }

@@ -1,7 +1,7 @@
--- What document 01's tests say where they pass, as statements: 30 and 10 to 14 of a design, 30 and 20 to 24 of a list of
+-- What document 01's tests say where they pass, as statements: 30 and 10 to 15 of a design, 30 and 20 to 24 of a list of
 -- paths, 32 of a graph.
 use Prim.Native.Nat.{ℕ, _≤_, _<_}
-use mathlib.Core.Path.{_≡_, refl, sym, subst}
+use mathlib.Core.Path.{_≡_, refl, subst}
 use mathlib.Core.Bool.{Bool, true, false, not, _&&_}
 use mathlib.Core.List.{List, [], List·Memᴰ}
 use native.Mathlib.Omega.{arith}
@@ -11,26 +11,31 @@ use lib.ListN.{length}
 use Rattle.timing.specs.declared.Verdict.{Verdict}
 use Rattle.timing.specs.declared.Verdict.the-variants.{Passed}
 use Rattle.timing.specs.Lists.{isNil, allOf, eachNext, upto, sum}
-use Rattle.timing.specs.Graphs.{Design, design, edgeStart, edgeEnd, edgeDelay, Edge, Graph, designGraph, nodeOf}
+use Rattle.timing.specs.Graphs.{Design, design, edgeStart, edgeEnd, edgeEarly, edgeLate, Edge, Graph, designGraph, nodeOf}
 use Rattle.timing.specs.Marks.{PathList, pathsOf}
 use Rattle.timing.specs.WellFormed.{fewEnough, nodesFit, edgeFits, edgeRises, oneSinkCopy, linked, wellFormed}
 use Rattle.timing.specs.Refusals.{unless, firstBad, firstFault, _then_}
-use Rattle.timing.specs.Tests.{designSizes, listSizes, nodeCount, designCounts, strays, falls, tooSlow, designTests, listCounts, meets, emptyAt, firstUnknown, firstBreak, listTests, graphTest}
+use Rattle.timing.specs.Tests.{designSizes, listSizes, nodeCount, designCounts, strays, falls, outOfRange, earlyAboveLate, designTests, listCounts, meets, emptyAt, firstUnknown, firstBreak, listTests, graphTest}
+use Rattle.timing.proofs.Ints.{ltZ-false}
+use Rattle.theorems.proofs.Extremes.{AtMost}
 use Rattle.theorems.proofs.Lists.{and-intro, and-left, and-right, holds, mem-upto, of-upto, allOf-elim, allOf-intro}
-use Rattle.timing.proofs.Verdicts.{then-passed, unless-passed}
+use Rattle.timing.proofs.Verdicts.{then-passed, unless-passed, edges-passed}
 use Rattle.theorems.proofs.Refusals.{firstBad-passed}
 use Rattle.theorems.proofs.Faults.{has-edge, all-known, all-join, firstFault-passed}
 
--- what tests 30 and 10 to 14 say of a design
+-- what tests 30 and 10 to 15 say of a design
 pub record DesignFits (D : Design) : Type 0 where
   pub ends : length (D .ends) ≡ length (D .starts)
-  pub delays : length (D .delays) ≡ length (D .starts)
+  pub early : length (D .early) ≡ length (D .starts)
+  pub late : length (D .late) ≡ length (D .starts)
   pub fewNodes : D .nodes ≤ 4096
   pub fewEdges : length (D .starts) ≤ 16384
   pub starts-in : (k : ℕ) → k < length (D .starts) → edgeStart D k < D .nodes
   pub ends-in : (k : ℕ) → k < length (D .starts) → edgeEnd D k < D .nodes
   pub rises : (k : ℕ) → k < length (D .starts) → edgeStart D k < edgeEnd D k
-  pub slow : (k : ℕ) → k < length (D .starts) → natAbs (edgeDelay D k) ≤ 1000000
+  pub quick : (k : ℕ) → k < length (D .starts) → natAbs (edgeEarly D k) ≤ 1000000
+  pub slow : (k : ℕ) → k < length (D .starts) → natAbs (edgeLate D k) ≤ 1000000
+  pub ordered : (k : ℕ) → k < length (D .starts) → AtMost (edgeEarly D k) (edgeLate D k)
 
 not-false : (b : Bool) → not b ≡ false → T b
 not-false true e = tt
@@ -40,14 +45,17 @@ pub design-fits : (D : Design) → designSizes D ≡ Passed → designTests D �
 unfolding designTests
 design-fits D s t =
     record {
-      ends = sym (eqb→eq m (length (D .ends)) (and-left (eqb m (length (D .ends))) (eqb m (length (D .delays))) sizes));
-      delays = sym (eqb→eq m (length (D .delays)) (and-right (eqb m (length (D .ends))) (eqb m (length (D .delays))) sizes));
+      ends = sizes .0;
+      early = sizes .1;
+      late = sizes .2;
       fewNodes = leb→le (D .nodes) 4096 (holds (leb (D .nodes) 4096) (unless-passed 10 (leb (D .nodes) 4096) (counts .0)));
       fewEdges = leb→le m 16384 (holds (leb m 16384) (unless-passed 11 (leb m 16384) (counts .1)));
       starts-in = λ k h. ltb→lt _ _ (and-left (ltb (edgeStart D k) (D .nodes)) (ltb (edgeEnd D k) (D .nodes)) (inside k h));
       ends-in = λ k h. ltb→lt _ _ (and-right (ltb (edgeStart D k) (D .nodes)) (ltb (edgeEnd D k) (D .nodes)) (inside k h));
       rises = λ k h. ltb→lt _ _ (not-false (ltb (edgeStart D k) (edgeEnd D k)) (firstBad-passed 13 (falls D) 0 ks (after13 .0) k (mem k h)));
-      slow = λ k h. leb→le _ _ (not-false (leb (natAbs (edgeDelay D k)) 1000000) (firstBad-passed 14 (tooSlow D) 0 ks (after13 .1) k (mem k h)));
+      quick = λ k h. leb→le _ _ (and-left (leb (natAbs (edgeEarly D k)) 1000000) (leb (natAbs (edgeLate D k)) 1000000) (ranges k h));
+      slow = λ k h. leb→le _ _ (and-right (leb (natAbs (edgeEarly D k)) 1000000) (leb (natAbs (edgeLate D k)) 1000000) (ranges k h));
+      ordered = λ k h. omega (arith, ltZ-false (edgeLate D k) (edgeEarly D k) (firstBad-passed 15 (earlyAboveLate D) 0 ks (after14 .1) k (mem k h)));
     }
   where
     m : ℕ
@@ -59,36 +67,56 @@ design-fits D s t =
     mem : (k : ℕ) → k < m → List·Memᴰ k ks
     mem k h = mem-upto m 0 k (omega arith) (omega arith)
 
-    sizes : T (eqb m (length (D .ends)) && eqb m (length (D .delays)))
-    sizes = holds (eqb m (length (D .ends)) && eqb m (length (D .delays))) (unless-passed 30 (eqb m (length (D .ends)) && eqb m (length (D .delays))) s)
+    sizes : (length (D .ends) ≡ m) × (length (D .early) ≡ m) × (length (D .late) ≡ m)
+    sizes = edges-passed m (length (D .ends)) (length (D .early)) (length (D .late)) s
 
-    after11 : (designCounts D ≡ Passed) × (_≡_ {A = Verdict} (firstBad 12 (strays D) 0 ks then firstBad 13 (falls D) 0 ks then firstBad 14 (tooSlow D) 0 ks) Passed)
-    after11 = then-passed (designCounts D) (firstBad 12 (strays D) 0 ks then firstBad 13 (falls D) 0 ks then firstBad 14 (tooSlow D) 0 ks) t
+    t₁₅ : Verdict
+    t₁₅ = firstBad 15 (earlyAboveLate D) 0 ks
+
+    t₁₄ : Verdict
+    t₁₄ = firstBad 14 (outOfRange D) 0 ks then t₁₅
+
+    t₁₃ : Verdict
+    t₁₃ = firstBad 13 (falls D) 0 ks then t₁₄
+
+    t₁₂ : Verdict
+    t₁₂ = firstBad 12 (strays D) 0 ks then t₁₃
+
+    after11 : (designCounts D ≡ Passed) × (t₁₂ ≡ Passed)
+    after11 = then-passed (designCounts D) t₁₂ t
 
     counts : (nodeCount (D .nodes) ≡ Passed) × (unless 11 (leb m 16384) ≡ Passed)
     counts = then-passed (nodeCount (D .nodes)) (unless 11 (leb m 16384)) (after11 .0)
 
-    after12 : (firstBad 12 (strays D) 0 ks ≡ Passed) × (_≡_ {A = Verdict} (firstBad 13 (falls D) 0 ks then firstBad 14 (tooSlow D) 0 ks) Passed)
-    after12 = then-passed (firstBad 12 (strays D) 0 ks) (firstBad 13 (falls D) 0 ks then firstBad 14 (tooSlow D) 0 ks) (after11 .1)
+    after12 : (firstBad 12 (strays D) 0 ks ≡ Passed) × (t₁₃ ≡ Passed)
+    after12 = then-passed (firstBad 12 (strays D) 0 ks) t₁₃ (after11 .1)
 
-    after13 : (firstBad 13 (falls D) 0 ks ≡ Passed) × (firstBad 14 (tooSlow D) 0 ks ≡ Passed)
-    after13 = then-passed (firstBad 13 (falls D) 0 ks) (firstBad 14 (tooSlow D) 0 ks) (after12 .1)
+    after13 : (firstBad 13 (falls D) 0 ks ≡ Passed) × (t₁₄ ≡ Passed)
+    after13 = then-passed (firstBad 13 (falls D) 0 ks) t₁₄ (after12 .1)
+
+    after14 : (firstBad 14 (outOfRange D) 0 ks ≡ Passed) × (t₁₅ ≡ Passed)
+    after14 = then-passed (firstBad 14 (outOfRange D) 0 ks) t₁₅ (after13 .1)
 
     inside : (k : ℕ) → k < m → T (ltb (edgeStart D k) (D .nodes) && ltb (edgeEnd D k) (D .nodes))
     inside k h = not-false (ltb (edgeStart D k) (D .nodes) && ltb (edgeEnd D k) (D .nodes)) (firstBad-passed 12 (strays D) 0 ks (after12 .0) k (mem k h))
+
+    ranges : (k : ℕ) → k < m → T (leb (natAbs (edgeEarly D k)) 1000000 && leb (natAbs (edgeLate D k)) 1000000)
+    ranges k h =
+        not-false (leb (natAbs (edgeEarly D k)) 1000000 && leb (natAbs (edgeLate D k)) 1000000)
+        (firstBad-passed 14 (outOfRange D) 0 ks (after14 .0) k (mem k h))
 
 -- 10 is among them
 pub tests-count : (D : Design) → designTests D ≡ Passed → nodeCount (D .nodes) ≡ Passed
 unfolding designTests
 tests-count D e =
-    let ks = upto (length (D .starts)) 0 in
     then-passed (nodeCount (D .nodes)) (unless 11 (leb (length (D .starts)) 16384))
-    (then-passed (designCounts D) (firstBad 12 (strays D) 0 ks then firstBad 13 (falls D) 0 ks then firstBad 14 (tooSlow D) 0 ks) e .0) .0
+    (then-passed (designCounts D) _ e .0) .0
 
 -- 32 asks no delays
-pub no-delays : (n : ℕ) (starts ends : List ℕ) (delays : List ℤ) (G : Graph) → graphTest (design n starts ends []) G ≡ graphTest (design n starts ends delays) G
+pub no-delays : (n : ℕ) (starts ends : List ℕ) (early late : List ℤ) (G : Graph)
+    → graphTest (design n starts ends [] []) G ≡ graphTest (design n starts ends early late) G
 unfolding wellFormed designGraph
-no-delays n starts ends delays G = refl
+no-delays n starts ends early late G = refl
 
 -- what tests 30 and 20 to 24 say of a list of paths
 pub record ListFits (D : Design) (L : PathList) : Type 0 where

@@ -11,7 +11,7 @@ use Rattle.timing.specs.Lists.{upto}
 use Rattle.timing.specs.Graphs.{Design}
 use Rattle.timing.specs.Marks.{PathList, pathsOf}
 use Rattle.timing.specs.Refusals.{refusal, refusalWithin, unless, firstBad, firstFault, _then_}
-use Rattle.timing.specs.Tests.{nodeCount, designCounts, strays, falls, tooSlow, designTests, listCounts, meets, emptyAt, firstUnknown, firstBreak, listTests}
+use Rattle.timing.specs.Tests.{nodeCount, designCounts, strays, falls, outOfRange, earlyAboveLate, designTests, listCounts, meets, emptyAt, firstUnknown, firstBreak, listTests}
 use Rattle.timing.proofs.Verdicts.{then-passed, unless-passed, Every, every-then, every-unless, every-bad, every-fault}
 use Rattle.theorems.proofs.Lists.{holds, length-upto}
 
@@ -19,7 +19,7 @@ passes-le : (k a b : ℕ) → unless k (leb a b) ≡ Passed → a ≤ b
 passes-le k a b e = leb→le a b (holds (leb a b) (unless-passed k (leb a b) e))
 
 module _ (P : Refusal → Type 0) where
-  pub every-design : (D : Design) → ((k j : ℕ) → 10 ≤ k → k ≤ 14 → j ≤ 16384 → P (refusal k j)) → Every P (designTests D)
+  pub every-design : (D : Design) → ((k j : ℕ) → 10 ≤ k → k ≤ 15 → j ≤ 16384 → P (refusal k j)) → Every P (designTests D)
   unfolding designTests
   every-design D h =
       let m = length (D .starts) in
@@ -27,16 +27,18 @@ module _ (P : Refusal → Type 0) where
       let t₁₁ : Verdict = unless 11 (leb m 16384) in
       let t₁₂ : Verdict = firstBad 12 (strays D) 0 ks in
       let t₁₃ : Verdict = firstBad 13 (falls D) 0 ks in
-      let t₁₄ : Verdict = firstBad 14 (tooSlow D) 0 ks in
-      every-then P (designCounts D) (t₁₂ then t₁₃ then t₁₄)
+      let t₁₄ : Verdict = firstBad 14 (outOfRange D) 0 ks in
+      let t₁₅ : Verdict = firstBad 15 (earlyAboveLate D) 0 ks in
+      every-then P (designCounts D) (t₁₂ then t₁₃ then t₁₄ then t₁₅)
       (every-then P (nodeCount (D .nodes)) t₁₁ (every-unless P 10 (h 10 0 (omega arith) (omega arith) (omega arith)) (leb (D .nodes) 4096))
       (λ e. every-unless P 11 (h 11 0 (omega arith) (omega arith) (omega arith)) (leb m 16384)))
       (λ e.
       let few = passes-le 11 m 16384 (then-passed (nodeCount (D .nodes)) t₁₁ e .1) in
-      let at : (k : ℕ) → 10 ≤ k → k ≤ 14 → (j : ℕ) → j < 0 + length ks → P (refusal k j) = λ k a b j l. h k j a b (omega (arith, length-upto m 0)) in
-      every-then P t₁₂ (t₁₃ then t₁₄) (every-bad P 12 (strays D) 0 ks (at 12 (omega arith) (omega arith)))
-      (λ e. every-then P t₁₃ t₁₄ (every-bad P 13 (falls D) 0 ks (at 13 (omega arith) (omega arith)))
-      (λ e. every-bad P 14 (tooSlow D) 0 ks (at 14 (omega arith) (omega arith)))))
+      let at : (k : ℕ) → 10 ≤ k → k ≤ 15 → (j : ℕ) → j < 0 + length ks → P (refusal k j) = λ k a b j l. h k j a b (omega (arith, length-upto m 0)) in
+      every-then P t₁₂ (t₁₃ then t₁₄ then t₁₅) (every-bad P 12 (strays D) 0 ks (at 12 (omega arith) (omega arith)))
+      (λ e. every-then P t₁₃ (t₁₄ then t₁₅) (every-bad P 13 (falls D) 0 ks (at 13 (omega arith) (omega arith)))
+      (λ e. every-then P t₁₄ t₁₅ (every-bad P 14 (outOfRange D) 0 ks (at 14 (omega arith) (omega arith)))
+      (λ e. every-bad P 15 (earlyAboveLate D) 0 ks (at 15 (omega arith) (omega arith))))))
 
   pub every-counts : (L : PathList) → ((k : ℕ) → 20 ≤ k → k ≤ 21 → P (refusal k 0)) → Every P (listCounts L)
   every-counts L h =

@@ -13,12 +13,12 @@ use lib.ListN.{length}
 use mir.Syntax.{w64}
 use mir.Val.{SFits}
 use Rattle.timing.specs.Graphs.{Edge, Graph, edgesIn, edgesOut, startsAt, endsAt, runsTo, runsFrom, delayAlong}
-use Rattle.timing.specs.Times.{largest, smallest, arrivalAt, requiredAt, slackAt}
+use Rattle.timing.specs.Times.{largest, smallest, arrivalAt, requiredAt, slackAt, earliestAt}
 use Rattle.timing.specs.Paths.{Best}
 use Rattle.timing.proofs.Ints.{add-is, sub-parts, eq-parts, abs-is, abs-add, abs-neg, sfits-parts}
 use Rattle.theorems.proofs.Lists.{mem-flatMap, of-flatMap}
 use Rattle.theorems.proofs.Runs.{Rising, Leads, Way, mem-in, mem-out, leads-then, leads-last, runs-to, runs-from, way-then}
-use Rattle.theorems.proofs.Extremes.{AtMost, AtLeast, Some, nil-or-some, nil-none, best-moved, best-on, best-kept, best-unique, best-nested, best-value, larges, smalls, add-keeps, sub-keeps, from-turns}
+use Rattle.theorems.proofs.Extremes.{AtMost, AtLeast, Picks, Some, nil-or-some, nil-none, best-moved, best-on, best-kept, best-unique, best-nested, best-value, larges, smalls, add-keeps, sub-keeps, from-turns}
 
 -- the delay of two runs, one after the other
 pub delay-then : (d : ℕ → ℤ) (p q : List Edge) → delayAlong d (p ++ q) ≡ delayAlong d p +ℤ delayAlong d q
@@ -128,11 +128,63 @@ in-sum d e es = eq-parts _ _ (rw (delay-then d es (e ∷ [])) (omega (
 out-sum : (t x y : ℤ) → (t -ℤ x) -ℤ y ≡ t -ℤ (y +ℤ x)
 out-sum t x y = eq-parts _ _ (omega (arith, sub-parts t x, sub-parts (t -ℤ x) y, add-is y x, sub-parts t (y +ℤ x)))
 
+-- The best delay of the runs to a copy, by any order that a number added keeps: arrival takes the largest, earliest arrival the smallest.
+-- Where paths start it is 0, and elsewhere it goes by its recurrence.
+module _ {le : ℤ → ℤ → Type 0} {pick : ℤ → ℤ → ℤ} {best : List ℤ → ℤ} (K : Picks le pick best) (keeps : (a x y : ℤ) → le x y → le (x +ℤ a) (y +ℤ a))
+    (d : ℕ → ℤ) (G : Graph) (R : Rising G) where
+  abbrev bestTo : ℕ → ℤ
+  bestTo c = best (map (delayAlong d) (runsTo G (length (G .nodes)) c))
+
+  to-best : (c : ℕ) → c < length (G .nodes) → Best le (To G c) (delayAlong d) (bestTo c)
+  to-best c here = best-on (λ es. runs-to G R c es here) (best-value K (delayAlong d) (runsTo G (length (G .nodes)) c) (runs-to-some G R c here))
+
+  module _ (c : ℕ) (here : c < length (G .nodes)) where
+    to-source : T (startsAt G c) → bestTo c ≡ pos 0
+    to-source s = best-unique K (to-best c here) (record {
+      at = [];
+      there = (c, s, refl);
+      is = refl;
+      most = λ es p. ⊎-elim
+          (λ (r : T (startsAt G c) × (es ≡ [])). subst (λ (x : List Edge). le (delayAlong d x) (pos 0)) (sym (r .1)) (K .same (pos 0)))
+          (λ r. absurd (nil-none (edgesIn G c) s (r .0, r .2)))
+          (to-cases G c es p);
+    })
+
+    to-edges : Some (edgesIn G c) → bestTo c ≡ best (map (λ e. bestTo (e .start) +ℤ d (e .name)) (edgesIn G c))
+    to-edges s =
+        best-unique K (to-best c here)
+        (best-moved
+        (best-nested K each (best-value K (λ e. bestTo (e .start) +ℤ d (e .name)) (edgesIn G c) s))
+        (λ q w. (q .1 ++ (q .0 ∷ []), to-step G c (q .0) (q .1) (w .0) (w .1), in-sum d (q .0) (q .1)))
+        (λ es p. ⊎-elim
+        (λ r. absurd (nil-none (edgesIn G c) (r .0) s))
+        (λ r. ((r .0, r .1), (r .2, r .3), in-sum d (r .0) (r .1) ∙ ap (delayAlong d) (sym (r .4))))
+        (to-cases G c es p)))
+      where
+        each : (e : Edge) → List·Memᴰ e (edgesIn G c) → Best le (To G (e .start)) (λ es. delayAlong d es +ℤ d (e .name)) (bestTo (e .start) +ℤ d (e .name))
+        each e m =
+            let o = mem-in G c e .0 m in
+            best-kept (λ z. z +ℤ d (e .name)) (keeps (d (e .name))) (to-best (e .start) (omega (arith, R .up e (o .0), o .1)))
+
+-- T1 for the earliest arrival
+module _ (d : ℕ → ℤ) (G : Graph) (R : Rising G) (c : ℕ) (here : c < length (G .nodes)) where
+  pub earliest-best : Best AtLeast (To G c) (delayAlong d) (earliestAt d G c)
+  unfolding earliestAt
+  earliest-best = to-best smalls (λ a x y. add-keeps a y x) d G R c here
+
+  pub earliest-source : T (startsAt G c) → earliestAt d G c ≡ pos 0
+  unfolding earliestAt
+  earliest-source = to-source smalls (λ a x y. add-keeps a y x) d G R c here
+
+  pub earliest-edges : Some (edgesIn G c) → earliestAt d G c ≡ smallest (map (λ e. earliestAt d G (e .start) +ℤ d (e .name)) (edgesIn G c))
+  unfolding earliestAt
+  earliest-edges = to-edges smalls (λ a x y. add-keeps a y x) d G R c here
+
 module _ (d : ℕ → ℤ) (t : ℤ) (G : Graph) (R : Rising G) where
   -- the times are the best values of runs
   pub arrival-best : (c : ℕ) → c < length (G .nodes) → Best AtMost (To G c) (delayAlong d) (arrivalAt d t G c)
   unfolding arrivalAt
-  arrival-best c here = best-on (λ es. runs-to G R c es here) (best-value larges (delayAlong d) (runsTo G (length (G .nodes)) c) (runs-to-some G R c here))
+  arrival-best = to-best larges add-keeps d G R
 
   pub required-best : (c : ℕ) → c < length (G .nodes) → Best AtLeast (Way G c) (λ es. t -ℤ delayAlong d es) (requiredAt d t G c)
   unfolding requiredAt
@@ -156,15 +208,8 @@ module _ (d : ℕ → ℤ) (t : ℤ) (G : Graph) (R : Rising G) where
   module _ (c : ℕ) (here : c < length (G .nodes)) where
     -- T1: where paths start and end, and the recurrences
     pub arrival-source : T (startsAt G c) → arrivalAt d t G c ≡ pos 0
-    arrival-source s = best-unique larges (arrival-best c here) (record {
-      at = [];
-      there = (c, s, refl);
-      is = refl;
-      most = λ es p. ⊎-elim
-          (λ (r : T (startsAt G c) × (es ≡ [])). rw (r .1) (omega arith))
-          (λ r. absurd (nil-none (edgesIn G c) s (r .0, r .2)))
-          (to-cases G c es p);
-    })
+    unfolding arrivalAt
+    arrival-source = to-source larges add-keeps d G R c here
 
     pub required-end : T (endsAt G c) → requiredAt d t G c ≡ t
     required-end s = best-unique smalls (required-best c here) (record {
@@ -181,20 +226,8 @@ module _ (d : ℕ → ℤ) (t : ℤ) (G : Graph) (R : Rising G) where
         less-none = eq-parts _ _ (omega (arith, sub-parts t (pos 0)))
 
     pub arrival-edges : Some (edgesIn G c) → arrivalAt d t G c ≡ largest (map (λ e. arrivalAt d t G (e .start) +ℤ d (e .name)) (edgesIn G c))
-    arrival-edges s =
-        best-unique larges (arrival-best c here)
-        (best-moved
-        (best-nested larges each (best-value larges (λ e. arrivalAt d t G (e .start) +ℤ d (e .name)) (edgesIn G c) s))
-        (λ q w. (q .1 ++ (q .0 ∷ []), to-step G c (q .0) (q .1) (w .0) (w .1), in-sum d (q .0) (q .1)))
-        (λ es p. ⊎-elim
-        (λ r. absurd (nil-none (edgesIn G c) (r .0) s))
-        (λ r. ((r .0, r .1), (r .2, r .3), in-sum d (r .0) (r .1) ∙ ap (delayAlong d) (sym (r .4))))
-        (to-cases G c es p)))
-      where
-        each : (e : Edge) → List·Memᴰ e (edgesIn G c) → Best AtMost (To G (e .start)) (λ es. delayAlong d es +ℤ d (e .name)) (arrivalAt d t G (e .start) +ℤ d (e .name))
-        each e m =
-            let o = mem-in G c e .0 m in
-            best-kept (λ z. z +ℤ d (e .name)) (add-keeps (d (e .name))) (arrival-best (e .start) (omega (arith, R .up e (o .0), o .1)))
+    unfolding arrivalAt
+    arrival-edges = to-edges larges add-keeps d G R c here
 
     pub required-edges : Some (edgesOut G c) → requiredAt d t G c ≡ smallest (map (λ e. requiredAt d t G (e .end) -ℤ d (e .name)) (edgesOut G c))
     required-edges s =
@@ -217,6 +250,28 @@ module _ (d : ℕ → ℤ) (t : ℤ) (G : Graph) (R : Rising G) where
     slack-through =
         best-unique smalls (slack-best c here)
         (best-on (through-runs G R c here) (best-value smalls (λ es. t -ℤ delayAlong d es) (through G c) (through-some G R c here)))
+
+-- Where no early delay is above the late one, no copy's earliest arrival is above its arrival: some run to the copy has the arrival as its
+-- late delay, and its early delay lies between the two.
+module _ (early late : ℕ → ℤ) (t : ℤ) (G : Graph) (R : Rising G) (ordered : (e : Edge) → List·Memᴰ e (G .edges) → AtMost (early (e .name)) (late (e .name))) where
+  run-ordered : (a c : ℕ) (es : List Edge) → Leads G a es c → AtMost (delayAlong early es) (delayAlong late es)
+  run-ordered a c [] p = omega arith
+  run-ordered a c (e ∷ es) p =
+      omega (
+        arith,
+        ordered e (p .0),
+        run-ordered (e .end) c es (p .2),
+        add-is (early (e .name)) (delayAlong early es),
+        add-is (late (e .name)) (delayAlong late es),
+      )
+
+  pub earliest-below : (c : ℕ) → c < length (G .nodes) → AtMost (earliestAt early G c) (arrivalAt late t G c)
+  earliest-below c here =
+      let b = arrival-best late t G R c here in
+      let p = b .there in
+      subst (AtMost (earliestAt early G c)) (b .is)
+      (larges .trans (earliestAt early G c) (delayAlong early (b .at)) (delayAlong late (b .at))
+      (earliest-best early G R c here .most (b .at) p) (run-ordered (p .0) c (b .at) (p .2)))
 
 -- T2: how large times get. Levels rise along every edge, and no edge ends above the level top; no delay is larger than B.
 -- Copy numbers are such levels, and so are node numbers where edges rise in node number.
@@ -275,11 +330,16 @@ module _ (d : ℕ → ℤ) (t : ℤ) (G : Graph) (R : Rising G) (B : ℕ) (level
   less-size : {m : ℤ} (es : List Edge) (M : ℕ) → t -ℤ delayAlong d es ≡ m → natAbs (delayAlong d es) ≤ M → natAbs (t -ℤ m) ≤ M
   less-size es M e h = subst (λ (z : ℤ). natAbs z ≤ M) (sym (from-back t (delayAlong d es)) ∙ ap (λ (z : ℤ). t -ℤ z) e) h
 
+  -- the best of the runs to a copy, by any order
+  to-size : {le : ℤ → ℤ → Type 0} {m : ℤ} (c : ℕ) → Best le (To G c) (delayAlong d) m → natAbs m ≤ B * level c
+  to-size c b = subst (λ (z : ℤ). natAbs z ≤ B * level c) (b .is) (omega (arith, leads-size (b .there .0) c (b .at) (b .there .2)))
+
   module _ (c : ℕ) (here : c < length (G .nodes)) where
     pub arrival-size : natAbs (arrivalAt d t G c) ≤ B * level c
-    arrival-size =
-        let b = arrival-best d t G R c here in
-        subst (λ (z : ℤ). natAbs z ≤ B * level c) (b .is) (omega (arith, leads-size (b .there .0) c (b .at) (b .there .2)))
+    arrival-size = to-size c (arrival-best d t G R c here)
+
+    pub earliest-size : natAbs (earliestAt d G c) ≤ B * level c
+    earliest-size = to-size c (earliest-best d G R c here)
 
     pub required-size : natAbs (t -ℤ requiredAt d t G c) ≤ B * (top - level c)
     required-size = let b = required-best d t G R c here in less-size (b .at) (B * (top - level c)) (b .is) (way-size c (b .at) (b .there))
@@ -295,26 +355,26 @@ module _ (d : ℕ → ℤ) (t : ℤ) (G : Graph) (R : Rising G) (B : ℕ) (level
 
     -- so the times fit signed 64 bits
     pub times-fit : level c ≤ top → natAbs t + B * top < 2 ^ 63
-        → SFits w64 (arrivalAt d t G c) × SFits w64 (requiredAt d t G c) × SFits w64 (slackAt d t G c)
+        → SFits w64 (arrivalAt d t G c) × SFits w64 (requiredAt d t G c) × SFits w64 (slackAt d t G c) × SFits w64 (earliestAt d G c)
     times-fit h room =
         let under : B * level c ≤ B * top = mul-le-mul-left B h in
         let below : B * (top - level c) ≤ B * top = mul-le-mul-left B (omega arith) in (
           fits (arrivalAt d t G c) (omega (arith, arrival-size)),
           fits (requiredAt d t G c) (omega (arith, required-size, abs-near t (requiredAt d t G c))),
           fits (slackAt d t G c) (omega (arith, slack-size, abs-near t (slackAt d t G c))),
+          fits (earliestAt d G c) (omega (arith, earliest-size)),
         )
 
   -- and so do the sums over an edge that the recurrences choose from
   module _ (e : Edge) (m : List·Memᴰ e (G .edges)) where
+    to-sum-size : (z : ℤ) → natAbs z ≤ B * level (e .start) → natAbs (z +ℤ d (e .name)) ≤ B * level (e .end)
+    to-sum-size z h = omega (arith, abs-add z (d (e .name)), L .small e m, rise B (level (e .start)) (level (e .end)) (L .rises e m))
+
     pub arrival-sum-size : natAbs (arrivalAt d t G (e .start) +ℤ d (e .name)) ≤ B * level (e .end)
-    arrival-sum-size =
-        omega (
-          arith,
-          abs-add (arrivalAt d t G (e .start)) (d (e .name)),
-          arrival-size (e .start) (omega (arith, R .up e m, R .inside e m)),
-          L .small e m,
-          rise B (level (e .start)) (level (e .end)) (L .rises e m),
-        )
+    arrival-sum-size = to-sum-size (arrivalAt d t G (e .start)) (arrival-size (e .start) (omega (arith, R .up e m, R .inside e m)))
+
+    pub earliest-sum-size : natAbs (earliestAt d G (e .start) +ℤ d (e .name)) ≤ B * level (e .end)
+    earliest-sum-size = to-sum-size (earliestAt d G (e .start)) (earliest-size (e .start) (omega (arith, R .up e m, R .inside e m)))
 
     pub required-sum-size : natAbs (t -ℤ (requiredAt d t G (e .end) -ℤ d (e .name))) ≤ B * (top - level (e .start))
     required-sum-size = subst (λ (z : ℤ). natAbs z ≤ B * (top - level (e .start))) (sum (requiredAt d t G (e .end)) (d (e .name))) (omega (
@@ -328,12 +388,14 @@ module _ (d : ℕ → ℤ) (t : ℤ) (G : Graph) (R : Rising G) (B : ℕ) (level
         sum : (r x : ℤ) → (t -ℤ r) +ℤ x ≡ t -ℤ (r -ℤ x)
         sum r x = eq-parts _ _ (omega (arith, sub-parts t r, add-is (t -ℤ r) x, sub-parts r x, sub-parts t (r -ℤ x)))
 
-    pub sums-fit : natAbs t + B * top < 2 ^ 63 → SFits w64 (arrivalAt d t G (e .start) +ℤ d (e .name)) × SFits w64 (requiredAt d t G (e .end) -ℤ d (e .name))
+    pub sums-fit : natAbs t + B * top < 2 ^ 63
+        → SFits w64 (arrivalAt d t G (e .start) +ℤ d (e .name)) × SFits w64 (requiredAt d t G (e .end) -ℤ d (e .name)) × SFits w64 (earliestAt d G (e .start) +ℤ d (e .name))
     sums-fit room =
         let under : B * level (e .end) ≤ B * top = mul-le-mul-left B (L .under e m) in
         let below : B * (top - level (e .start)) ≤ B * top = mul-le-mul-left B (omega arith) in (
           fits (arrivalAt d t G (e .start) +ℤ d (e .name)) (omega (arith, arrival-sum-size)),
           fits (requiredAt d t G (e .end) -ℤ d (e .name)) (omega (arith, required-sum-size, abs-near t (requiredAt d t G (e .end) -ℤ d (e .name)))),
+          fits (earliestAt d G (e .start) +ℤ d (e .name)) (omega (arith, earliest-sum-size)),
         )
 
 -- document 01's limits leave this room, over copy numbers

@@ -16,16 +16,16 @@ use lib.Signed.{ltZ}
 use borrow.Author.Tests.{eq-eqb, ne-eqb}
 use Rattle.timing.specs.Lists.{keep, upto}
 use Rattle.timing.specs.Graphs.{Edge, edge, Graph, edgesIn, edgesOut, startsAt, endsAt}
-use Rattle.timing.specs.Times.{larger, smaller, largest, smallest, arrivalAt, requiredAt, slackAt}
+use Rattle.timing.specs.Times.{smaller, largest, smallest, arrivalAt, requiredAt, slackAt, earliestAt}
 use Rattle.timing.specs.Calls.{GraphSlices, graphOf}
-use Rattle.timing.proofs.Ints.{up, sub-parts, abs-is, eq-parts, ltZ-false}
+use Rattle.timing.proofs.Ints.{up, sub-parts, abs-is, eq-parts, ltZ-true, ltZ-false}
 use Rattle.theorems.proofs.Sorting.{Sorted}
 use Rattle.theorems.proofs.Counting.{next-sorted}
 use Rattle.theorems.proofs.Lists.{getD-mem}
 use Rattle.theorems.proofs.Runs.{Rising}
-use Rattle.theorems.proofs.Extremes.{AtMost, AtLeast, Some, nil-or-some, larges, smalls}
-use Rattle.theorems.proofs.Times.{Levels, copy-levels, arrival-size, required-size, arrival-source, arrival-edges, required-end, required-edges}
-use Rattle.times.specs.Passes.{noArrival, noRequired, timeOr, Step, raised, lowered, delayOf, edgeAt, Fit, Small}
+use Rattle.theorems.proofs.Extremes.{AtMost, AtLeast, Picks, Some, nil-or-some, larges, smalls}
+use Rattle.theorems.proofs.Times.{Levels, copy-levels, arrival-size, required-size, earliest-size, arrival-source, arrival-edges, required-end, required-edges, earliest-source, earliest-edges}
+use Rattle.times.specs.Passes.{noArrival, noRequired, noEarliest, timeOr, Step, stepped, lowered, delayOf, edgeAt, Fit, Small}
 use Rattle.times.proofs.Elements.{size-each, at-each, set-each, each-same}
 use Rattle.times.proofs.Lists.{nil-is, keep-front, keep-back, keep-yes, keep-no, later, earlier, length-edges, getD-edges, best-snoc, best-cons, best-low, best-high}
 
@@ -37,6 +37,14 @@ or-there none first z f = go (ltZ z none) refl (ltZ none z) refl
     go true p b q = refl
     go false p true q = refl
     go false p false q = absurd (f (eq-parts z none (omega (arith, ltZ-false z none p, ltZ-false none z q))))
+
+-- and one that is not
+or-first : (none first : ℤ) → timeOr none first none ≡ first
+or-first none first = go (ltZ none none) refl
+  where
+    go : (a : Bool) → ltZ none none ≡ a → cond a none (cond a none first) ≡ first
+    go true p = absurd (omega (arith, ltZ-true none none p))
+    go false p = refl
 
 -- no time comes near the numbers that stand for none
 far-below : (z : ℤ) → natAbs z ≤ 20000000000 → AtMost noArrival z
@@ -72,17 +80,23 @@ small-each f n h = record { bound = λ c. go c (decLt c n) }
 abbrev noLater : Edge → Edge → Bool
 noLater e f = leb (e .end) (f .end)
 
--- what an edge gives its end for arrival, and its start for required time
+-- what an edge gives its end, where `at` is a time of each copy, and its start for required time
 module _ (delays : List ℤ) (S : GraphSlices) where
-  unfoldable pub overIn : Edge → ℤ
-  overIn e = arrivalAt (delayOf delays) (pos 0) (graphOf S) (e .start) +ℤ delayOf delays (e .name)
+  unfoldable pub overIn : (ℕ → ℤ) → Edge → ℤ
+  overIn at e = at (e .start) +ℤ delayOf delays (e .name)
 
   unfoldable pub overOut : ℕ → Edge → ℤ
   overOut t e = requiredAt (delayOf delays) (pos t) (graphOf S) (e .end) -ℤ delayOf delays (e .name)
 
-  -- the arrival at copy c after the first k edges, and its required time after the edges from k on
+  -- the best time at copy c after the first k edges, where `none` stands for no time yet; and its required time after the edges from k on
+  abbrev pub bestAfter : (List ℤ → ℤ) → ℤ → (ℕ → ℤ) → ℕ → ℕ → ℤ
+  bestAfter best none at k c = best (none ∷ map (overIn at) (keep (λ e. eqb (e .end) c) (take k (graphOf S .edges))))
+
   abbrev pub arrivalAfter : ℕ → ℕ → ℤ
-  arrivalAfter k c = largest (noArrival ∷ map overIn (keep (λ e. eqb (e .end) c) (take k (graphOf S .edges))))
+  arrivalAfter = bestAfter largest noArrival (arrivalAt (delayOf delays) (pos 0) (graphOf S))
+
+  abbrev pub earliestAfter : ℕ → ℕ → ℤ
+  earliestAfter = bestAfter smallest noEarliest (earliestAt (delayOf delays) (graphOf S))
 
   abbrev pub requiredFrom : ℕ → ℕ → ℕ → ℤ
   requiredFrom t k c = smallest (map (overOut t) (keep (λ e. eqb (e .start) c) (drop k (graphOf S .edges))) ++ (noRequired ∷ []))
@@ -101,7 +115,7 @@ module _ (delays : List ℤ) (S : GraphSlices) (F : Fit delays S) where
   rising = record { up = F .up; inside = F .inside }
 
   levels : Levels d (graphOf S) 1000000 (λ c. c) (n - 1)
-  levels = copy-levels d (graphOf S) 1000000 rising (F .slow)
+  levels = copy-levels d (graphOf S) 1000000 rising (F .range)
 
   sorted : Sorted noLater (graphOf S .edges)
   sorted = next-sorted noLater (λ x y z p q. le→leb (x .end) (z .end) (omega (arith, leb→le (x .end) (y .end) p, leb→le (y .end) (z .end) q))) (graphOf S .edges) (F .order)
@@ -127,7 +141,7 @@ module _ (delays : List ℤ) (S : GraphSlices) (F : Fit delays S) where
     start-in = omega (arith, F .up (edgeAt S k) edge-in, end-in)
 
     pub delay-small : natAbs (d (getD (S .names) k 0)) ≤ 1000000
-    delay-small = F .slow (edgeAt S k) edge-in
+    delay-small = F .range (edgeAt S k) edge-in
 
     front : take (k + 1) (graphOf S .edges) ≡ take k (graphOf S .edges) ++ (edgeAt S k ∷ [])
     front = rw (add-one k) (take-suc (graphOf S .edges) k (edge 0 0 0) inner ∙ ap (λ (e : Edge). take k (graphOf S .edges) ++ (e ∷ [])) edge-is)
@@ -171,80 +185,109 @@ module _ (delays : List ℤ) (S : GraphSlices) (F : Fit delays S) where
             (λ (r : List·Memᴰ y (edgeAt S k ∷ [])). ⊎-elim (λ (q : y ≡ edgeAt S k). rw q (omega arith, F .up (edgeAt S k) edge-in)) (λ z. absurd (List·Memᴰ·not-nil z)) (List·Memᴰ·cases-cons r))
             (List·Memᴰ·append-cases (take k (graphOf S .edges)) (subst (λ (l : List Edge). List·Memᴰ y l) front m))
 
-  -- arrivals
-  abbrev inSum : Edge → ℤ
-  inSum = overIn delays S
+  -- A pass from the first edge to the last, which leaves at each copy the best delay of the runs to it, by any order: arrivals by the larger,
+  -- earliest arrivals by the smaller. `at` is the time of each copy by its definition; it is 0 where paths start and goes by its recurrence
+  -- elsewhere, and it never comes near `none`.
+  pub record Forward {le : ℤ → ℤ → Type 0} {pick : ℤ → ℤ → ℤ} {best : List ℤ → ℤ} (K : Picks le pick best) (none : ℤ) (at : ℕ → ℤ) : Type 0 where
+    far : (z : ℤ) → natAbs z ≤ 20000000000 → le none z
+    other : (z : ℤ) → natAbs z ≤ 20000000000 → z ≡ none → ⊥
+    pub small : (c : ℕ) → c < n → natAbs (at c) ≤ 20000000000
+    source : (c : ℕ) → c < n → T (startsAt (graphOf S) c) → at c ≡ pos 0
+    edges : (c : ℕ) → c < n → Some (edgesIn (graphOf S) c) → at c ≡ best (map (λ e. at (e .start) +ℤ d (e .name)) (edgesIn (graphOf S) c))
 
-  abbrev reached : ℕ → ℕ → ℤ
-  reached = arrivalAfter delays S
+  module _ {le : ℤ → ℤ → Type 0} {pick : ℤ → ℤ → ℤ} {best : List ℤ → ℤ} {K : Picks le pick best} {none : ℤ} {at : ℕ → ℤ} (W : Forward K none at) where
+    abbrev inSum : Edge → ℤ
+    inSum = overIn delays S at
 
-  arrival-small : (c : ℕ) → c < n → natAbs (arrivalAt d (pos 0) (graphOf S) c) ≤ 20000000000
-  arrival-small c h = omega (arith, arrival-size d (pos 0) (graphOf S) rising 1000000 (λ c. c) (n - 1) levels c h, F .copies)
+    abbrev reached : ℕ → ℕ → ℤ
+    reached = bestAfter delays S best none at
 
-  settled-arrival : (c : ℕ) → c < n → timeOr noArrival (pos 0) (largest (noArrival ∷ map inSum (edgesIn (graphOf S) c))) ≡ arrivalAt d (pos 0) (graphOf S) c
-  unfolding overIn
-  settled-arrival c h = ⊎-elim none some (nil-or-some (edgesIn (graphOf S) c))
-    where
-      A : ℤ
-      A = arrivalAt d (pos 0) (graphOf S) c
+    settled-to : (c : ℕ) → c < n → timeOr none (pos 0) (best (none ∷ map inSum (edgesIn (graphOf S) c))) ≡ at c
+    unfolding overIn
+    settled-to c h = ⊎-elim first some (nil-or-some (edgesIn (graphOf S) c))
+      where
+        first : T (startsAt (graphOf S) c) → timeOr none (pos 0) (best (none ∷ map inSum (edgesIn (graphOf S) c))) ≡ at c
+        first s =
+            ap (λ (l : List Edge). timeOr none (pos 0) (best (none ∷ map inSum l))) (nil-is (edgesIn (graphOf S) c) s)
+            ∙ ap (timeOr none (pos 0)) (K .one none)
+            ∙ or-first none (pos 0)
+            ∙ sym (W .source c h s)
 
-      none : T (startsAt (graphOf S) c) → timeOr noArrival (pos 0) (largest (noArrival ∷ map inSum (edgesIn (graphOf S) c))) ≡ arrivalAt d (pos 0) (graphOf S) c
-      none s =
-          ap (λ (l : List Edge). timeOr noArrival (pos 0) (largest (noArrival ∷ map inSum l))) (nil-is (edgesIn (graphOf S) c) s)
-          ∙ sym (arrival-source d (pos 0) (graphOf S) rising c h s)
+        some : Some (edgesIn (graphOf S) c) → timeOr none (pos 0) (best (none ∷ map inSum (edgesIn (graphOf S) c))) ≡ at c
+        some s =
+            let e = W .edges c h s in
+            let l = subst (le none) e (W .far (at c) (W .small c h)) in
+            ap (timeOr none (pos 0)) (best-low K none (map inSum (edgesIn (graphOf S) c)) (inSum (s .0), Memᴰ·map inSum (s .1)) l ∙ sym e)
+            ∙ or-there none (pos 0) (at c) (W .other (at c) (W .small c h))
 
-      some : Some (edgesIn (graphOf S) c) → timeOr noArrival (pos 0) (largest (noArrival ∷ map inSum (edgesIn (graphOf S) c))) ≡ arrivalAt d (pos 0) (graphOf S) c
-      some s =
-          let e = arrival-edges d (pos 0) (graphOf S) rising c h s in
-          let l = subst (AtMost noArrival) e (far-below (arrivalAt d (pos 0) (graphOf S) c) (arrival-small c h)) in
-          ap (timeOr noArrival (pos 0)) (best-low larges noArrival (map inSum (edgesIn (graphOf S) c)) (inSum (s .0), Memᴰ·map inSum (s .1)) l ∙ sym e)
-          ∙ or-there noArrival (pos 0) (arrivalAt d (pos 0) (graphOf S) c) (not-below (arrivalAt d (pos 0) (graphOf S) c) (arrival-small c h))
+    -- what the pass finds at the start of edge k
+    found-at : (k : ℕ) (h : k < length (S .starts)) → timeOr none (pos 0) (getD (map (reached k) (upto n 0)) (getD (S .starts) k 0) (pos 0)) ≡ at (getD (S .starts) k 0)
+    found-at k h =
+        ap (timeOr none (pos 0))
+        (at-each (pos 0) (reached k) n (getD (S .starts) k 0) (start-in k h) ∙ ap (λ (l : List Edge). best (none ∷ map inSum l)) (into-start k h))
+        ∙ settled-to (getD (S .starts) k 0) (start-in k h)
 
-  -- what the pass finds at the start of edge k
-  found-arrival : (k : ℕ) (h : k < length (S .starts)) → timeOr noArrival (pos 0) (getD (map (reached k) (upto n 0)) (getD (S .starts) k 0) (pos 0)) ≡ arrivalAt d (pos 0) (graphOf S) (getD (S .starts) k 0)
-  found-arrival k h =
-      ap (timeOr noArrival (pos 0))
-      (at-each (pos 0) (reached k) n (getD (S .starts) k 0) (start-in k h) ∙ ap (λ (l : List Edge). largest (noArrival ∷ map inSum l)) (into-start k h))
-      ∙ settled-arrival (getD (S .starts) k 0) (start-in k h)
+    -- before the first edge
+    pub none-reached : map (λ (c : ℕ). none) (upto n 0) ≡ map (reached 0) (upto n 0)
+    none-reached = each-same (pos 0) (λ c. none) (reached 0) n (λ c l. sym (K .one none))
 
-  pub raises-in : (k : ℕ) → k < length (S .starts)
-      → Step (timeOr noArrival (pos 0)) (map (reached k) (upto n 0)) (getD (S .starts) k 0) (getD (S .ends) k 0) (d (getD (S .names) k 0))
-  raises-in k h = record {
-    from-in = omega (arith, start-in k h, size-each (reached k) n);
-    to-in = omega (arith, end-in k h, size-each (reached k) n);
-    time = rw (found-arrival k h) (arrival-small (getD (S .starts) k 0) (start-in k h));
-    delay = delay-small k h;
+    pub step-in : (k : ℕ) → k < length (S .starts)
+        → Step (timeOr none (pos 0)) (map (reached k) (upto n 0)) (getD (S .starts) k 0) (getD (S .ends) k 0) (d (getD (S .names) k 0))
+    step-in k h = record {
+      from-in = omega (arith, start-in k h, size-each (reached k) n);
+      to-in = omega (arith, end-in k h, size-each (reached k) n);
+      time = rw (found-at k h) (W .small (getD (S .starts) k 0) (start-in k h));
+      delay = delay-small k h;
+    }
+
+    pub stepped-next : (k : ℕ) → k < length (S .starts)
+        → stepped pick none (map (reached k) (upto n 0)) (getD (S .starts) k 0) (getD (S .ends) k 0) (d (getD (S .names) k 0)) ≡ map (reached (k + 1)) (upto n 0)
+    unfolding stepped overIn
+    stepped-next k h =
+        set-each (pos 0) (reached k) (reached (k + 1)) n (getD (S .ends) k 0) _ (end-in k h)
+        (ap₂ pick (at-each (pos 0) (reached k) n (getD (S .ends) k 0) (end-in k h)) (ap (λ (z : ℤ). z +ℤ d (getD (S .names) k 0)) (found-at k h))
+        ∙ sym (best-snoc K inSum none (keep (to (getD (S .ends) k 0)) (take k (graphOf S .edges))) (edgeAt S k))
+        ∙ ap (λ (l : List Edge). best (none ∷ map inSum l))
+        (sym (ap (keep (to (getD (S .ends) k 0))) (front k h) ∙ keep-yes (to (getD (S .ends) k 0)) (take k (graphOf S .edges)) (edgeAt S k) (eq-eqb (getD (S .ends) k 0) (getD (S .ends) k 0) refl))))
+        (λ c f. ap (λ (l : List Edge). best (none ∷ map inSum l))
+        (sym (ap (keep (to c)) (front k h) ∙ keep-no (to c) (take k (graphOf S .edges)) (edgeAt S k) (ne-eqb (getD (S .ends) k 0) c (λ q. f (sym q))))))
+      where
+        to : ℕ → Edge → Bool
+        to c e = eqb (e .end) c
+
+    -- after the last edge
+    pub all-settled : (k : ℕ) → length (S .starts) ≤ k
+        → map (λ c. timeOr none (pos 0) (getD (map (reached k) (upto n 0)) c (pos 0))) (upto n 0) ≡ map at (upto n 0)
+    unfolding edgesIn
+    all-settled k h =
+        each-same (pos 0) (λ c. timeOr none (pos 0) (getD (map (reached k) (upto n 0)) c (pos 0))) at n
+        (λ c l.
+        ap (timeOr none (pos 0))
+        (at-each (pos 0) (reached k) n c l
+        ∙ ap (λ (es : List Edge). best (none ∷ map inSum (keep (λ e. eqb (e .end) c) es))) (take-all k (graphOf S .edges) (omega (arith, edges-size))))
+        ∙ settled-to c l)
+
+  -- the two
+  pub arrivals-pass : Forward larges noArrival (arrivalAt d (pos 0) (graphOf S))
+  arrivals-pass = record {
+    far = far-below;
+    other = not-below;
+    small = λ c h. omega (arith, arrival-size d (pos 0) (graphOf S) rising 1000000 (λ c. c) (n - 1) levels c h, F .copies);
+    source = arrival-source d (pos 0) (graphOf S) rising;
+    edges = arrival-edges d (pos 0) (graphOf S) rising;
   }
 
-  pub raised-next : (k : ℕ) → k < length (S .starts)
-      → raised (map (reached k) (upto n 0)) (getD (S .starts) k 0) (getD (S .ends) k 0) (d (getD (S .names) k 0)) ≡ map (reached (k + 1)) (upto n 0)
-  unfolding raised overIn
-  raised-next k h =
-      set-each (pos 0) (reached k) (reached (k + 1)) n (getD (S .ends) k 0) _ (end-in k h)
-      (ap₂ larger (at-each (pos 0) (reached k) n (getD (S .ends) k 0) (end-in k h)) (ap (λ (z : ℤ). z +ℤ d (getD (S .names) k 0)) (found-arrival k h))
-      ∙ sym (best-snoc larges inSum noArrival (keep (at (getD (S .ends) k 0)) (take k (graphOf S .edges))) (edgeAt S k))
-      ∙ ap (λ (l : List Edge). largest (noArrival ∷ map inSum l))
-      (sym (ap (keep (at (getD (S .ends) k 0))) (front k h) ∙ keep-yes (at (getD (S .ends) k 0)) (take k (graphOf S .edges)) (edgeAt S k) (eq-eqb (getD (S .ends) k 0) (getD (S .ends) k 0) refl))))
-      (λ c f. ap (λ (l : List Edge). largest (noArrival ∷ map inSum l))
-      (sym (ap (keep (at c)) (front k h) ∙ keep-no (at c) (take k (graphOf S .edges)) (edgeAt S k) (ne-eqb (getD (S .ends) k 0) c (λ q. f (sym q))))))
-    where
-      at : ℕ → Edge → Bool
-      at c e = eqb (e .end) c
-
-  -- after the last edge
-  pub arrivals-settled : (k : ℕ) → length (S .starts) ≤ k
-      → map (λ c. timeOr noArrival (pos 0) (getD (map (reached k) (upto n 0)) c (pos 0))) (upto n 0) ≡ map (arrivalAt d (pos 0) (graphOf S)) (upto n 0)
-  unfolding edgesIn
-  arrivals-settled k h =
-      each-same (pos 0) (λ c. timeOr noArrival (pos 0) (getD (map (reached k) (upto n 0)) c (pos 0))) (arrivalAt d (pos 0) (graphOf S)) n
-      (λ c l.
-      ap (timeOr noArrival (pos 0))
-      (at-each (pos 0) (reached k) n c l
-      ∙ ap (λ (es : List Edge). largest (noArrival ∷ map inSum (keep (λ e. eqb (e .end) c) es))) (take-all k (graphOf S .edges) (omega (arith, edges-size))))
-      ∙ settled-arrival c l)
+  pub earliests-pass : Forward smalls noEarliest (earliestAt d (graphOf S))
+  earliests-pass = record {
+    far = far-above;
+    other = not-above;
+    small = λ c h. omega (arith, earliest-size d (pos 0) (graphOf S) rising 1000000 (λ c. c) (n - 1) levels c h, F .copies);
+    source = earliest-source d (graphOf S) rising;
+    edges = earliest-edges d (graphOf S) rising;
+  }
 
   pub arrivals-small : Small (map (arrivalAt d (pos 0) (graphOf S)) (upto n 0))
-  arrivals-small = small-each (arrivalAt d (pos 0) (graphOf S)) n arrival-small
+  arrivals-small = small-each (arrivalAt d (pos 0) (graphOf S)) n (arrivals-pass .small)
 
   -- required times
   module _ (t : ℕ) (small : t ≤ 1000000000) where

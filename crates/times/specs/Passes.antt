@@ -9,15 +9,18 @@ use lib.ListN.{length, getD, set}
 use lib.Signed.{ltZ}
 use Rattle.timing.specs.Lists.{eachNext}
 use Rattle.timing.specs.Graphs.{Edge, edge}
-use Rattle.timing.specs.Times.{larger, smaller}
+use Rattle.timing.specs.Times.{smaller}
 use Rattle.timing.specs.Calls.{GraphSlices, graphOf}
 
--- no time yet: below every arrival, above every required time
+-- no time yet: below every arrival, above every required time and every earliest arrival
 abbrev pub noArrival : ℤ
 noArrival = negsuc 9223372036854775807
 
 abbrev pub noRequired : ℤ
 noRequired = pos 9223372036854775807
+
+abbrev pub noEarliest : ℤ
+noEarliest = noRequired
 
 -- a time, or the first one where there is none yet
 abbrev pub timeOr : ℤ → ℤ → ℤ → ℤ
@@ -30,10 +33,11 @@ pub record Step (read : ℤ → ℤ) (times : List ℤ) (from to : ℕ) (d : ℤ
   pub time : natAbs (read (getD times from (pos 0))) ≤ 20000000000
   pub delay : natAbs d ≤ 1000000
 
--- the arrivals after an edge from a to b of delay d, and the required times
-unfoldable pub raised : List ℤ → ℕ → ℕ → ℤ → List ℤ
-raised times a b d = set times b (larger (getD times b (pos 0)) (timeOr noArrival (pos 0) (getD times a (pos 0)) +ℤ d))
+-- the times after an edge from a to b of delay d: arrivals where `pick` is the larger of two, earliest arrivals where it is the smaller
+unfoldable pub stepped : (ℤ → ℤ → ℤ) → ℤ → List ℤ → ℕ → ℕ → ℤ → List ℤ
+stepped pick none times a b d = set times b (pick (getD times b (pos 0)) (timeOr none (pos 0) (getD times a (pos 0)) +ℤ d))
 
+-- the required times after it
 unfoldable pub lowered : ℤ → List ℤ → ℕ → ℕ → ℤ → List ℤ
 lowered allowed times a b d = set times a (smaller (timeOr noRequired allowed (getD times b (pos 0)) -ℤ d) (getD times a (pos 0)))
 
@@ -45,14 +49,14 @@ delayOf delays k = getD delays k (pos 0)
 abbrev pub edgeAt : GraphSlices → ℕ → Edge
 edgeAt S k = edge (getD (S .starts) k 0) (getD (S .ends) k 0) (getD (S .names) k 0)
 
--- What the passes ask of a design and a graph; every well-formed graph of a design that passes its tests has it.
+-- What the passes ask of one of the delays of a design and of a graph; every well-formed graph of a design that passes its tests has it.
 pub record Fit (delays : List ℤ) (S : GraphSlices) : Type 0 where
   pub ends : length (S .ends) ≡ length (S .starts)
   pub names : length (S .names) ≡ length (S .starts)
   pub copies : length (S .nodes) ≤ 16384
   pub up : (e : Edge) → List·Memᴰ e (graphOf S .edges) → e .start < e .end
   pub inside : (e : Edge) → List·Memᴰ e (graphOf S .edges) → e .end < length (S .nodes)
-  pub slow : (e : Edge) → List·Memᴰ e (graphOf S .edges) → natAbs (delayOf delays (e .name)) ≤ 1000000
+  pub range : (e : Edge) → List·Memᴰ e (graphOf S .edges) → natAbs (delayOf delays (e .name)) ≤ 1000000
   pub order : T (eachNext (λ (e f : Edge). leb (e .end) (f .end)) (graphOf S .edges))
 
 -- times that leave room for a sum

@@ -11,27 +11,28 @@ use Rattle.timing.specs.Lists.{keep, upto}
 use Rattle.timing.specs.Times.{larger, smaller, largest, smallest}
 
 -- the times of a node with one more copy
-abbrev pub withCopy : NodeTimes → ℤ → ℤ → ℤ → NodeTimes
-withCopy None a r s = Times a r s
-withCopy (Times a r s) b q t = Times (larger a b) (smaller r q) (smaller s t)
+abbrev pub withCopy : NodeTimes → ℤ → ℤ → ℤ → ℤ → NodeTimes
+withCopy None a r s e = Times a r s e
+withCopy (Times a r s e) b q t f = Times (larger a b) (smaller r q) (smaller s t) (smaller e f)
 
 -- copy c counts where it is one of node v
-abbrev pub gathered : List ℕ → List ℤ → List ℤ → List ℤ → ℕ → NodeTimes → ℕ → NodeTimes
-gathered nodes ats rts sts v t c =
-    cond (eqb (getD nodes c 0) v) (withCopy t (getD ats c (pos 0)) (getD rts c (pos 0)) (getD sts c (pos 0))) t
+abbrev pub gathered : List ℕ → List ℤ → List ℤ → List ℤ → List ℤ → ℕ → NodeTimes → ℕ → NodeTimes
+gathered nodes ats rts sts ets v t c =
+    cond (eqb (getD nodes c 0) v) (withCopy t (getD ats c (pos 0)) (getD rts c (pos 0)) (getD sts c (pos 0)) (getD ets c (pos 0))) t
 
 -- the times over some copies
-abbrev pub timesOf : List ℤ → List ℤ → List ℤ → List ℕ → NodeTimes
-timesOf ats rts sts [] = None
-timesOf ats rts sts (c ∷ cs) =
+abbrev pub timesOf : List ℤ → List ℤ → List ℤ → List ℤ → List ℕ → NodeTimes
+timesOf ats rts sts ets [] = None
+timesOf ats rts sts ets (c ∷ cs) =
     Times
     (largest (map (λ i. getD ats i (pos 0)) (c ∷ cs)))
     (smallest (map (λ i. getD rts i (pos 0)) (c ∷ cs)))
     (smallest (map (λ i. getD sts i (pos 0)) (c ∷ cs)))
+    (smallest (map (λ i. getD ets i (pos 0)) (c ∷ cs)))
 
 -- the times of node v over the copies below c
-abbrev pub nodeSoFar : List ℕ → List ℤ → List ℤ → List ℤ → ℕ → ℕ → NodeTimes
-nodeSoFar nodes ats rts sts c v = timesOf ats rts sts (keep (λ i. eqb (getD nodes i 0) v) (upto c 0))
+abbrev pub nodeSoFar : List ℕ → List ℤ → List ℤ → List ℤ → List ℤ → ℕ → ℕ → NodeTimes
+nodeSoFar nodes ats rts sts ets c v = timesOf ats rts sts ets (keep (λ i. eqb (getD nodes i 0) v) (upto c 0))
 
 -- a time of a node with one more copy whose time is t: the first one counts, and then the better one
 abbrev pub firstOr : (ℤ → ℤ → ℤ) → ℕ → ℤ → ℤ → ℤ

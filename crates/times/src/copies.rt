@@ -1,4 +1,4 @@
-// The three times of every copy.
+// The four times of every copy.
 ghost use mathlib.Core.Path.{_≡_};
 ghost use Prim.Native.Nat.{ℕ, _≤_};
 ghost use mathlib.Core.List.{map};
@@ -6,8 +6,9 @@ ghost use lib.IntN.{pos, _-ℤ_};
 ghost use lib.ListN.{length, getD};
 ghost use Rattle.timing.specs.Lists.{upto};
 ghost use Rattle.timing.specs.Graphs.{design};
-ghost use Rattle.timing.specs.Times.{arrivalAt, requiredAt, slackAt};
-ghost use Rattle.timing.specs.Calls.{graphSlices, graphOf, testTimes, arrivalsAfter, requiredsAfter, slacksAfter};
+ghost use Rattle.timing.specs.Times.{arrivalAt, requiredAt, slackAt, earliestAt};
+ghost use Rattle.timing.specs.Calls.{graphSlices, graphOf, testTimes};
+ghost use Rattle.timing.specs.Calls.{arrivalsAfter, requiredsAfter, slacksAfter, earliestsAfter};
 ghost use Rattle.times.specs.Passes.{delayOf, Fit, Small};
 use crate::arrivals::fill_arrivals;
 use crate::numbers::less;
@@ -34,7 +35,8 @@ fn fill_slacks(arrivals: &[i64], requireds: &[i64], slacks: &mut [i64])
 
 // The times of a graph that passed its tests.
 fn fill_times(
-    delays: &[i32],
+    early: &[i32],
+    late: &[i32],
     nodes: &[u32],
     from: &[u32],
     to: &[u32],
@@ -43,23 +45,26 @@ fn fill_times(
     arrivals: &mut [i64],
     requireds: &mut [i64],
     slacks: &mut [i64],
+    earliests: &mut [i64],
 )
     requires { let S = graphSlices (now nodes) (now from) (now to) (now via) in
-        ⌜ Fit (now delays) S × (allowed ≤ 1000000000) ⌝ }
+        ⌜ Fit (now late) S × Fit (now early) S × (allowed ≤ 1000000000) ⌝ }
     requires { let copies = length (now nodes) in
         ⌜ (length (now arrivals) ≡ copies)
         × (length (now requireds) ≡ copies)
-        × (length (now slacks) ≡ copies) ⌝ }
+        × (length (now slacks) ≡ copies)
+        × (length (now earliests) ≡ copies) ⌝ }
     ensures { λ r.
         let S = graphSlices (now (nodes .entry)) (now (from .entry)) (now (to .entry)) (now (via .entry)) in
-        let delay = delayOf (now (delays .entry)) in
+        let delay = delayOf (now (late .entry)) in
         let copies = upto (length (S .nodes)) 0 in
         ⌜ (now (arrivals .exit) ≡ map (arrivalAt delay (pos allowed) (graphOf S)) copies)
         × (now (requireds .exit) ≡ map (requiredAt delay (pos allowed) (graphOf S)) copies)
-        × (now (slacks .exit) ≡ map (slackAt delay (pos allowed) (graphOf S)) copies) ⌝ }
+        × (now (slacks .exit) ≡ map (slackAt delay (pos allowed) (graphOf S)) copies)
+        × (now (earliests .exit) ≡ map (earliestAt (delayOf (now (early .entry))) (graphOf S)) copies) ⌝ }
 {
-    fill_arrivals(delays, nodes, from, to, via, arrivals);
-    fill_requireds(delays, nodes, from, to, via, allowed, requireds);
+    fill_arrivals(early, late, nodes, from, to, via, arrivals, earliests);
+    fill_requireds(late, nodes, from, to, via, allowed, requireds);
     fill_slacks(arrivals, requireds, slacks);
 }
 
@@ -69,7 +74,8 @@ pub(crate) fn times_where(
     n: u32,
     starts: &[u32],
     ends: &[u32],
-    delays: &[i32],
+    early: &[i32],
+    late: &[i32],
     allowed: u32,
     nodes: &[u32],
     from: &[u32],
@@ -78,22 +84,26 @@ pub(crate) fn times_where(
     arrivals: &mut [i64],
     requireds: &mut [i64],
     slacks: &mut [i64],
+    earliests: &mut [i64],
 ) -> Verdict
-    requires { let D = design n (now starts) (now ends) (now delays) in
+    requires { let D = design n (now starts) (now ends) (now early) (now late) in
         let S = graphSlices (now nodes) (now from) (now to) (now via) in
-        ⌜ tested ≡ testTimes D S allowed (length (now arrivals)) (length (now requireds)) (length (now slacks)) ⌝ }
+        ⌜ tested ≡ testTimes D S allowed
+        (length (now arrivals)) (length (now requireds)) (length (now slacks)) (length (now earliests)) ⌝ }
     ensures { λ r.
-        let D = design n (now (starts .entry)) (now (ends .entry)) (now (delays .entry)) in
+        let D = design n (now (starts .entry)) (now (ends .entry)) (now (early .entry)) (now (late .entry)) in
         let S = graphSlices (now (nodes .entry)) (now (from .entry)) (now (to .entry)) (now (via .entry)) in
         ⌜ (r ≡ tested)
         × (now (arrivals .exit) ≡ arrivalsAfter D S allowed tested (now (arrivals .entry)))
         × (now (requireds .exit) ≡ requiredsAfter D S allowed tested (now (requireds .entry)))
-        × (now (slacks .exit) ≡ slacksAfter D S allowed tested (now (slacks .entry))) ⌝ }
+        × (now (slacks .exit) ≡ slacksAfter D S allowed tested (now (slacks .entry)))
+        × (now (earliests .exit) ≡ earliestsAfter D S tested (now (earliests .entry))) ⌝ }
 {
     match tested {
         Verdict::Passed => {
             fill_times(
-                delays,
+                early,
+                late,
                 nodes,
                 from,
                 to,
@@ -102,6 +112,7 @@ pub(crate) fn times_where(
                 arrivals,
                 requireds,
                 slacks,
+                earliests,
             );
             Verdict::Passed
         }

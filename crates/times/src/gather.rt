@@ -1,5 +1,5 @@
-// The records of all nodes, in one pass over the copies. Each node has a place in four slices:
-// whether a copy of it was met (1 or 0), and its three times over the copies met so far.
+// The records of all nodes, in one pass over the copies. Each node has a place in five slices:
+// whether a copy of it was met (1 or 0), and its four times over the copies met so far.
 ghost use mathlib.Core.Path.{_≡_};
 ghost use Prim.Native.Nat.{ℕ};
 ghost use mathlib.Core.List.{map};
@@ -7,7 +7,7 @@ ghost use lib.IntN.{pos};
 ghost use lib.ListN.{length, getD, set};
 ghost use Rattle.timing.specs.Lists.{upto};
 ghost use Rattle.timing.specs.Times.{larger as largerTime, smaller as smallerTime};
-ghost use Rattle.timing.specs.Calls.{testRecords, hasTimes, arrivalOf, requiredOf, slackOf, recordsAfter};
+ghost use Rattle.timing.specs.Calls.{testRecords, hasTimes, arrivalOf, requiredOf, slackOf, earliestOf, recordsAfter};
 ghost use Rattle.times.specs.Records.{firstOr, bettered, nodeSoFar};
 use crate::places::fill;
 use entries::number_at;
@@ -72,10 +72,12 @@ fn count_copy(
     arrivals: &[i64],
     requireds: &[i64],
     slacks: &[i64],
+    earliests: &[i64],
     known: &mut [u32],
     na: &mut [i64],
     nr: &mut [i64],
     ns: &mut [i64],
+    ne: &mut [i64],
     c: usize,
 )
     ensures { λ r.
@@ -84,12 +86,14 @@ fn count_copy(
         ⌜ (now (known .exit) ≡ set met v 1)
         × (now (na .exit) ≡ bettered largerTime met (now (na .entry)) v (getD (now (arrivals .entry)) c (pos 0)))
         × (now (nr .exit) ≡ bettered smallerTime met (now (nr .entry)) v (getD (now (requireds .entry)) c (pos 0)))
-        × (now (ns .exit) ≡ bettered smallerTime met (now (ns .entry)) v (getD (now (slacks .entry)) c (pos 0))) ⌝ }
+        × (now (ns .exit) ≡ bettered smallerTime met (now (ns .entry)) v (getD (now (slacks .entry)) c (pos 0)))
+        × (now (ne .exit) ≡ bettered smallerTime met (now (ne .entry)) v (getD (now (earliests .entry)) c (pos 0))) ⌝ }
 {
     let v = number_at(nodes, c) as usize;
     raise_node(known, na, v, time_at(arrivals, c));
     lower_node(known, nr, v, time_at(requireds, c));
     lower_node(known, ns, v, time_at(slacks, c));
+    lower_node(known, ne, v, time_at(earliests, c));
     copy_met(known, v);
 }
 
@@ -98,33 +102,51 @@ fn fill_records(
     arrivals: &[i64],
     requireds: &[i64],
     slacks: &[i64],
+    earliests: &[i64],
     known: &mut [u32],
     na: &mut [i64],
     nr: &mut [i64],
     ns: &mut [i64],
+    ne: &mut [i64],
 )
     requires { let places = length (now known) in
         ⌜ (length (now na) ≡ places)
         × (length (now nr) ≡ places)
-        × (length (now ns) ≡ places) ⌝ }
+        × (length (now ns) ≡ places)
+        × (length (now ne) ≡ places) ⌝ }
     ensures { λ r.
         let ats = now (arrivals .entry) in
         let rts = now (requireds .entry) in
         let sts = now (slacks .entry) in
-        let times = nodeSoFar (now (nodes .entry)) ats rts sts (length (now (nodes .entry))) in
+        let ets = now (earliests .entry) in
+        let times = nodeSoFar (now (nodes .entry)) ats rts sts ets (length (now (nodes .entry))) in
         let all = upto (length (now (known .entry))) 0 in
         ⌜ (now (known .exit) ≡ map (λ (v : ℕ). hasTimes (times v)) all)
         × (now (na .exit) ≡ map (λ (v : ℕ). arrivalOf (times v)) all)
         × (now (nr .exit) ≡ map (λ (v : ℕ). requiredOf (times v)) all)
-        × (now (ns .exit) ≡ map (λ (v : ℕ). slackOf (times v)) all) ⌝ }
+        × (now (ns .exit) ≡ map (λ (v : ℕ). slackOf (times v)) all)
+        × (now (ne .exit) ≡ map (λ (v : ℕ). earliestOf (times v)) all) ⌝ }
 {
     no_copy_met(known);
     fill(na, 0);
     fill(nr, 0);
     fill(ns, 0);
+    fill(ne, 0);
     let mut c = 0;
     while c < nodes.len() {
-        count_copy(nodes, arrivals, requireds, slacks, known, na, nr, ns, c);
+        count_copy(
+            nodes,
+            arrivals,
+            requireds,
+            slacks,
+            earliests,
+            known,
+            na,
+            nr,
+            ns,
+            ne,
+            c,
+        );
         c += 1;
     }
 }
@@ -137,27 +159,42 @@ pub(crate) fn records_where(
     arrivals: &[i64],
     requireds: &[i64],
     slacks: &[i64],
+    earliests: &[i64],
     known: &mut [u32],
     na: &mut [i64],
     nr: &mut [i64],
     ns: &mut [i64],
+    ne: &mut [i64],
 ) -> Verdict
     requires { ⌜ tested
-        ≡ testRecords n (now nodes) (now arrivals) (now requireds) (now slacks)
-        (length (now known)) (length (now na)) (length (now nr)) (length (now ns)) ⌝ }
+        ≡ testRecords n (now nodes) (now arrivals) (now requireds) (now slacks) (now earliests)
+        (length (now known)) (length (now na)) (length (now nr)) (length (now ns)) (length (now ne)) ⌝ }
     ensures { λ r.
         let ats = now (arrivals .entry) in
         let rts = now (requireds .entry) in
         let sts = now (slacks .entry) in
+        let ets = now (earliests .entry) in
         ⌜ (r ≡ tested)
-        × (now (known .exit) ≡ recordsAfter hasTimes n (now (nodes .entry)) ats rts sts tested (now (known .entry)))
-        × (now (na .exit) ≡ recordsAfter arrivalOf n (now (nodes .entry)) ats rts sts tested (now (na .entry)))
-        × (now (nr .exit) ≡ recordsAfter requiredOf n (now (nodes .entry)) ats rts sts tested (now (nr .entry)))
-        × (now (ns .exit) ≡ recordsAfter slackOf n (now (nodes .entry)) ats rts sts tested (now (ns .entry))) ⌝ }
+        × (now (known .exit) ≡ recordsAfter hasTimes n (now (nodes .entry)) ats rts sts ets tested (now (known .entry)))
+        × (now (na .exit) ≡ recordsAfter arrivalOf n (now (nodes .entry)) ats rts sts ets tested (now (na .entry)))
+        × (now (nr .exit) ≡ recordsAfter requiredOf n (now (nodes .entry)) ats rts sts ets tested (now (nr .entry)))
+        × (now (ns .exit) ≡ recordsAfter slackOf n (now (nodes .entry)) ats rts sts ets tested (now (ns .entry)))
+        × (now (ne .exit) ≡ recordsAfter earliestOf n (now (nodes .entry)) ats rts sts ets tested (now (ne .entry))) ⌝ }
 {
     match tested {
         Verdict::Passed => {
-            fill_records(nodes, arrivals, requireds, slacks, known, na, nr, ns);
+            fill_records(
+                nodes,
+                arrivals,
+                requireds,
+                slacks,
+                earliests,
+                known,
+                na,
+                nr,
+                ns,
+                ne,
+            );
             Verdict::Passed
         }
         Verdict::Refused(r) => Verdict::Refused(r),

@@ -1,14 +1,14 @@
 // Times at copies, and the records of nodes.
 //
-// `times` tests what it is lent (`tests`), and then fills the three slices (`copies`): arrivals by
-// one pass over the edges (`arrivals`), required times by one pass back (`requireds`), and slacks
-// from the two. `node_record` goes over the copies for the times of one node (`node`),
-// and `node_records` goes over them once for all nodes (`gather`).
+// `times` tests what it is lent (`tests`), and then fills the four slices (`copies`): arrivals and
+// earliest arrivals by one pass over the edges (`arrivals`), required times by one pass back
+// (`requireds`), and slacks from arrivals and required times. `node_record` goes over the copies for
+// the times of one node (`node`), and `node_records` goes over them once for all nodes (`gather`).
 ghost use mathlib.Core.Path.{_≡_};
 ghost use lib.ListN.{length};
 ghost use Rattle.timing.specs.Graphs.{design};
-ghost use Rattle.timing.specs.Calls.{graphSlices, testTimes, arrivalsAfter, requiredsAfter, slacksAfter, recordOf};
-ghost use Rattle.timing.specs.Calls.{testRecords, hasTimes, arrivalOf, requiredOf, slackOf, recordsAfter};
+ghost use Rattle.timing.specs.Calls.{graphSlices, testTimes, arrivalsAfter, requiredsAfter, slacksAfter, earliestsAfter};
+ghost use Rattle.timing.specs.Calls.{recordOf, testRecords, hasTimes, arrivalOf, requiredOf, slackOf, earliestOf, recordsAfter};
 
 mod arrivals;
 mod copies;
@@ -29,13 +29,15 @@ use timing::NodeAnswer;
 use timing::NodeRecord;
 use timing::Verdict;
 
-// The arrival, the required time and the slack of every copy of a true graph (`from`, `to`, `via`:
-// the start copies, end copies and design edges of its edges). A refusal changes nothing.
+// The arrival, the required time, the slack and the earliest arrival of every copy of a true graph
+// (`from`, `to`, `via`: the start copies, end copies and design edges of its edges). A refusal
+// changes nothing.
 pub fn times(
     n: u32,
     starts: &[u32],
     ends: &[u32],
-    delays: &[i32],
+    early: &[i32],
+    late: &[i32],
     allowed: u32,
     nodes: &[u32],
     from: &[u32],
@@ -44,22 +46,26 @@ pub fn times(
     arrivals: &mut [i64],
     requireds: &mut [i64],
     slacks: &mut [i64],
+    earliests: &mut [i64],
 ) -> Verdict
     ensures { λ r.
-        let D = design n (now (starts .entry)) (now (ends .entry)) (now (delays .entry)) in
+        let D = design n (now (starts .entry)) (now (ends .entry)) (now (early .entry)) (now (late .entry)) in
         let S = graphSlices (now (nodes .entry)) (now (from .entry)) (now (to .entry)) (now (via .entry)) in
         let tested = testTimes D S allowed
-        (length (now (arrivals .entry))) (length (now (requireds .entry))) (length (now (slacks .entry))) in
+        (length (now (arrivals .entry))) (length (now (requireds .entry)))
+        (length (now (slacks .entry))) (length (now (earliests .entry))) in
         ⌜ (r ≡ tested)
         × (now (arrivals .exit) ≡ arrivalsAfter D S allowed tested (now (arrivals .entry)))
         × (now (requireds .exit) ≡ requiredsAfter D S allowed tested (now (requireds .entry)))
-        × (now (slacks .exit) ≡ slacksAfter D S allowed tested (now (slacks .entry))) ⌝ }
+        × (now (slacks .exit) ≡ slacksAfter D S allowed tested (now (slacks .entry)))
+        × (now (earliests .exit) ≡ earliestsAfter D S tested (now (earliests .entry))) ⌝ }
 {
     let tested = times_tests(
         n,
         starts,
         ends,
-        delays,
+        early,
+        late,
         allowed,
         nodes,
         from,
@@ -68,13 +74,15 @@ pub fn times(
         arrivals.len(),
         requireds.len(),
         slacks.len(),
+        earliests.len(),
     );
     times_where(
         tested,
         n,
         starts,
         ends,
-        delays,
+        early,
+        late,
         allowed,
         nodes,
         from,
@@ -83,23 +91,26 @@ pub fn times(
         arrivals,
         requireds,
         slacks,
+        earliests,
     )
 }
 
-// The record of node `v`, from n and the node and the three times of each copy.
+// The record of node `v`, from n and the node and the four times of each copy.
 pub fn node_record(
     n: u32,
     nodes: &[u32],
     arrivals: &[i64],
     requireds: &[i64],
     slacks: &[i64],
+    earliests: &[i64],
     v: u32,
 ) -> NodeAnswer
     ensures { λ r.
         let ats = now (arrivals .entry) in
         let rts = now (requireds .entry) in
         let sts = now (slacks .entry) in
-        ⌜ r ≡ recordOf n (now (nodes .entry)) ats rts sts v ⌝ }
+        let ets = now (earliests .entry) in
+        ⌜ r ≡ recordOf n (now (nodes .entry)) ats rts sts ets v ⌝ }
 {
     let fit = record_tests(
         n,
@@ -107,43 +118,48 @@ pub fn node_record(
         arrivals.len(),
         requireds.len(),
         slacks.len(),
+        earliests.len(),
     );
     match fit {
         Verdict::Passed => {
-            let times = node_times(n, nodes, arrivals, requireds, slacks, v);
+            let times = node_times(n, nodes, arrivals, requireds, slacks, earliests, v);
             NodeAnswer::Record(NodeRecord { node: v, times })
         }
         Verdict::Refused(r) => NodeAnswer::Refused(r),
     }
 }
 
-// The records of all nodes, from n and the node and the three times of each copy, in one pass over
+// The records of all nodes, from n and the node and the four times of each copy, in one pass over
 // the copies. Each lent slice has one place for each node: `known` says 1 where the node has times
-// and 0 where it has none, and `na`, `nr`, `ns` are its arrival, required time and slack, or 0.
-// A refusal changes nothing.
+// and 0 where it has none, and `na`, `nr`, `ns`, `ne` are its arrival, required time, slack and
+// earliest arrival, or 0. A refusal changes nothing.
 pub fn node_records(
     n: u32,
     nodes: &[u32],
     arrivals: &[i64],
     requireds: &[i64],
     slacks: &[i64],
+    earliests: &[i64],
     known: &mut [u32],
     na: &mut [i64],
     nr: &mut [i64],
     ns: &mut [i64],
+    ne: &mut [i64],
 ) -> Verdict
     ensures { λ r.
         let ats = now (arrivals .entry) in
         let rts = now (requireds .entry) in
         let sts = now (slacks .entry) in
-        let tested = testRecords n (now (nodes .entry)) ats rts sts
-        (length (now (known .entry))) (length (now (na .entry)))
-        (length (now (nr .entry))) (length (now (ns .entry))) in
+        let ets = now (earliests .entry) in
+        let tested = testRecords n (now (nodes .entry)) ats rts sts ets
+        (length (now (known .entry))) (length (now (na .entry))) (length (now (nr .entry)))
+        (length (now (ns .entry))) (length (now (ne .entry))) in
         ⌜ (r ≡ tested)
-        × (now (known .exit) ≡ recordsAfter hasTimes n (now (nodes .entry)) ats rts sts tested (now (known .entry)))
-        × (now (na .exit) ≡ recordsAfter arrivalOf n (now (nodes .entry)) ats rts sts tested (now (na .entry)))
-        × (now (nr .exit) ≡ recordsAfter requiredOf n (now (nodes .entry)) ats rts sts tested (now (nr .entry)))
-        × (now (ns .exit) ≡ recordsAfter slackOf n (now (nodes .entry)) ats rts sts tested (now (ns .entry))) ⌝ }
+        × (now (known .exit) ≡ recordsAfter hasTimes n (now (nodes .entry)) ats rts sts ets tested (now (known .entry)))
+        × (now (na .exit) ≡ recordsAfter arrivalOf n (now (nodes .entry)) ats rts sts ets tested (now (na .entry)))
+        × (now (nr .exit) ≡ recordsAfter requiredOf n (now (nodes .entry)) ats rts sts ets tested (now (nr .entry)))
+        × (now (ns .exit) ≡ recordsAfter slackOf n (now (nodes .entry)) ats rts sts ets tested (now (ns .entry)))
+        × (now (ne .exit) ≡ recordsAfter earliestOf n (now (nodes .entry)) ats rts sts ets tested (now (ne .entry))) ⌝ }
 {
     let tested = records_tests(
         n,
@@ -151,10 +167,12 @@ pub fn node_records(
         arrivals.len(),
         requireds.len(),
         slacks.len(),
+        earliests.len(),
         known.len(),
         na.len(),
         nr.len(),
         ns.len(),
+        ne.len(),
     );
     records_where(
         tested,
@@ -163,9 +181,11 @@ pub fn node_records(
         arrivals,
         requireds,
         slacks,
+        earliests,
         known,
         na,
         nr,
         ns,
+        ne,
     )
 }

@@ -13,23 +13,26 @@ use extremes::smaller;
 use timing::NodeTimes;
 
 // The times of a node with one more copy.
-fn with_copy(t: NodeTimes, arrival: i64, required: i64, slack: i64) -> NodeTimes
-    ensures { λ r. ⌜ r ≡ withCopy t arrival required slack ⌝ }
+fn with_copy(t: NodeTimes, arrival: i64, required: i64, slack: i64, earliest: i64) -> NodeTimes
+    ensures { λ r. ⌜ r ≡ withCopy t arrival required slack earliest ⌝ }
 {
     match t {
         NodeTimes::None => NodeTimes::Times {
             arrival,
             required,
             slack,
+            earliest,
         },
         NodeTimes::Times {
             arrival: a,
             required: r,
             slack: s,
+            earliest: e,
         } => NodeTimes::Times {
             arrival: larger(a, arrival),
             required: smaller(r, required),
             slack: smaller(s, slack),
+            earliest: smaller(e, earliest),
         },
     }
 }
@@ -41,6 +44,7 @@ fn next_copy(
     arrivals: &[i64],
     requireds: &[i64],
     slacks: &[i64],
+    earliests: &[i64],
     v: u32,
     c: usize,
 ) -> NodeTimes
@@ -48,7 +52,8 @@ fn next_copy(
         let ats = now (arrivals .entry) in
         let rts = now (requireds .entry) in
         let sts = now (slacks .entry) in
-        ⌜ r ≡ gathered (now (nodes .entry)) ats rts sts v t c ⌝ }
+        let ets = now (earliests .entry) in
+        ⌜ r ≡ gathered (now (nodes .entry)) ats rts sts ets v t c ⌝ }
 {
     if number_at(nodes, c) == v {
         return with_copy(
@@ -56,6 +61,7 @@ fn next_copy(
             time_at(arrivals, c),
             time_at(requireds, c),
             time_at(slacks, c),
+            time_at(earliests, c),
         );
     }
     t
@@ -67,17 +73,20 @@ fn over_copies(
     arrivals: &[i64],
     requireds: &[i64],
     slacks: &[i64],
+    earliests: &[i64],
     v: u32,
 ) -> NodeTimes
     ensures { λ r.
         let copies = upto (length (now (nodes .entry))) 0 in
         let of = keep (λ (c : ℕ). eqb (getD (now (nodes .entry)) c 0) v) copies in
-        ⌜ r ≡ timesOf (now (arrivals .entry)) (now (requireds .entry)) (now (slacks .entry)) of ⌝ }
+        let ats = now (arrivals .entry) in
+        let rts = now (requireds .entry) in
+        ⌜ r ≡ timesOf ats rts (now (slacks .entry)) (now (earliests .entry)) of ⌝ }
 {
     let mut t = NodeTimes::None;
     let mut c = 0;
     while c < nodes.len() {
-        t = next_copy(t, nodes, arrivals, requireds, slacks, v, c);
+        t = next_copy(t, nodes, arrivals, requireds, slacks, earliests, v, c);
         c += 1;
     }
     t
@@ -89,16 +98,18 @@ pub(crate) fn node_times(
     arrivals: &[i64],
     requireds: &[i64],
     slacks: &[i64],
+    earliests: &[i64],
     v: u32,
 ) -> NodeTimes
     ensures { λ r.
         let ats = now (arrivals .entry) in
         let rts = now (requireds .entry) in
         let sts = now (slacks .entry) in
-        ⌜ r ≡ nodeTimes n (now (nodes .entry)) ats rts sts v ⌝ }
+        let ets = now (earliests .entry) in
+        ⌜ r ≡ nodeTimes n (now (nodes .entry)) ats rts sts ets v ⌝ }
 {
     if v < n {
-        return over_copies(nodes, arrivals, requireds, slacks, v);
+        return over_copies(nodes, arrivals, requireds, slacks, earliests, v);
     }
     NodeTimes::None
 }

@@ -3,25 +3,26 @@ ghost use mathlib.Core.Path.{_≡_};
 ghost use Prim.Native.Nat.{ℕ};
 ghost use lib.ListN.{length};
 ghost use Rattle.timing.specs.Refusals.{_then_};
-ghost use Rattle.timing.specs.Tests.{sameSizes, designSizes, nodeCount};
+ghost use Rattle.timing.specs.Tests.{sameSizes, designSizes, timeSizes, nodeCount};
 ghost use Rattle.timing.specs.Graphs.{design};
 ghost use Rattle.timing.specs.Calls.{graphSlices, testTimes};
 use design::and_design_tests;
 use graph::and_graph_test;
-use sizes::copy_sizes;
 use sizes::design_sizes;
+use sizes::time_sizes;
 use timing::Verdict;
 use verdicts::and_unless;
 use verdicts::same_sizes;
 use verdicts::then;
 use verdicts::unless;
 
-// 30 for the design, for the graph and for the three slices of times, which have one place for
-// each copy.
+// 30 for the design, for the graph and for the four slices of times, which have one place for each
+// copy.
 fn times_sizes(
     starts: &[u32],
     ends: &[u32],
-    delays: &[i32],
+    early: &[i32],
+    late: &[i32],
     copies: usize,
     from: &[u32],
     to: &[u32],
@@ -29,16 +30,18 @@ fn times_sizes(
     arrivals: usize,
     requireds: usize,
     slacks: usize,
+    earliests: usize,
 ) -> Verdict
     ensures { λ r.
         let edges = sameSizes (length (now (from .entry))) (length (now (to .entry))) (length (now (via .entry))) in
-        let lent = sameSizes copies arrivals requireds then sameSizes copies copies slacks in
-        ⌜ ((n : ℕ) → let D = design n (now (starts .entry)) (now (ends .entry)) (now (delays .entry)) in
+        let lent = timeSizes copies arrivals requireds slacks earliests in
+        ⌜ ((n : ℕ)
+        → let D = design n (now (starts .entry)) (now (ends .entry)) (now (early .entry)) (now (late .entry)) in
         r ≡ (designSizes D then edges then lent)) ⌝ }
 {
-    let first = design_sizes(starts, ends, delays);
+    let first = design_sizes(starts, ends, early, late);
     let joined = same_sizes(from.len(), to.len(), via.len());
-    let lent = copy_sizes(copies, arrivals, requireds, slacks);
+    let lent = time_sizes(copies, arrivals, requireds, slacks, earliests);
     then(first, then(joined, lent))
 }
 
@@ -46,7 +49,8 @@ pub(crate) fn times_tests(
     n: u32,
     starts: &[u32],
     ends: &[u32],
-    delays: &[i32],
+    early: &[i32],
+    late: &[i32],
     allowed: u32,
     nodes: &[u32],
     from: &[u32],
@@ -55,16 +59,18 @@ pub(crate) fn times_tests(
     arrivals: usize,
     requireds: usize,
     slacks: usize,
+    earliests: usize,
 ) -> Verdict
     ensures { λ r.
-        let D = design n (now (starts .entry)) (now (ends .entry)) (now (delays .entry)) in
+        let D = design n (now (starts .entry)) (now (ends .entry)) (now (early .entry)) (now (late .entry)) in
         let S = graphSlices (now (nodes .entry)) (now (from .entry)) (now (to .entry)) (now (via .entry)) in
-        ⌜ r ≡ testTimes D S allowed arrivals requireds slacks ⌝ }
+        ⌜ r ≡ testTimes D S allowed arrivals requireds slacks earliests ⌝ }
 {
     let sizes = times_sizes(
         starts,
         ends,
-        delays,
+        early,
+        late,
         nodes.len(),
         from,
         to,
@@ -72,8 +78,9 @@ pub(crate) fn times_tests(
         arrivals,
         requireds,
         slacks,
+        earliests,
     );
-    let fit = and_design_tests(sizes, n, starts, ends, delays);
+    let fit = and_design_tests(sizes, n, starts, ends, early, late);
     let within = and_unless(fit, 25, allowed <= timing::MAX_ALLOWED_TIME);
     and_graph_test(within, n, starts, ends, nodes, from, to, via)
 }
@@ -84,38 +91,40 @@ pub(crate) fn record_tests(
     arrivals: usize,
     requireds: usize,
     slacks: usize,
+    earliests: usize,
 ) -> Verdict
     ensures { λ r.
-        ⌜ r ≡ (sameSizes copies arrivals requireds then sameSizes copies copies slacks then nodeCount n) ⌝ }
+        ⌜ r ≡ (timeSizes copies arrivals requireds slacks earliests then nodeCount n) ⌝ }
 {
-    let sizes = copy_sizes(copies, arrivals, requireds, slacks);
+    let sizes = time_sizes(copies, arrivals, requireds, slacks, earliests);
     let count = unless(10, n <= timing::MAX_NODES);
     then(sizes, count)
 }
 
-// The four lent slices have one place for each node.
+// The five lent slices have one place for each node.
 pub(crate) fn records_tests(
     n: u32,
     copies: usize,
     arrivals: usize,
     requireds: usize,
     slacks: usize,
+    earliests: usize,
     known: usize,
     na: usize,
     nr: usize,
     ns: usize,
+    ne: usize,
 ) -> Verdict
     ensures { λ r.
-        ⌜ r ≡ (sameSizes copies arrivals requireds
-        then sameSizes copies copies slacks
-        then sameSizes n known na
-        then sameSizes n nr ns
+        ⌜ r ≡ (timeSizes copies arrivals requireds slacks earliests
+        then sameSizes n n known
+        then timeSizes n na nr ns ne
         then nodeCount n) ⌝ }
 {
     let places = n as usize;
-    let sizes = copy_sizes(copies, arrivals, requireds, slacks);
-    let lent = same_sizes(places, known, na);
-    let others = same_sizes(places, nr, ns);
+    let sizes = time_sizes(copies, arrivals, requireds, slacks, earliests);
+    let lent = same_sizes(places, places, known);
+    let others = time_sizes(places, na, nr, ns, ne);
     let count = unless(10, n <= timing::MAX_NODES);
     then(sizes, then(lent, then(others, count)))
 }

@@ -21,6 +21,7 @@ pub(crate) struct Question {
     pub arrivals: usize,
     pub requireds: usize,
     pub slacks: usize,
+    pub earliests: usize,
     pub next: usize,
 }
 
@@ -31,6 +32,7 @@ pub(crate) fn read_question(s: &[u8], at: usize) -> Question {
     let a = take_number(s, node.next);
     let r = take_number(s, a.next);
     let k = take_number(s, r.next);
+    let e = take_number(s, k.next);
     Question {
         n: n.value,
         allowed: allowed.value,
@@ -38,7 +40,8 @@ pub(crate) fn read_question(s: &[u8], at: usize) -> Question {
         arrivals: a.value as usize,
         requireds: r.value as usize,
         slacks: k.value as usize,
-        next: k.next,
+        earliests: e.value as usize,
+        next: e.next,
     }
 }
 
@@ -48,6 +51,7 @@ pub(crate) struct Places {
     pub arrivals: usize,
     pub requireds: usize,
     pub slacks: usize,
+    pub earliests: usize,
     pub next: usize,
 }
 
@@ -56,11 +60,13 @@ pub(crate) fn read_places(s: &[u8], at: usize) -> Places {
     let x = take_number(s, k.next);
     let y = take_number(s, x.next);
     let z = take_number(s, y.next);
+    let e = take_number(s, z.next);
     Places {
         known: k.value as usize,
         arrivals: x.value as usize,
         requireds: y.value as usize,
         slacks: z.value as usize,
-        next: z.next,
+        earliests: e.value as usize,
+        next: e.next,
     }
 }

@@ -1,7 +1,7 @@
 // Finds the times of the graphs on standard input, and the records of their nodes, and prints them.
 // The input is two blocks of 65,536 bytes, each of packed numbers: a count of cases, and for each n, T, a
-// node, the lengths of the three slices for times and of the four for records, and then seven slices:
-// starts, ends, delays, the nodes of the copies, start copies, end copies, design edges.
+// node, the lengths of the four slices for times and of the five for records, and then eight slices:
+// starts, ends, early and late delays, the nodes of the copies, start copies, end copies, design edges.
 // Crate `cases` says how a slice is packed; here each has a rise, so that a chain takes few bytes.
 mod input;
 mod say;
@@ -29,13 +29,27 @@ fn records(
     arrivals: &[i64],
     requireds: &[i64],
     slacks: &[i64],
+    earliests: &[i64],
     known: &mut [u32],
     na: &mut [i64],
     nr: &mut [i64],
     ns: &mut [i64],
+    ne: &mut [i64],
 ) {
-    let v = times::node_records(n, nodes, arrivals, requireds, slacks, known, na, nr, ns);
-    say_records(v, known, na, nr, ns);
+    let v = times::node_records(
+        n,
+        nodes,
+        arrivals,
+        requireds,
+        slacks,
+        earliests,
+        known,
+        na,
+        nr,
+        ns,
+        ne,
+    );
+    say_records(v, known, na, nr, ns, ne);
 }
 
 // The same, with slices for the nodes as long as the case says.
@@ -46,25 +60,30 @@ fn ask_records(
     arrivals: &[i64],
     requireds: &[i64],
     slacks: &[i64],
+    earliests: &[i64],
 ) {
     let mut known = [0u32; 4200];
     let mut na = [0i64; 4200];
     let mut nr = [0i64; 4200];
     let mut ns = [0i64; 4200];
+    let mut ne = [0i64; 4200];
     let k = least(p.known, 4200);
     let x = least(p.arrivals, 4200);
     let y = least(p.requireds, 4200);
     let z = least(p.slacks, 4200);
+    let e = least(p.earliests, 4200);
     records(
         n,
         nodes,
         arrivals,
         requireds,
         slacks,
+        earliests,
         &mut known[..k],
         &mut na[..x],
         &mut nr[..y],
         &mut ns[..z],
+        &mut ne[..e],
     );
 }
 
@@ -77,10 +96,11 @@ fn say_all(
     arrivals: &[i64],
     requireds: &[i64],
     slacks: &[i64],
+    earliests: &[i64],
 ) {
-    say_found(v, arrivals, requireds, slacks);
-    say_answer(times::node_record(q.n, nodes, arrivals, requireds, slacks, q.node));
-    ask_records(q.n, p, nodes, arrivals, requireds, slacks);
+    say_found(v, arrivals, requireds, slacks, earliests);
+    say_answer(times::node_record(q.n, nodes, arrivals, requireds, slacks, earliests, q.node));
+    ask_records(q.n, p, nodes, arrivals, requireds, slacks, earliests);
 }
 
 // Asks for the times of a graph and for the records of its nodes, and says them.
@@ -89,7 +109,8 @@ fn ask_and_say(
     p: Places,
     starts: &[u32],
     ends: &[u32],
-    delays: &[i32],
+    early: &[i32],
+    late: &[i32],
     nodes: &[u32],
     from: &[u32],
     to: &[u32],
@@ -97,12 +118,14 @@ fn ask_and_say(
     arrivals: &mut [i64],
     requireds: &mut [i64],
     slacks: &mut [i64],
+    earliests: &mut [i64],
 ) {
     let v = times::times(
         q.n,
         starts,
         ends,
-        delays,
+        early,
+        late,
         q.allowed,
         nodes,
         from,
@@ -111,8 +134,9 @@ fn ask_and_say(
         arrivals,
         requireds,
         slacks,
+        earliests,
     );
-    say_all(v, q, p, nodes, arrivals, requireds, slacks);
+    say_all(v, q, p, nodes, arrivals, requireds, slacks, earliests);
 }
 
 // The same, with slices for times as long as the case says.
@@ -121,7 +145,8 @@ fn ask(
     p: Places,
     starts: &[u32],
     ends: &[u32],
-    delays: &[i32],
+    early: &[i32],
+    late: &[i32],
     nodes: &[u32],
     from: &[u32],
     to: &[u32],
@@ -130,15 +155,18 @@ fn ask(
     let mut arrivals = [0i64; 4200];
     let mut requireds = [0i64; 4200];
     let mut slacks = [0i64; 4200];
+    let mut earliests = [0i64; 4200];
     let a = least(q.arrivals, 4200);
     let r = least(q.requireds, 4200);
     let k = least(q.slacks, 4200);
+    let e = least(q.earliests, 4200);
     ask_and_say(
         q,
         p,
         starts,
         ends,
-        delays,
+        early,
+        late,
         nodes,
         from,
         to,
@@ -146,6 +174,7 @@ fn ask(
         &mut arrivals[..a],
         &mut requireds[..r],
         &mut slacks[..k],
+        &mut earliests[..e],
     );
 }
 
@@ -157,7 +186,8 @@ fn graph_of(
     p: Places,
     starts: &[u32],
     ends: &[u32],
-    delays: &[i32],
+    early: &[i32],
+    late: &[i32],
 ) -> usize {
     let mut nodes = [0u32; 4200];
     let mut from = [0u32; 4200];
@@ -172,7 +202,8 @@ fn graph_of(
         p,
         starts,
         ends,
-        delays,
+        early,
+        late,
         front(&nodes, a.len),
         front(&from, b.len),
         front(&to, c.len),
@@ -187,18 +218,21 @@ fn case(s: &[u8], at: usize) -> usize {
     let p = read_places(s, q.next);
     let mut starts = [0u32; 4200];
     let mut ends = [0u32; 4200];
-    let mut delays = [0i32; 4200];
+    let mut early = [0i32; 4200];
+    let mut late = [0i32; 4200];
     let a = fill_rising(s, p.next, &mut starts);
     let b = fill_rising(s, a.next, &mut ends);
-    let c = fill_delays(s, b.next, &mut delays);
+    let c = fill_delays(s, b.next, &mut early);
+    let d = fill_delays(s, c.next, &mut late);
     graph_of(
         s,
-        c.next,
+        d.next,
         q,
         p,
         front(&starts, a.len),
         front(&ends, b.len),
-        front_delays(&delays, c.len),
+        front_delays(&early, c.len),
+        front_delays(&late, d.len),
     )
 }
 

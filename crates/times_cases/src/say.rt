@@ -13,13 +13,15 @@ fn printed(k: usize) -> bool {
     k < 64 || k % 512 == 511
 }
 
-// Three times, and the end of the line.
-fn say_times(arrival: i64, required: i64, slack: i64) {
+// Four times, and the end of the line.
+fn say_times(arrival: i64, required: i64, slack: i64, earliest: i64) {
     print::time(arrival);
     text(b" ");
     print::time(required);
     text(b" ");
     print::time(slack);
+    text(b" ");
+    print::time(earliest);
     text(b"\n");
 }
 
@@ -28,16 +30,16 @@ fn say_refused(r: Refusal) {
     text(b"\n");
 }
 
-fn say_copy(c: usize, arrival: i64, required: i64, slack: i64) {
+fn say_copy(c: usize, arrival: i64, required: i64, slack: i64, earliest: i64) {
     if printed(c) {
         text(b"copy ");
         print::number(c as u64);
         text(b" ");
-        say_times(arrival, required, slack);
+        say_times(arrival, required, slack, earliest);
     }
 }
 
-fn say_copies(arrivals: &[i64], requireds: &[i64], slacks: &[i64]) {
+fn say_copies(arrivals: &[i64], requireds: &[i64], slacks: &[i64], earliests: &[i64]) {
     let mut c = 0;
     while c < arrivals.len() {
         say_copy(
@@ -45,14 +47,21 @@ fn say_copies(arrivals: &[i64], requireds: &[i64], slacks: &[i64]) {
             time_at(arrivals, c),
             time_at(requireds, c),
             time_at(slacks, c),
+            time_at(earliests, c),
         );
         c += 1;
     }
 }
 
-pub(crate) fn say_found(v: Verdict, arrivals: &[i64], requireds: &[i64], slacks: &[i64]) {
+pub(crate) fn say_found(
+    v: Verdict,
+    arrivals: &[i64],
+    requireds: &[i64],
+    slacks: &[i64],
+    earliests: &[i64],
+) {
     match v {
-        Verdict::Passed => say_copies(arrivals, requireds, slacks),
+        Verdict::Passed => say_copies(arrivals, requireds, slacks, earliests),
         Verdict::Refused(r) => say_refused(r),
     }
 }
@@ -70,7 +79,8 @@ pub(crate) fn say_answer(answer: NodeAnswer) {
                     arrival,
                     required,
                     slack,
-                } => say_times(arrival, required, slack),
+                    earliest,
+                } => say_times(arrival, required, slack, earliest),
                 NodeTimes::None => text(b"none\n"),
             }
         }
@@ -78,7 +88,7 @@ pub(crate) fn say_answer(answer: NodeAnswer) {
     }
 }
 
-fn say_node(v: usize, known: u32, arrival: i64, required: i64, slack: i64) {
+fn say_node(v: usize, known: u32, arrival: i64, required: i64, slack: i64, earliest: i64) {
     if printed(v) {
         text(b"node ");
         print::number(v as u64);
@@ -86,12 +96,12 @@ fn say_node(v: usize, known: u32, arrival: i64, required: i64, slack: i64) {
         if known == 0 {
             text(b"none\n");
         } else {
-            say_times(arrival, required, slack);
+            say_times(arrival, required, slack, earliest);
         }
     }
 }
 
-fn say_nodes(known: &[u32], na: &[i64], nr: &[i64], ns: &[i64]) {
+fn say_nodes(known: &[u32], na: &[i64], nr: &[i64], ns: &[i64], ne: &[i64]) {
     let mut v = 0;
     while v < known.len() {
         say_node(
@@ -100,15 +110,23 @@ fn say_nodes(known: &[u32], na: &[i64], nr: &[i64], ns: &[i64]) {
             time_at(na, v),
             time_at(nr, v),
             time_at(ns, v),
+            time_at(ne, v),
         );
         v += 1;
     }
 }
 
 // The answer of `node_records`.
-pub(crate) fn say_records(v: Verdict, known: &[u32], na: &[i64], nr: &[i64], ns: &[i64]) {
+pub(crate) fn say_records(
+    v: Verdict,
+    known: &[u32],
+    na: &[i64],
+    nr: &[i64],
+    ns: &[i64],
+    ne: &[i64],
+) {
     match v {
-        Verdict::Passed => say_nodes(known, na, nr, ns),
+        Verdict::Passed => say_nodes(known, na, nr, ns, ne),
         Verdict::Refused(r) => say_refused(r),
     }
 }

@@ -1,28 +1,31 @@
 -- The marked cases of document 01, M1 to M10, and rows that shut out wrong definitions which M1 to M10 would let
 -- through: one table and one claim, shown by computing the definitions. Made by tests/marked_table.py: every result
--- is the walker's.
+-- is the walker's. "Deck A and the marked cases take early equal to late" (02, request 1).
 use Prim.Native.Nat.{ℕ, suc}
 use mathlib.Core.Path.{_≡_, refl}
 use mathlib.Core.List.{List, [], _∷_, map, flatMap}
 use lib.IntN.{ℤ, pos, negsuc}
-use lib.ListN.{length}
+use lib.ListN.{length, getD}
+use Rattle.timing.specs.declared.Verdict.{Verdict}
+use Rattle.timing.specs.declared.Verdict.the-variants.{Passed, Refused}
 use Rattle.timing.specs.declared.NumberRead.{NumberRead}
 use Rattle.timing.specs.declared.NumberRead.the-variants.{Refused as NotRead}
 use Rattle.timing.specs.declared.NodeTimes.{NodeTimes}
 use Rattle.timing.specs.declared.NodeTimes.the-variants.{Times, None}
 use Rattle.timing.specs.Lists.{upto}
-use Rattle.timing.specs.Graphs.{Design, design, edgeDelay, edge, Graph, graph, designGraph, edgesIn, edgesOut}
+use Rattle.timing.specs.Graphs.{Design, design, edge, Graph, graph, designGraph, edgesIn, edgesOut}
 use Rattle.timing.specs.Graphs.{runsTo, runsFrom, completeRuns}
 use Rattle.timing.specs.Marks.{PathList, pathList, pathsOf, permitted, tails, mark}
 use Rattle.timing.specs.TrueGraphs.{permittedRuns, copies, joins, trueGraph}
 use Rattle.timing.specs.WellFormed.{wellFormed}
-use Rattle.timing.specs.Times.{arrivalAt, requiredAt, slackAt, nodeTimes}
+use Rattle.timing.specs.Times.{arrivalAt, requiredAt, slackAt, earliestAt, nodeTimes}
 use Rattle.timing.specs.Numbers.{packedIn, packed, groupsIn, readNumber, writeAnswer, writtenRoom}
-use Rattle.timing.specs.Decks.{readDeck}
+use Rattle.timing.specs.Decks.{Deck, readDeck}
 use Rattle.timing.specs.GraphBytes.{graphNumbers, packedGraph}
 use Rattle.timing.specs.Refusals.{refusal, refusalWithin}
 use Rattle.timing.specs.Tests.{Room, designTests, listTests, candidates, scratchTest, roomTests}
 use Rattle.timing.specs.Calls.{Outcome, made, refused, Removal, removal, slicesOf, testDeck}
+use Rattle.timing.specs.Calls.{testTimes, arrivalsAfter, requiredsAfter, slacksAfter, earliestsAfter, testRecords, deckRead}
 use Rattle.timing.specs.Calls.{removeFromDesign, removeFromGraph, programRemoval, program, cCall, cRoom}
 
 -- the graph after some lists are removed in turn
@@ -41,6 +44,9 @@ pub data Fact : Type 0 where
   cRoomIs : List ℕ → ℕ → List ℕ → Fact
   packedIs : ℕ → List ℕ → Fact
   readIs : List ℕ → NumberRead → Fact
+  readerAnswers : List ℕ → List ℕ → Verdict → Fact
+  timesAnswer : Design → Graph → ℕ → List ℕ → Verdict → Fact
+  recordsAnswer : ℕ → Graph → List ℕ → List ℕ → Verdict → Fact
 
 abbrev pub zeros : ℕ → List ℕ
 zeros n = map (λ i. 0) (upto n 0)
@@ -48,24 +54,37 @@ zeros n = map (λ i. 0) (upto n 0)
 abbrev pub room : ℕ → ℕ → ℕ → ℕ → Room
 room nodes from to via = record { nodes = nodes; starts = from; ends = to; names = via }
 
--- a time of every copy
-abbrev copyTimes : (ℕ → ℤ) → Graph → List ℤ
-copyTimes time G = map time (upto (length (G .nodes)) 0)
+-- f of the four slices that `times` fills for the copies of R
+abbrev ofTimes : {A : Type 0} → Design → ℕ → Graph → (List ℤ → List ℤ → List ℤ → List ℤ → A) → A
+ofTimes D T R f =
+    let S = slicesOf R in
+    f (arrivalsAfter D S T Passed []) (requiredsAfter D S T Passed []) (slacksAfter D S T Passed [])
+    (earliestsAfter D S Passed [])
+
+abbrev copyTimes : List ℤ → List ℤ → List ℤ → List ℤ → ℕ → NodeTimes
+copyTimes arrivals requireds slacks earliests c =
+    let at : List ℤ → ℤ = λ ts. getD ts c (pos 0) in
+    Times (at arrivals) (at requireds) (at slacks) (at earliests)
+
+-- the k-th of some lent lengths, and a slice of times of that length
+abbrev lent : List ℕ → ℕ → ℕ
+lent ls k = getD ls k 0
+
+abbrev slice : List ℕ → ℕ → List ℤ
+slice ls k = map (λ i. pos 0) (upto (lent ls k) 0)
+
+abbrev verdictIn : Outcome Deck → Verdict
+verdictIn (made d) = Passed
+verdictIn (refused r) = Refused r
 
 abbrev pub Holds : Fact → Type 0
 Holds (graphIs D Ls R) = removed (designGraph D) Ls ≡ R
 Holds (timesAre D T Ls ts) =
     let R : Graph = removed (designGraph D) Ls in
-    let arrival = arrivalAt (edgeDelay D) (pos T) R in
-    let required = requiredAt (edgeDelay D) (pos T) R in
-    let slack = slackAt (edgeDelay D) (pos T) R in
-    map (λ c. Times (arrival c) (required c) (slack c)) (upto (length (R .nodes)) 0) ≡ ts
+    map (ofTimes D T R copyTimes) (upto (length (R .nodes)) 0) ≡ ts
 Holds (nodesAre D T Ls ts) =
     let R : Graph = removed (designGraph D) Ls in
-    let arrivals = copyTimes (arrivalAt (edgeDelay D) (pos T) R) R in
-    let requireds = copyTimes (requiredAt (edgeDelay D) (pos T) R) R in
-    let slacks = copyTimes (slackAt (edgeDelay D) (pos T) R) R in
-    map (nodeTimes (D .nodes) (R .nodes) arrivals requireds slacks) (upto (suc (D .nodes)) 0) ≡ ts
+    map (ofTimes D T R (nodeTimes (D .nodes) (R .nodes))) (upto (suc (D .nodes)) 0) ≡ ts
 Holds (removalIs D r o) = removeFromDesign D r ≡ o
 Holds (againIs D G r o) = removeFromGraph D (slicesOf G) r ≡ o
 Holds (programIs s o) = program s ≡ o
@@ -73,6 +92,12 @@ Holds (cCallIs s n z) = cCall s (zeros n) ≡ z
 Holds (cRoomIs s n bs) = cRoom s (zeros n) ≡ bs
 Holds (packedIs x bs) = packed x ≡ bs
 Holds (readIs bs r) = readNumber bs 0 ≡ r
+Holds (readerAnswers s ls v) =
+    verdictIn (deckRead s (lent ls 0) (lent ls 1) (lent ls 2) (lent ls 3) (lent ls 4) (lent ls 5)) ≡ v
+Holds (timesAnswer D G T ls v) = testTimes D (slicesOf G) T (lent ls 0) (lent ls 1) (lent ls 2) (lent ls 3) ≡ v
+Holds (recordsAnswer n G ls ps v) =
+    testRecords n (G .nodes) (slice ls 0) (slice ls 1) (slice ls 2) (slice ls 3)
+    (lent ps 0) (lent ps 1) (lent ps 2) (lent ps 3) (lent ps 4) ≡ v
 
 infixr 4 _also_
 pub data All : List Fact → Type 0 where
@@ -81,7 +106,9 @@ pub data All : List Fact → Type 0 where
 
 -- Deck A: its design, its list, its true graph and its bytes with T 10.
 abbrev pub deckA : Design
-deckA = design 5 (0 ∷ 1 ∷ 2 ∷ 2 ∷ []) (2 ∷ 2 ∷ 3 ∷ 4 ∷ []) (pos 3 ∷ pos 5 ∷ pos 2 ∷ pos 1 ∷ [])
+deckA =
+    design 5 (0 ∷ 1 ∷ 2 ∷ 2 ∷ []) (2 ∷ 2 ∷ 3 ∷ 4 ∷ []) (pos 3 ∷ pos 5 ∷ pos 2 ∷ pos 1 ∷ [])
+    (pos 3 ∷ pos 5 ∷ pos 2 ∷ pos 1 ∷ [])
 
 abbrev pub listA : PathList
 listA = pathList (1 ∷ 2 ∷ []) (2 ∷ [])
@@ -90,48 +117,50 @@ abbrev pub graphA : Graph
 graphA = graph (0 ∷ 1 ∷ 2 ∷ 2 ∷ 3 ∷ 4 ∷ []) (edge 0 2 0 ∷ edge 1 2 1 ∷ edge 0 3 0 ∷ edge 3 4 2 ∷ edge 2 5 3 ∷ [])
 
 abbrev pub bytesA : List ℕ
-bytesA = 5 ∷ 4 ∷ 0 ∷ 2 ∷ 6 ∷ 1 ∷ 2 ∷ 10 ∷ 2 ∷ 3 ∷ 4 ∷ 2 ∷ 4 ∷ 2 ∷ 1 ∷ 2 ∷ 1 ∷ 2 ∷ 10 ∷ []
+bytesA = 5 ∷ 4 ∷ 0 ∷ 2 ∷ 6 ∷ 6 ∷ 1 ∷ 2 ∷ 10 ∷ 10 ∷ 2 ∷ 3 ∷ 4 ∷ 4 ∷ 2 ∷ 4 ∷ 2 ∷ 2 ∷ 1 ∷ 2 ∷ 1 ∷ 2 ∷ 10 ∷ []
 
 -- The other designs, lists and graphs that rows are about.
 abbrev pub noPaths : PathList
 noPaths = pathList [] []
 
 abbrev pub noNodes : Design
-noNodes = design 0 [] [] []
+noNodes = design 0 [] [] [] []
 
 abbrev pub oneNode : Design
-oneNode = design 1 [] [] []
+oneNode = design 1 [] [] [] []
 
 abbrev pub chain : Design
-chain = design 3 (0 ∷ 1 ∷ []) (1 ∷ 2 ∷ []) (pos 1 ∷ pos 1 ∷ [])
+chain = design 3 (0 ∷ 1 ∷ []) (1 ∷ 2 ∷ []) (pos 1 ∷ pos 1 ∷ []) (pos 1 ∷ pos 1 ∷ [])
 
 abbrev pub designM8 : Design
 designM8 =
     design 6 (0 ∷ 1 ∷ 2 ∷ 3 ∷ 4 ∷ 3 ∷ []) (2 ∷ 2 ∷ 3 ∷ 4 ∷ 5 ∷ 5 ∷ [])
-    (pos 1 ∷ pos 1 ∷ pos 1 ∷ pos 1 ∷ pos 1 ∷ pos 1 ∷ [])
+    (pos 1 ∷ pos 1 ∷ pos 1 ∷ pos 1 ∷ pos 1 ∷ pos 1 ∷ []) (pos 1 ∷ pos 1 ∷ pos 1 ∷ pos 1 ∷ pos 1 ∷ pos 1 ∷ [])
 
 abbrev pub listM8 : PathList
 listM8 = pathList (0 ∷ 2 ∷ 3 ∷ 1 ∷ 2 ∷ 3 ∷ 4 ∷ []) (3 ∷ 4 ∷ [])
 
 abbrev pub designM9 : Design
-designM9 = design 2 (0 ∷ []) (1 ∷ []) (negsuc 3 ∷ [])
+designM9 = design 2 (0 ∷ []) (1 ∷ []) (negsuc 3 ∷ []) (negsuc 3 ∷ [])
 
 -- two edges for each step of a chain
 abbrev pub parallel : Design
 parallel =
     design 4 (0 ∷ 0 ∷ 1 ∷ 1 ∷ 2 ∷ 2 ∷ []) (1 ∷ 1 ∷ 2 ∷ 2 ∷ 3 ∷ 3 ∷ [])
-    (pos 1 ∷ pos 2 ∷ pos 1 ∷ pos 2 ∷ pos 1 ∷ pos 2 ∷ [])
+    (pos 1 ∷ pos 2 ∷ pos 1 ∷ pos 2 ∷ pos 1 ∷ pos 2 ∷ []) (pos 1 ∷ pos 2 ∷ pos 1 ∷ pos 2 ∷ pos 1 ∷ pos 2 ∷ [])
 
 -- two ways from node 2 to node 4, by one edge and by two
 abbrev pub twoLengths : Design
-twoLengths = design 5 (0 ∷ 1 ∷ 2 ∷ 3 ∷ 2 ∷ []) (2 ∷ 2 ∷ 3 ∷ 4 ∷ 4 ∷ []) (pos 1 ∷ pos 1 ∷ pos 1 ∷ pos 1 ∷ pos 1 ∷ [])
+twoLengths =
+    design 5 (0 ∷ 1 ∷ 2 ∷ 3 ∷ 2 ∷ []) (2 ∷ 2 ∷ 3 ∷ 4 ∷ 4 ∷ []) (pos 1 ∷ pos 1 ∷ pos 1 ∷ pos 1 ∷ pos 1 ∷ [])
+    (pos 1 ∷ pos 1 ∷ pos 1 ∷ pos 1 ∷ pos 1 ∷ [])
 
 -- node 1 has no edge
 abbrev pub isolated : Design
-isolated = design 3 (0 ∷ []) (2 ∷ []) (pos 1 ∷ [])
+isolated = design 3 (0 ∷ []) (2 ∷ []) (pos 1 ∷ []) (pos 1 ∷ [])
 
 abbrev pub forked : Design
-forked = design 4 (0 ∷ 1 ∷ 1 ∷ []) (1 ∷ 2 ∷ 3 ∷ []) (pos 0 ∷ pos 0 ∷ pos 0 ∷ [])
+forked = design 4 (0 ∷ 1 ∷ 1 ∷ []) (1 ∷ 2 ∷ 3 ∷ []) (pos 0 ∷ pos 0 ∷ pos 0 ∷ []) (pos 0 ∷ pos 0 ∷ pos 0 ∷ [])
 
 -- of it: two copies of the source; and the same with its first two edges exchanged
 abbrev pub splitSource : Graph
@@ -142,10 +171,38 @@ outOfOrder = graph (0 ∷ 0 ∷ 1 ∷ 1 ∷ 2 ∷ 3 ∷ []) (edge 1 3 0 ∷ edge
 
 -- edge 0 falls; and with it an edge to a node that is not there
 abbrev pub falling : Design
-falling = design 2 (1 ∷ []) (0 ∷ []) (pos 0 ∷ [])
+falling = design 2 (1 ∷ []) (0 ∷ []) (pos 0 ∷ []) (pos 0 ∷ [])
 
 abbrev pub fallingAndUnknown : Design
-fallingAndUnknown = design 2 (1 ∷ 0 ∷ []) (0 ∷ 2 ∷ []) (pos 0 ∷ pos 0 ∷ [])
+fallingAndUnknown = design 2 (1 ∷ 0 ∷ []) (0 ∷ 2 ∷ []) (pos 0 ∷ pos 0 ∷ []) (pos 0 ∷ pos 0 ∷ [])
+
+-- into node 3 the latest edge, the one of the smallest late delay, and the earliest
+abbrev pub joined : Design
+joined =
+    design 5 (0 ∷ 1 ∷ 2 ∷ 3 ∷ []) (3 ∷ 3 ∷ 3 ∷ 4 ∷ []) (pos 2 ∷ pos 1 ∷ negsuc 4 ∷ pos 1 ∷ [])
+    (pos 9 ∷ pos 3 ∷ pos 6 ∷ pos 2 ∷ [])
+
+-- decks/hold.txt
+abbrev pub hold : Design
+hold =
+    design 5 (0 ∷ 1 ∷ 0 ∷ 2 ∷ 2 ∷ []) (1 ∷ 2 ∷ 2 ∷ 3 ∷ 4 ∷ []) (pos 60 ∷ pos 10 ∷ pos 10 ∷ pos 5 ∷ pos 8 ∷ [])
+    (pos 90 ∷ pos 15 ∷ pos 15 ∷ pos 10 ∷ pos 12 ∷ [])
+
+abbrev pub listHold : PathList
+listHold = pathList (2 ∷ 3 ∷ []) (2 ∷ [])
+
+-- 15 at edge 0; at edge 1, with delays below 0; at edge 0, with 14 and with 13 at edge 1
+abbrev pub earlyAbove : Design
+earlyAbove = design 2 (0 ∷ []) (1 ∷ []) (pos 5 ∷ []) (pos 4 ∷ [])
+
+abbrev pub earlyAboveBelowZero : Design
+earlyAboveBelowZero = design 2 (0 ∷ 0 ∷ []) (1 ∷ 1 ∷ []) (negsuc 4 ∷ negsuc 3 ∷ []) (negsuc 3 ∷ negsuc 4 ∷ [])
+
+abbrev pub earlyAboveAndFar : Design
+earlyAboveAndFar = design 2 (0 ∷ 0 ∷ []) (1 ∷ 1 ∷ []) (pos 5 ∷ pos 0 ∷ []) (pos 4 ∷ pos 1000001 ∷ [])
+
+abbrev pub earlyAboveAndFalling : Design
+earlyAboveAndFalling = design 2 (0 ∷ 1 ∷ []) (1 ∷ 0 ∷ []) (pos 5 ∷ pos 0 ∷ []) (pos 4 ∷ pos 0 ∷ [])
 
 -- the deck program's room
 abbrev pub ample : Room
@@ -156,11 +213,13 @@ marked =
     -- M1: deck A
     graphIs deckA (listA ∷ []) graphA
     ∷ timesAre deckA 10 (listA ∷ [])
-    (Times (pos 0) (pos 5) (pos 5) ∷ Times (pos 0) (pos 4) (pos 4) ∷ Times (pos 5) (pos 9) (pos 4) ∷
-    Times (pos 3) (pos 8) (pos 5) ∷ Times (pos 5) (pos 10) (pos 5) ∷ Times (pos 6) (pos 10) (pos 4) ∷ [])
+    (Times (pos 0) (pos 5) (pos 5) (pos 0) ∷ Times (pos 0) (pos 4) (pos 4) (pos 0) ∷
+    Times (pos 5) (pos 9) (pos 4) (pos 3) ∷ Times (pos 3) (pos 8) (pos 5) (pos 3) ∷
+    Times (pos 5) (pos 10) (pos 5) (pos 5) ∷ Times (pos 6) (pos 10) (pos 4) (pos 4) ∷ [])
     ∷ nodesAre deckA 10 (listA ∷ [])
-    (Times (pos 0) (pos 5) (pos 5) ∷ Times (pos 0) (pos 4) (pos 4) ∷ Times (pos 5) (pos 8) (pos 4) ∷
-    Times (pos 5) (pos 10) (pos 5) ∷ Times (pos 6) (pos 10) (pos 4) ∷ None ∷ [])
+    (Times (pos 0) (pos 5) (pos 5) (pos 0) ∷ Times (pos 0) (pos 4) (pos 4) (pos 0) ∷
+    Times (pos 5) (pos 8) (pos 4) (pos 3) ∷ Times (pos 5) (pos 10) (pos 5) (pos 5) ∷
+    Times (pos 6) (pos 10) (pos 4) (pos 4) ∷ None ∷ [])
     ∷ programIs bytesA (made graphA)
     ∷ cCallIs bytesA 64 (pos 23)
     ∷ cRoomIs bytesA 64
@@ -169,13 +228,13 @@ marked =
     ∷ graphIs noNodes (noPaths ∷ []) (graph [] [])
     -- M3: one node, no edges
     ∷ graphIs oneNode (noPaths ∷ []) (graph (0 ∷ []) [])
-    ∷ timesAre oneNode 7 (noPaths ∷ []) (Times (pos 0) (pos 7) (pos 7) ∷ [])
+    ∷ timesAre oneNode 7 (noPaths ∷ []) (Times (pos 0) (pos 7) (pos 7) (pos 0) ∷ [])
     -- M4: A with only path 2; a graph handed back uncut does not meet it
     ∷ graphIs deckA (pathList (2 ∷ []) (1 ∷ []) ∷ [])
     (graph (0 ∷ 1 ∷ 2 ∷ 4 ∷ []) (edge 0 2 0 ∷ edge 1 2 1 ∷ edge 2 3 3 ∷ []))
     ∷ nodesAre deckA 10 (pathList (2 ∷ []) (1 ∷ []) ∷ [])
-    (Times (pos 0) (pos 6) (pos 6) ∷ Times (pos 0) (pos 4) (pos 4) ∷ Times (pos 5) (pos 9) (pos 4) ∷ None ∷
-    Times (pos 6) (pos 10) (pos 4) ∷ None ∷ [])
+    (Times (pos 0) (pos 6) (pos 6) (pos 0) ∷ Times (pos 0) (pos 4) (pos 4) (pos 0) ∷
+    Times (pos 5) (pos 9) (pos 4) (pos 3) ∷ None ∷ Times (pos 6) (pos 10) (pos 4) (pos 4) ∷ None ∷ [])
     -- M5: A with 0,2 and 1,2: the graph of M4
     ∷ graphIs deckA (pathList (0 ∷ 2 ∷ 1 ∷ 2 ∷ []) (2 ∷ 2 ∷ []) ∷ [])
     (graph (0 ∷ 1 ∷ 2 ∷ 4 ∷ []) (edge 0 2 0 ∷ edge 1 2 1 ∷ edge 2 3 3 ∷ []))
@@ -190,10 +249,12 @@ marked =
     ∷ graphIs designM8 (listM8 ∷ [])
     (graph (0 ∷ 1 ∷ 2 ∷ 3 ∷ 5 ∷ []) (edge 0 2 0 ∷ edge 1 2 1 ∷ edge 2 3 2 ∷ edge 3 4 5 ∷ []))
     ∷ nodesAre designM8 10 (listM8 ∷ [])
-    (Times (pos 0) (pos 7) (pos 7) ∷ Times (pos 0) (pos 7) (pos 7) ∷ Times (pos 1) (pos 8) (pos 7) ∷
-    Times (pos 2) (pos 9) (pos 7) ∷ None ∷ Times (pos 3) (pos 10) (pos 7) ∷ None ∷ [])
+    (Times (pos 0) (pos 7) (pos 7) (pos 0) ∷ Times (pos 0) (pos 7) (pos 7) (pos 0) ∷
+    Times (pos 1) (pos 8) (pos 7) (pos 1) ∷ Times (pos 2) (pos 9) (pos 7) (pos 2) ∷ None ∷
+    Times (pos 3) (pos 10) (pos 7) (pos 3) ∷ None ∷ [])
     -- M9: an arrival below 0; a largest arrival that starts from 0 does not meet it
-    ∷ timesAre designM9 10 (noPaths ∷ []) (Times (pos 0) (pos 14) (pos 14) ∷ Times (negsuc 3) (pos 10) (pos 14) ∷ [])
+    ∷ timesAre designM9 10 (noPaths ∷ [])
+    (Times (pos 0) (pos 14) (pos 14) (pos 0) ∷ Times (negsuc 3) (pos 10) (pos 14) (negsuc 3) ∷ [])
     -- M10: packed numbers
     ∷ packedIs 127 (127 ∷ [])
     ∷ packedIs 128 (128 ∷ 1 ∷ [])
@@ -236,9 +297,10 @@ marked =
     ∷ removalIs deckA (removal (pathList (2 ∷ 1 ∷ 9 ∷ []) (2 ∷ 1 ∷ [])) ample 999) (refused (refusalWithin 23 1 0))
     ∷ removalIs deckA (removal (pathList (0 ∷ 2 ∷ 2 ∷ 1 ∷ []) (2 ∷ 2 ∷ [])) ample 999) (refused (refusalWithin 24 1 1))
     -- Which edge of the path: 02's example, as the deck program has it; the C call's place is the path, 2, and not the index, 1
-    ∷ programIs (5 ∷ 4 ∷ 0 ∷ 2 ∷ 6 ∷ 1 ∷ 2 ∷ 10 ∷ 2 ∷ 3 ∷ 4 ∷ 2 ∷ 4 ∷ 2 ∷ 1 ∷ 2 ∷ 2 ∷ 1 ∷ 10 ∷ [])
+    ∷ programIs (5 ∷ 4 ∷ 0 ∷ 2 ∷ 6 ∷ 6 ∷ 1 ∷ 2 ∷ 10 ∷ 10 ∷ 2 ∷ 3 ∷ 4 ∷ 4 ∷ 2 ∷ 4 ∷ 2 ∷ 2 ∷ 1 ∷ 2 ∷ 2 ∷ 1 ∷ 10 ∷ [])
     (refused (refusalWithin 24 0 1))
-    ∷ cCallIs (5 ∷ 4 ∷ 0 ∷ 2 ∷ 6 ∷ 1 ∷ 2 ∷ 10 ∷ 2 ∷ 3 ∷ 4 ∷ 2 ∷ 4 ∷ 2 ∷ 3 ∷ 2 ∷ 0 ∷ 2 ∷ 2 ∷ 1 ∷ 3 ∷ 2 ∷ 2 ∷ 1 ∷ 10 ∷ []) 64
+    ∷ cCallIs (5 ∷ 4 ∷ 0 ∷ 2 ∷ 6 ∷ 6 ∷ 1 ∷ 2 ∷ 10 ∷ 10 ∷ 2 ∷ 3 ∷ 4 ∷ 4 ∷ 2 ∷ 4 ∷ 2 ∷ 2 ∷ 3 ∷ 2 ∷ 0 ∷ 2 ∷ 2 ∷ 1 ∷ 3 ∷ 2 ∷
+    2 ∷ 1 ∷ 10 ∷ []) 64
     (negsuc 535)
     -- 23: the first edge is unknown; the last; two are, in one path and then in two; one behind a break
     ∷ removalIs deckA (removal (pathList (4 ∷ 2 ∷ []) (2 ∷ [])) ample 999) (refused (refusalWithin 23 0 0))
@@ -256,6 +318,53 @@ marked =
     -- 22: an empty path behind a broken one, and behind one that names an unknown edge
     ∷ removalIs deckA (removal (pathList (2 ∷ 1 ∷ []) (2 ∷ 0 ∷ [])) ample 999) (refused (refusalWithin 22 1 0))
     ∷ removalIs deckA (removal (pathList (2 ∷ 9 ∷ []) (2 ∷ 0 ∷ 0 ∷ [])) ample 999) (refused (refusalWithin 22 1 0))
+    -- Earliest arrivals: that of node 3 is not on the latest path, not of the smallest late delay, and below 0
+    ∷ timesAre joined 10 (noPaths ∷ [])
+    (Times (pos 0) (negsuc 0) (negsuc 0) (pos 0) ∷ Times (pos 0) (pos 5) (pos 5) (pos 0) ∷
+    Times (pos 0) (pos 2) (pos 2) (pos 0) ∷ Times (pos 9) (pos 8) (negsuc 0) (negsuc 4) ∷
+    Times (pos 11) (pos 10) (negsuc 0) (negsuc 3) ∷ [])
+    -- The path with the earliest arrival is false; then a node whose second copy is the earlier one
+    ∷ timesAre hold 150 (listHold ∷ [])
+    (Times (pos 0) (pos 33) (pos 33) (pos 0) ∷ Times (pos 90) (pos 123) (pos 33) (pos 60) ∷
+    Times (pos 105) (pos 138) (pos 33) (pos 10) ∷ Times (pos 105) (pos 140) (pos 35) (pos 70) ∷
+    Times (pos 115) (pos 150) (pos 35) (pos 75) ∷ Times (pos 117) (pos 150) (pos 33) (pos 18) ∷ [])
+    ∷ nodesAre hold 150 (listHold ∷ [])
+    (Times (pos 0) (pos 33) (pos 33) (pos 0) ∷ Times (pos 90) (pos 123) (pos 33) (pos 60) ∷
+    Times (pos 105) (pos 138) (pos 33) (pos 10) ∷ Times (pos 115) (pos 150) (pos 35) (pos 75) ∷
+    Times (pos 117) (pos 150) (pos 33) (pos 18) ∷ None ∷ [])
+    ∷ nodesAre hold 150 (pathList (2 ∷ 3 ∷ 1 ∷ 4 ∷ []) (2 ∷ 2 ∷ []) ∷ [])
+    (Times (pos 0) (pos 35) (pos 35) (pos 0) ∷ Times (pos 90) (pos 125) (pos 35) (pos 60) ∷
+    Times (pos 105) (pos 138) (pos 35) (pos 10) ∷ Times (pos 115) (pos 150) (pos 35) (pos 75) ∷
+    Times (pos 27) (pos 150) (pos 123) (pos 18) ∷ None ∷ [])
+    -- In the deck early first: read the other way, edge 0 gives 15
+    ∷ programIs (5 ∷ 4 ∷ 0 ∷ 3 ∷ 4 ∷ 18 ∷ 1 ∷ 3 ∷ 2 ∷ 6 ∷ 2 ∷ 3 ∷ 9 ∷ 12 ∷ 3 ∷ 4 ∷ 2 ∷ 4 ∷ 0 ∷ 10 ∷ [])
+    (made (graph (0 ∷ 1 ∷ 2 ∷ 3 ∷ 4 ∷ []) (edge 0 3 0 ∷ edge 1 3 1 ∷ edge 2 3 2 ∷ edge 3 4 3 ∷ [])))
+    -- 30: early delays of another length, and late ones; the edge falls, too
+    ∷ removalIs (design 2 (1 ∷ []) (0 ∷ []) [] (pos 0 ∷ [])) (removal noPaths ample 96) (refused (refusal 30 0))
+    ∷ removalIs (design 2 (1 ∷ []) (0 ∷ []) (pos 0 ∷ []) []) (removal noPaths ample 96) (refused (refusal 30 0))
+    -- 30: slices of the deck reader, of times and of records that have one place less or more, the last of each and another
+    ∷ readerAnswers bytesA (4 ∷ 4 ∷ 4 ∷ 4 ∷ 2 ∷ 1 ∷ []) Passed
+    ∷ readerAnswers bytesA (4 ∷ 4 ∷ 4 ∷ 5 ∷ 2 ∷ 1 ∷ []) (Refused (refusal 30 0))
+    ∷ readerAnswers bytesA (4 ∷ 4 ∷ 3 ∷ 4 ∷ 2 ∷ 1 ∷ []) (Refused (refusal 30 0))
+    ∷ timesAnswer deckA graphA 10 (6 ∷ 6 ∷ 6 ∷ 6 ∷ []) Passed
+    ∷ timesAnswer deckA graphA 10 (6 ∷ 6 ∷ 6 ∷ 5 ∷ []) (Refused (refusal 30 0))
+    ∷ timesAnswer deckA graphA 10 (6 ∷ 7 ∷ 6 ∷ 6 ∷ []) (Refused (refusal 30 0))
+    ∷ recordsAnswer 5 graphA (6 ∷ 6 ∷ 6 ∷ 6 ∷ []) (5 ∷ 5 ∷ 5 ∷ 5 ∷ 5 ∷ []) Passed
+    ∷ recordsAnswer 5 graphA (6 ∷ 6 ∷ 6 ∷ 5 ∷ []) (5 ∷ 5 ∷ 5 ∷ 5 ∷ 5 ∷ []) (Refused (refusal 30 0))
+    ∷ recordsAnswer 5 graphA (6 ∷ 6 ∷ 6 ∷ 6 ∷ []) (5 ∷ 5 ∷ 5 ∷ 5 ∷ 6 ∷ []) (Refused (refusal 30 0))
+    ∷ recordsAnswer 5 graphA (6 ∷ 6 ∷ 6 ∷ 6 ∷ []) (4 ∷ 5 ∷ 5 ∷ 5 ∷ 5 ∷ []) (Refused (refusal 30 0))
+    -- 14: by the early delay alone, and by the late one
+    ∷ removalIs (design 2 (0 ∷ []) (1 ∷ []) (negsuc 1000000 ∷ []) (pos 0 ∷ [])) (removal noPaths ample 96)
+    (refused (refusal 14 0))
+    ∷ removalIs (design 2 (0 ∷ []) (1 ∷ []) (pos 0 ∷ []) (pos 1000001 ∷ [])) (removal noPaths ample 96)
+    (refused (refusal 14 0))
+    -- 15: with delays above 0 and below, and not where they are equal; 14 and 13 at a later edge come before it
+    ∷ removalIs earlyAbove (removal noPaths ample 96) (refused (refusal 15 0))
+    ∷ removalIs earlyAboveBelowZero (removal noPaths ample 96) (refused (refusal 15 1))
+    ∷ removalIs (design 2 (0 ∷ []) (1 ∷ []) (pos 5 ∷ []) (pos 5 ∷ [])) (removal noPaths ample 96)
+    (made (graph (0 ∷ 1 ∷ []) (edge 0 1 0 ∷ [])))
+    ∷ removalIs earlyAboveAndFar (removal noPaths ample 96) (refused (refusal 14 1))
+    ∷ removalIs earlyAboveAndFalling (removal noPaths ample 96) (refused (refusal 13 1))
     -- An earlier graph that is not the design: two copies of a source, which removal keeps apart
     ∷ againIs forked splitSource (removal (pathList (0 ∷ 1 ∷ []) (2 ∷ [])) ample 999)
     (made (graph (0 ∷ 1 ∷ 3 ∷ []) (edge 0 1 0 ∷ edge 1 2 2 ∷ [])))
@@ -265,13 +374,16 @@ marked =
 
 pub marked-hold : All marked
 unfolding flatMap designGraph edgesIn edgesOut runsTo runsFrom completeRuns permitted tails mark permittedRuns copies
-    joins trueGraph wellFormed arrivalAt requiredAt slackAt nodeTimes packedIn groupsIn readNumber writeAnswer
-    writtenRoom readDeck graphNumbers packedGraph designTests listTests candidates scratchTest roomTests testDeck
-    removeFromDesign removeFromGraph programRemoval program cCall cRoom
+    joins trueGraph wellFormed arrivalAt requiredAt slackAt earliestAt nodeTimes arrivalsAfter requiredsAfter
+    slacksAfter earliestsAfter packedIn groupsIn readNumber writeAnswer writtenRoom readDeck graphNumbers packedGraph
+    designTests listTests candidates scratchTest roomTests testDeck removeFromDesign removeFromGraph programRemoval
+    program cCall cRoom deckRead testTimes testRecords
 marked-hold =
     refl also refl also refl also refl also refl also refl also refl also refl also refl also refl also refl also
     refl also refl also refl also refl also refl also refl also refl also refl also refl also refl also refl also
     refl also refl also refl also refl also refl also refl also refl also refl also refl also refl also refl also
     refl also refl also refl also refl also refl also refl also refl also refl also refl also refl also refl also
     refl also refl also refl also refl also refl also refl also refl also refl also refl also refl also refl also
-    refl also refl also none
+    refl also refl also refl also refl also refl also refl also refl also refl also refl also refl also refl also
+    refl also refl also refl also refl also refl also refl also refl also refl also refl also refl also refl also
+    refl also refl also refl also refl also none

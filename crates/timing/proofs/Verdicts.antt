@@ -13,7 +13,7 @@ use Rattle.timing.specs.declared.Verdict.the-variants.{Passed, Refused}
 use Rattle.timing.specs.declared.Fault.{Fault}
 use Rattle.timing.specs.declared.Fault.the-variants.{At, None}
 use Rattle.timing.specs.Refusals.{refusal, refusalWithin, _then_, unless, firstBad, unlessFault, firstFault}
-use Rattle.timing.specs.Tests.{sameSizes}
+use Rattle.timing.specs.Tests.{sameSizes, edgeSizes, timeSizes}
 
 abbrev Pass : Verdict → Type 0
 Pass Passed = Unit {0}
@@ -50,6 +50,10 @@ pub chain-four : {q₁ q₂ q₃ r : Verdict} (v a b c d : Verdict) → q₁ ≡
     → r ≡ (v then (a then (b then (c then d))))
 chain-four {q₁} v a b c d e f g h = chain-two v a (b then (c then d)) e (chain-three q₁ b c d f g h)
 
+pub chain-five : {q₁ q₂ q₃ q₄ r : Verdict} (v a b c d e : Verdict) → q₁ ≡ (v then a) → q₂ ≡ (q₁ then b) → q₃ ≡ (q₂ then c) → q₄ ≡ (q₃ then d)
+    → r ≡ (q₄ then e) → r ≡ (v then (a then (b then (c then (d then e)))))
+chain-five {q₁} v a b c d e p f g h i = chain-two v a (b then (c then (d then e))) p (chain-four q₁ b c d e f g h i)
+
 -- one more test after four
 pub after-four : {q r : Verdict} (a b c d e : Verdict) → q ≡ (a then (b then (c then d))) → r ≡ (q then e) → r ≡ (a then (b then (c then (d then e))))
 after-four a b c d e p h =
@@ -64,6 +68,19 @@ pub same-passed : (a b c : ℕ) → sameSizes a b c ≡ Passed → (b ≡ a) × 
 same-passed a b c e =
     let s = both-true (eqb a b) (eqb a c) (unless-passed 30 (eqb a b && eqb a c) e) in
     (sym (eqb-true a b (s .0)), sym (eqb-true a c (s .1)))
+
+pub edges-passed : (m a b c : ℕ) → edgeSizes m a b c ≡ Passed → (a ≡ m) × (b ≡ m) × (c ≡ m)
+edges-passed m a b c e =
+    let s = then-passed (sameSizes m m a) (sameSizes m b c) e in
+    let t = same-passed m b c (s .1) in
+    (same-passed m m a (s .0) .1, t .0, t .1)
+
+pub times-passed : (n a b c d : ℕ) → timeSizes n a b c d ≡ Passed → (a ≡ n) × (b ≡ n) × (c ≡ n) × (d ≡ n)
+times-passed n a b c d e =
+    let s = then-passed (sameSizes n a b) (sameSizes n c d) e in
+    let t = same-passed n a b (s .0) in
+    let u = same-passed n c d (s .1) in
+    (t .0, t .1, u .0, u .1)
 
 -- P is true of the refusal, if there is one.
 abbrev pub Every : (Refusal → Type 0) → Verdict → Type 0

@@ -1,6 +1,6 @@
 -- For each call its answer and what each lent buffer holds afterwards, for every input. "Slice calls test 30, then 10 to
--- 14, 20 to 25, 32, 31, 33, 34, 35, one number over everything before the next, leaving out tests of what a call does
--- not take." "A refusal changes no result buffer." "Result places past the result are unchanged."
+-- 14 [02, request 1: 15], 20 to 25, 32, 31, 33, 34, 35, one number over everything before the next, leaving out tests of
+-- what a call does not take." "A refusal changes no result buffer." "Result places past the result are unchanged."
 use Prim.Native.Nat.{ℕ, _+_, _*_}
 use mathlib.Core.Bool.{cond, _||_}
 use mathlib.Core.List.{List, map}
@@ -25,16 +25,16 @@ use Rattle.timing.specs.declared.NodeAnswer.{NodeAnswer}
 use Rattle.timing.specs.declared.NodeAnswer.the-variants.{Record}
 use Rattle.timing.specs.declared.NodeAnswer.the-variants.{Refused as NoRecord}
 use Rattle.timing.specs.Lists.{placed, upto}
-use Rattle.timing.specs.Graphs.{Design, edgeDelay, Graph, graph, edgesOf, designGraph}
+use Rattle.timing.specs.Graphs.{Design, edgeEarly, edgeLate, Graph, graph, edgesOf, designGraph}
 use Rattle.timing.specs.Marks.{PathList, pathList, pathsOf}
 use Rattle.timing.specs.TrueGraphs.{trueGraph}
-use Rattle.timing.specs.Times.{arrivalAt, requiredAt, slackAt, nodeRecord}
+use Rattle.timing.specs.Times.{arrivalAt, requiredAt, slackAt, earliestAt, nodeRecord}
 use Rattle.timing.specs.Numbers.{writeAnswer, writtenRoom}
 use Rattle.timing.specs.Parsing.{Parsed, found, stopped}
 use Rattle.timing.specs.Decks.{Deck, Tables, readDeck}
 use Rattle.timing.specs.GraphBytes.{packedGraph, readGraph}
 use Rattle.timing.specs.Refusals.{refusal, _then_}
-use Rattle.timing.specs.Tests.{sameSizes, designSizes, listSizes, nodeCount, designCounts, designTests, listCounts, listTests, allowedTest, graphTest, graphCounts, scratchTest, Room, roomSizes, roomTests}
+use Rattle.timing.specs.Tests.{sameSizes, edgeSizes, timeSizes, designSizes, listSizes, nodeCount, designCounts, designTests, listCounts, listTests, allowedTest, graphTest, graphCounts, scratchTest, Room, roomSizes, roomTests}
 
 -- a true graph as it is lent: the node of each copy, and three slices of edges
 pub record GraphSlices : Type 0 where
@@ -138,11 +138,10 @@ abbrev pub scratchAfter : {A : Type 0} → Outcome A → List ℕ → List ℕ
 scratchAfter (made x) s = map (λ w. 0) s
 scratchAfter (refused r) s = cond (eqb (r .number) 33 || eqb (r .number) 34 || eqb (r .number) 35) (map (λ w. 0) s) s
 
--- Times of a design, a true graph and T, into three lent slices with "one place for each copy".
-unfoldable pub testTimes : Design → GraphSlices → ℕ → ℕ → ℕ → ℕ → Verdict
-testTimes D S T arrivals requireds slacks =
-    let n = length (S .nodes) in
-    designSizes D then graphSizes S then sameSizes n arrivals requireds then sameSizes n n slacks
+-- Times of a design, a true graph and T, into four lent slices.
+unfoldable pub testTimes : Design → GraphSlices → ℕ → ℕ → ℕ → ℕ → ℕ → Verdict
+testTimes D S T arrivals requireds slacks earliests =
+    designSizes D then graphSizes S then timeSizes (length (S .nodes)) arrivals requireds slacks earliests
     then designTests D then allowedTest T then graphTest D (graphOf S)
 
 -- a slice with one place for each of n copies or nodes, afterwards: what f says of each
@@ -151,50 +150,57 @@ eachAfter Passed f n room = map f (upto n 0)
 eachAfter (Refused r) f n room = room
 
 unfoldable pub arrivalsAfter : Design → GraphSlices → ℕ → Verdict → List ℤ → List ℤ
-arrivalsAfter D S T v ts = eachAfter v (arrivalAt (edgeDelay D) (pos T) (graphOf S)) (length (S .nodes)) ts
+arrivalsAfter D S T v ts = eachAfter v (arrivalAt (edgeLate D) (pos T) (graphOf S)) (length (S .nodes)) ts
 
 unfoldable pub requiredsAfter : Design → GraphSlices → ℕ → Verdict → List ℤ → List ℤ
-requiredsAfter D S T v ts = eachAfter v (requiredAt (edgeDelay D) (pos T) (graphOf S)) (length (S .nodes)) ts
+requiredsAfter D S T v ts = eachAfter v (requiredAt (edgeLate D) (pos T) (graphOf S)) (length (S .nodes)) ts
 
 unfoldable pub slacksAfter : Design → GraphSlices → ℕ → Verdict → List ℤ → List ℤ
-slacksAfter D S T v ts = eachAfter v (slackAt (edgeDelay D) (pos T) (graphOf S)) (length (S .nodes)) ts
+slacksAfter D S T v ts = eachAfter v (slackAt (edgeLate D) (pos T) (graphOf S)) (length (S .nodes)) ts
+
+unfoldable pub earliestsAfter : Design → GraphSlices → Verdict → List ℤ → List ℤ
+earliestsAfter D S v ts = eachAfter v (earliestAt (edgeEarly D) (graphOf S)) (length (S .nodes)) ts
 
 -- The record of a node, from n and what is known of each copy.
-abbrev pub recordAnswer : ℕ → List ℕ → List ℤ → List ℤ → List ℤ → ℕ → Verdict → NodeAnswer
-recordAnswer n nodes ats rts sts v Passed = Record (nodeRecord n nodes ats rts sts v)
-recordAnswer n nodes ats rts sts v (Refused r) = NoRecord r
+abbrev pub recordAnswer : ℕ → List ℕ → List ℤ → List ℤ → List ℤ → List ℤ → ℕ → Verdict → NodeAnswer
+recordAnswer n nodes ats rts sts ets v Passed = Record (nodeRecord n nodes ats rts sts ets v)
+recordAnswer n nodes ats rts sts ets v (Refused r) = NoRecord r
 
-unfoldable pub recordOf : ℕ → List ℕ → List ℤ → List ℤ → List ℤ → ℕ → NodeAnswer
-recordOf n nodes ats rts sts v =
-    recordAnswer n nodes ats rts sts v
-    (sameSizes (length nodes) (length ats) (length rts) then sameSizes (length nodes) (length nodes) (length sts) then nodeCount n)
+unfoldable pub recordOf : ℕ → List ℕ → List ℤ → List ℤ → List ℤ → List ℤ → ℕ → NodeAnswer
+recordOf n nodes ats rts sts ets v =
+    recordAnswer n nodes ats rts sts ets v
+    (timeSizes (length nodes) (length ats) (length rts) (length sts) (length ets) then nodeCount n)
 
--- The records of all nodes, from n and what is known of each copy, into four lent slices with one place for each node: 1
--- where it has times and 0 where it has none; its arrival, its required time and its slack, which are 0 where it has none.
-unfoldable pub testRecords : ℕ → List ℕ → List ℤ → List ℤ → List ℤ → ℕ → ℕ → ℕ → ℕ → Verdict
-testRecords n nodes ats rts sts known arrivals requireds slacks =
-    sameSizes (length nodes) (length ats) (length rts) then sameSizes (length nodes) (length nodes) (length sts)
-    then sameSizes n known arrivals then sameSizes n requireds slacks then nodeCount n
+-- The records of all nodes, from n and what is known of each copy, into five lent slices with one place for each node: 1 where it has
+-- times and 0 where it has none; its arrival, its required time, its slack and its earliest arrival, which are 0 where it has none.
+unfoldable pub testRecords : ℕ → List ℕ → List ℤ → List ℤ → List ℤ → List ℤ → ℕ → ℕ → ℕ → ℕ → ℕ → Verdict
+testRecords n nodes ats rts sts ets known arrivals requireds slacks earliests =
+    timeSizes (length nodes) (length ats) (length rts) (length sts) (length ets)
+    then sameSizes n n known then timeSizes n arrivals requireds slacks earliests then nodeCount n
 
 abbrev pub hasTimes : NodeTimes → ℕ
-hasTimes (Times a r s) = 1
+hasTimes (Times a r s e) = 1
 hasTimes None = 0
 
 abbrev pub arrivalOf : NodeTimes → ℤ
-arrivalOf (Times a r s) = a
+arrivalOf (Times a r s e) = a
 arrivalOf None = pos 0
 
 abbrev pub requiredOf : NodeTimes → ℤ
-requiredOf (Times a r s) = r
+requiredOf (Times a r s e) = r
 requiredOf None = pos 0
 
 abbrev pub slackOf : NodeTimes → ℤ
-slackOf (Times a r s) = s
+slackOf (Times a r s e) = s
 slackOf None = pos 0
 
+abbrev pub earliestOf : NodeTimes → ℤ
+earliestOf (Times a r s e) = e
+earliestOf None = pos 0
+
 -- the slices afterwards, where f is what the slice tells of a record's times
-unfoldable pub recordsAfter : {A : Type 0} → (NodeTimes → A) → ℕ → List ℕ → List ℤ → List ℤ → List ℤ → Verdict → List A → List A
-recordsAfter f n nodes ats rts sts tested room = eachAfter tested (λ v. f (nodeRecord n nodes ats rts sts v .times)) n room
+unfoldable pub recordsAfter : {A : Type 0} → (NodeTimes → A) → ℕ → List ℕ → List ℤ → List ℤ → List ℤ → List ℤ → Verdict → List A → List A
+recordsAfter f n nodes ats rts sts ets tested room = eachAfter tested (λ v. f (nodeRecord n nodes ats rts sts ets v .times)) n room
 
 -- Reading: what was parsed, and then what is done with it.
 abbrev pub parsed : {A : Type 0} → Parsed A → Outcome A
@@ -206,10 +212,10 @@ abbrev pub guarded : {A : Type 0} → Verdict → Outcome A → Outcome A
 guarded Passed o = o
 guarded (Refused r) o = refused r
 
--- The deck reader, from the bytes and the lengths of the lent tables: starts, ends, delays; listed edges; lengths.
-unfoldable pub deckRead : List ℕ → ℕ → ℕ → ℕ → ℕ → ℕ → Outcome Deck
-deckRead s starts ends delays listed lengths =
-    guarded (sameSizes starts ends delays) (parsed (readDeck s (record { edges = starts; listed = listed; paths = lengths })))
+-- The deck reader, from the bytes and the lengths of the lent tables: starts, ends, early and late delays; listed edges; lengths.
+unfoldable pub deckRead : List ℕ → ℕ → ℕ → ℕ → ℕ → ℕ → ℕ → Outcome Deck
+deckRead s starts ends early late listed lengths =
+    guarded (edgeSizes starts ends early late) (parsed (readDeck s (record { edges = starts; listed = listed; paths = lengths })))
 
 abbrev pub deckAnswer : Outcome Deck → DeckRead
 deckAnswer (made d) =

@@ -1,4 +1,5 @@
--- "Deck: n, m, then start, end, delay for each edge; the count of paths, then for each its length and edges; T."
+-- "Deck: n, m, then start, end, delay for each edge; the count of paths, then for each its length and edges; T." Of each edge both
+-- delays, "in the deck early first" (02, request 1).
 use Prim.Native.Nat.{ℕ, zero, suc, _+_}
 use mathlib.Core.List.{List, [], _∷_, _++_, map, flatMap}
 use lib.Dec.{leb}
@@ -9,7 +10,7 @@ use Rattle.timing.specs.Marks.{PathList, pathList, pathsOf}
 use Rattle.timing.specs.Numbers.{packed}
 use Rattle.timing.specs.Delays.{packedDelay, delayOf}
 use Rattle.timing.specs.Refusals.{unless, _then_}
-use Rattle.timing.specs.Parsing.{Parsed, Reader, _>>=_, _>>_, return, tested, number, repeated, row, ended}
+use Rattle.timing.specs.Parsing.{Parsed, Reader, _>>=_, _>>_, return, tested, number, repeated, ended}
 
 pub record Deck : Type 0 where
   pub design : Design
@@ -17,11 +18,13 @@ pub record Deck : Type 0 where
   pub allowed : ℕ
 
 -- the numbers of a deck, in order
-abbrev pub edgeNumbers : List ℕ → List ℕ → List ℤ → List ℕ
-edgeNumbers [] ends delays = []
-edgeNumbers (s ∷ starts) [] delays = []
-edgeNumbers (s ∷ starts) (t ∷ ends) [] = []
-edgeNumbers (s ∷ starts) (t ∷ ends) (d ∷ delays) = s ∷ t ∷ packedDelay d ∷ edgeNumbers starts ends delays
+abbrev pub edgeNumbers : List ℕ → List ℕ → List ℤ → List ℤ → List ℕ
+edgeNumbers [] ends early late = []
+edgeNumbers (s ∷ starts) [] early late = []
+edgeNumbers (s ∷ starts) (t ∷ ends) [] late = []
+edgeNumbers (s ∷ starts) (t ∷ ends) (d ∷ early) [] = []
+edgeNumbers (s ∷ starts) (t ∷ ends) (d ∷ early) (l ∷ late) =
+    s ∷ t ∷ packedDelay d ∷ packedDelay l ∷ edgeNumbers starts ends early late
 
 abbrev pub pathNumbers : List ℕ → List ℕ
 pathNumbers p = length p ∷ p
@@ -30,7 +33,7 @@ unfoldable pub deckNumbers : Deck → List ℕ
 deckNumbers d =
     let D = d .design in
     let paths = pathsOf (d .list) in
-    (D .nodes ∷ length (D .starts) ∷ edgeNumbers (D .starts) (D .ends) (D .delays))
+    (D .nodes ∷ length (D .starts) ∷ edgeNumbers (D .starts) (D .ends) (D .early) (D .late))
     ++ (length paths ∷ flatMap pathNumbers paths)
     ++ (d .allowed ∷ [])
 
@@ -43,6 +46,27 @@ pub record Tables : Type 0 where
   pub edges : ℕ
   pub listed : ℕ
   pub paths : ℕ
+
+-- four numbers: how an edge stands in a deck
+pub record EdgeRow : Type 0 where
+  pub start : ℕ
+  pub end : ℕ
+  pub early : ℕ
+  pub late : ℕ
+
+abbrev pub edgeRow : List ℕ → Reader EdgeRow
+edgeRow s = do
+  a ← number s
+  b ← number s
+  c ← number s
+  d ← number s
+  return (record { start = a; end = b; early = c; late = d })
+
+-- the design of n nodes and the edges that were read
+abbrev pub designOf : ℕ → List EdgeRow → Design
+designOf n edges =
+    design n (map (λ r. r .start) edges) (map (λ r. r .end) edges)
+    (map (λ r. delayOf (r .early)) edges) (map (λ r. delayOf (r .late)) edges)
 
 -- the paths that are left to read: "the path lengths are summed as they are met, for 21 and its 36"
 abbrev pub paths : List ℕ → ℕ → ℕ → ℕ → Reader PathList
@@ -61,14 +85,14 @@ deckReader s tables = do
   tested (unless 10 (leb n 4096))
   m ← number s
   tested (unless 11 (leb m 16384) then unless 36 (leb m (tables .edges)))
-  edges ← repeated m (row s)
+  edges ← repeated m (edgeRow s)
   count ← number s
   tested (unless 20 (leb count 1024) then unless 36 (leb count (tables .paths)))
   list ← paths s (tables .listed) count 0
   allowed ← number s
   ended s
   return (record {
-    design = design n (map (λ r. r .first) edges) (map (λ r. r .second) edges) (map (λ r. delayOf (r .third)) edges);
+    design = designOf n edges;
     list = list;
     allowed = allowed;
   })

@@ -8,15 +8,16 @@ use lib.ListN.{length, getD}
 use lib.IntN.{ℤ, pos, _+ℤ_}
 use Rattle.timing.specs.Lists.{isNil, keep, upto}
 
--- a design: n nodes, and the start, the end and the delay of each edge
+-- a design: n nodes, and the start, the end, "an early and a late delay" of each edge (02, request 1)
 pub record Design : Type 0 where
   pub nodes : ℕ
   pub starts : List ℕ
   pub ends : List ℕ
-  pub delays : List ℤ
+  pub early : List ℤ
+  pub late : List ℤ
 
-abbrev pub design : ℕ → List ℕ → List ℕ → List ℤ → Design
-design n starts ends delays = record { nodes = n; starts = starts; ends = ends; delays = delays }
+abbrev pub design : ℕ → List ℕ → List ℕ → List ℤ → List ℤ → Design
+design n starts ends early late = record { nodes = n; starts = starts; ends = ends; early = early; late = late }
 
 abbrev pub edgeStart : Design → ℕ → ℕ
 edgeStart D k = getD (D .starts) k 0
@@ -24,8 +25,11 @@ edgeStart D k = getD (D .starts) k 0
 abbrev pub edgeEnd : Design → ℕ → ℕ
 edgeEnd D k = getD (D .ends) k 0
 
-abbrev pub edgeDelay : Design → ℕ → ℤ
-edgeDelay D k = getD (D .delays) k (pos 0)
+abbrev pub edgeEarly : Design → ℕ → ℤ
+edgeEarly D k = getD (D .early) k (pos 0)
+
+abbrev pub edgeLate : Design → ℕ → ℤ
+edgeLate D k = getD (D .late) k (pos 0)
 
 -- an edge of a graph: its start copy, its end copy and the design edge that it names
 pub record Edge : Type 0 where

@@ -55,7 +55,7 @@ repeated (suc k) p = do
   xs ← repeated k p
   return (x ∷ xs)
 
--- three numbers: how an edge stands in a deck and in a packed true graph
+-- three numbers: how an edge stands in a packed true graph
 pub record Row : Type 0 where
   pub first : ℕ
   pub second : ℕ

@@ -5,11 +5,12 @@ use mathlib.Core.List.{List, [], _∷_, map, flatMap}
 use lib.Dec.{eqb, ltb, leb}
 use lib.IntN.{natAbs}
 use lib.ListN.{length, drop}
+use lib.Signed.{ltZ}
 use Rattle.timing.specs.declared.Verdict.{Verdict}
 use Rattle.timing.specs.declared.Fault.{Fault}
 use Rattle.timing.specs.declared.Fault.the-variants.{At, None}
 use Rattle.timing.specs.Lists.{countOf, upto, sum}
-use Rattle.timing.specs.Graphs.{Design, edgeStart, edgeEnd, edgeDelay, Graph}
+use Rattle.timing.specs.Graphs.{Design, edgeStart, edgeEnd, edgeEarly, edgeLate, Graph}
 use Rattle.timing.specs.Marks.{PathList, pathsOf}
 use Rattle.timing.specs.WellFormed.{fewEnough, wellFormed}
 use Rattle.timing.specs.Refusals.{unless, firstBad, firstFault, _then_}
@@ -18,8 +19,16 @@ use Rattle.timing.specs.Refusals.{unless, firstBad, firstFault, _then_}
 abbrev pub sameSizes : ℕ → ℕ → ℕ → Verdict
 sameSizes a b c = unless 30 (eqb a b && eqb a c)
 
+-- "30 now covers four edge slices of a design" (02, request 1)
+abbrev pub edgeSizes : ℕ → ℕ → ℕ → ℕ → Verdict
+edgeSizes starts ends early late = sameSizes starts starts ends then sameSizes starts early late
+
 abbrev pub designSizes : Design → Verdict
-designSizes D = sameSizes (length (D .starts)) (length (D .ends)) (length (D .delays))
+designSizes D = edgeSizes (length (D .starts)) (length (D .ends)) (length (D .early)) (length (D .late))
+
+-- and the slices of the four times, with "one place for each copy", or for each node, of n
+abbrev pub timeSizes : ℕ → ℕ → ℕ → ℕ → ℕ → Verdict
+timeSizes n arrivals requireds slacks earliests = sameSizes n arrivals requireds then sameSizes n slacks earliests
 
 -- 30: "or the lengths of the paths do not add up to the flat list"
 abbrev pub listSizes : PathList → Verdict
@@ -40,15 +49,23 @@ strays D k = not (ltb (edgeStart D k) (D .nodes) && ltb (edgeEnd D k) (D .nodes)
 abbrev pub falls : Design → ℕ → Bool
 falls D k = not (ltb (edgeStart D k) (edgeEnd D k))
 
--- 14: "delay out of range", -1,000,000 to 1,000,000
-abbrev pub tooSlow : Design → ℕ → Bool
-tooSlow D k = not (leb (natAbs (edgeDelay D k)) 1000000)
+-- 14: "delay out of range", -1,000,000 to 1,000,000; "both delays are held to 14's range"
+abbrev pub outOfRange : Design → ℕ → Bool
+outOfRange D k = not (leb (natAbs (edgeEarly D k)) 1000000 && leb (natAbs (edgeLate D k)) 1000000)
 
--- 10 to 14, "one number over everything before the next"
+-- 15: "early above late"
+abbrev pub earlyAboveLate : Design → ℕ → Bool
+earlyAboveLate D k = ltZ (edgeLate D k) (edgeEarly D k)
+
+-- 10 to 15, "one number over everything before the next"
 unfoldable pub designTests : Design → Verdict
 designTests D =
     let edges = upto (length (D .starts)) 0 in
-    designCounts D then firstBad 12 (strays D) 0 edges then firstBad 13 (falls D) 0 edges then firstBad 14 (tooSlow D) 0 edges
+    designCounts D
+    then firstBad 12 (strays D) 0 edges
+    then firstBad 13 (falls D) 0 edges
+    then firstBad 14 (outOfRange D) 0 edges
+    then firstBad 15 (earlyAboveLate D) 0 edges
 
 -- 20, 21: "more than 1,024 paths; more than 8,192 listed edges"
 abbrev pub listCounts : PathList → Verdict

@@ -29,7 +29,11 @@ smallest [] = pos 0
 smallest (x ∷ []) = x
 smallest (x ∷ y ∷ xs) = smaller x (smallest (y ∷ xs))
 
--- times at a copy, for any delay d of a design edge
+-- "the smallest early delay of a path from a source copy, 0 at a source copy", for any delay d of a design edge
+unfoldable pub earliestAt : (ℕ → ℤ) → Graph → ℕ → ℤ
+earliestAt d G c = smallest (map (delayAlong d) (runsTo G (length (G .nodes)) c))
+
+-- the other times at a copy, which "go on using the late delay"; for any delay d of a design edge
 module _ (d : ℕ → ℤ) (T : ℤ) (G : Graph) where
   -- "arrival is the largest delay of a path from a source copy (0 at a source copy)"
   unfoldable pub arrivalAt : ℕ → ℤ
@@ -43,14 +47,17 @@ module _ (d : ℕ → ℤ) (T : ℤ) (G : Graph) where
   unfoldable pub slackAt : ℕ → ℤ
   slackAt c = requiredAt c -ℤ arrivalAt c
 
--- "At a node: the largest arrival, the smallest required and the smallest slack of its copies", from the node and the
--- three times of each copy; none "when it has no copy or is not below n"
-unfoldable pub nodeTimes : ℕ → List ℕ → List ℤ → List ℤ → List ℤ → ℕ → NodeTimes
-nodeTimes n nodes arrivals requireds slacks v =
+-- "At a node: the largest arrival, the smallest required and the smallest slack of its copies", and of its earliest arrivals "the
+-- smallest over its copies", from the node and the four times of each copy; none "when it has no copy or is not below n"
+unfoldable pub nodeTimes : ℕ → List ℕ → List ℤ → List ℤ → List ℤ → List ℤ → ℕ → NodeTimes
+nodeTimes n nodes arrivals requireds slacks earliests v =
     let cs : List ℕ = keep (λ c. eqb (getD nodes c 0) v) (upto (length nodes) 0) in
     let at : List ℤ → List ℤ = λ ts. map (λ c. getD ts c (pos 0)) cs in
-    cond (ltb v n && not (isNil cs)) (Times (largest (at arrivals)) (smallest (at requireds)) (smallest (at slacks))) None
+    cond
+    (ltb v n && not (isNil cs))
+    (Times (largest (at arrivals)) (smallest (at requireds)) (smallest (at slacks)) (smallest (at earliests)))
+    None
 
-abbrev pub nodeRecord : ℕ → List ℕ → List ℤ → List ℤ → List ℤ → ℕ → NodeRecord
-nodeRecord n nodes arrivals requireds slacks v =
-    record { node = v; times = nodeTimes n nodes arrivals requireds slacks v }
+abbrev pub nodeRecord : ℕ → List ℕ → List ℤ → List ℤ → List ℤ → List ℤ → ℕ → NodeRecord
+nodeRecord n nodes arrivals requireds slacks earliests v =
+    record { node = v; times = nodeTimes n nodes arrivals requireds slacks earliests v }

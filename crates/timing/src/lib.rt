@@ -93,12 +93,13 @@ pub enum GraphMade {
     Refused(Refusal),
 }
 
-// "Either its three times or the answer none."
+// "Either its three times or the answer none", and with the times the earliest arrival.
 pub enum NodeTimes {
     Times {
         arrival: i64,
         required: i64,
         slack: i64,
+        earliest: i64,
     },
     None,
 }

@@ -13,8 +13,8 @@ use Rattle.timing.specs.declared.Groups.the-variants.{Number, Ended, Unfit}
 use Rattle.timing.specs.Refusals.{refusal, unless, _then_}
 use Rattle.timing.specs.Numbers.{groupsIn, numberAnswer, readNumber}
 use Rattle.timing.specs.Delays.{delayOf}
-use Rattle.timing.specs.Parsing.{Parsed, found, stopped, Reader, onward, _>>=_, _>>_, return, tested, parsedNumber, number, repeated, Row, row, ended}
-use Rattle.timing.specs.Decks.{Deck, Tables, paths, readDeck}
+use Rattle.timing.specs.Parsing.{Parsed, found, stopped, Reader, onward, _>>=_, _>>_, return, tested, parsedNumber, number, repeated, ended}
+use Rattle.timing.specs.Decks.{Deck, Tables, EdgeRow, edgeRow, paths, readDeck}
 use Rattle.timing.specs.Calls.{Outcome, made, refused, parsed}
 use Rattle.packed.proofs.Numbers.{Inside, number-inside}
 use Rattle.deck_reader.specs.Reading.{deckFrom, edgeCount, edgesPlace, rowsFrom, Fits}
@@ -66,10 +66,12 @@ within-repeated {A} s p w (suc k) at h =
     within-onward s (p at) (λ x. repeated k p >>= (λ xs. return (x ∷ xs))) (w at h)
     (λ x a i. within-onward s (repeated k p a) (λ xs. return (x ∷ xs)) (within-repeated s p w k a i) (λ xs b j. j))
 
-within-row : (s : List ℕ) (at : ℕ) → at ≤ length s → Within s (row s at)
-within-row s at h =
+within-edge : (s : List ℕ) (at : ℕ) → at ≤ length s → Within s (edgeRow s at)
+within-edge s at h =
     within-onward s (number s at) _ (within-number s at h)
-    (λ x a i. within-onward s (number s a) _ (within-number s a i) (λ y b j. within-onward s (number s b) _ (within-number s b j) (λ z c k. k)))
+    (λ a p i. within-onward s (number s p) _ (within-number s p i)
+    (λ b q j. within-onward s (number s q) _ (within-number s q j)
+    (λ c r k. within-onward s (number s r) _ (within-number s r k) (λ d t l. l))))
 
 within-paths : (s : List ℕ) (table k sum at : ℕ) → at ≤ length s → Within s (paths s table k sum at)
 within-paths s table zero sum at h = h
@@ -93,17 +95,18 @@ within-deck s tables =
     (λ n a h. within-onward s (tested (unless 10 (leb n 4096)) a) _ (within-tested s (unless 10 (leb n 4096)) a (front-unless 10 (omega arith) (leb n 4096)) h)
     (λ u b i. within-onward s (number s b) _ (within-number s b i)
     (λ m c j. within-onward s (tested (unless 11 (leb m 16384) then unless 36 (leb m (tables .edges))) c) _ (within-count s 11 m 16384 (tables .edges) c (omega arith) j)
-    (λ v d k. within-onward s (repeated m (row s) d) _ (within-repeated s (row s) (within-row s) m d k)
+    (λ v d k. within-onward s (repeated m (edgeRow s) d) _ (within-repeated s (edgeRow s) (within-edge s) m d k)
     (λ rows e l. within-onward s (number s e) _ (within-number s e l)
     (λ count f o. within-onward s (tested (unless 20 (leb count 1024) then unless 36 (leb count (tables .paths))) f) _ (within-count s 20 count 1024 (tables .paths) f (omega arith) o)
     (λ w g q. within-onward s (paths s (tables .listed) count 0 g) _ (within-paths s (tables .listed) count 0 g q)
     (λ list t r. within-onward s (number s t) _ (within-number s t r)
     (λ allowed x y. within-onward s (ended s x) _ (within-ended s x y) (λ z aa bb. bb))))))))))
 
--- a deck that is read has three slices of edges of one length
+-- a deck that is read has four slices of edges of one length
 pub record Even (d : Deck) : Type 0 where
   pub ends : length (d .design .ends) ≡ length (d .design .starts)
-  pub delays : length (d .design .delays) ≡ length (d .design .starts)
+  pub early : length (d .design .early) ≡ length (d .design .starts)
+  pub late : length (d .design .late) ≡ length (d .design .starts)
 
 abbrev pub EvenRead : Outcome Deck → Type 0
 EvenRead (made d) = Even d
@@ -113,15 +116,16 @@ pub even-read : (s : List ℕ) (tables : Tables) → EvenRead (parsed (readDeck 
 unfolding deckFrom
 even-read s tables = go (readDeck s tables) (is-deck s tables)
   where
-    rows : List Row
+    rows : List EdgeRow
     rows = rowsFrom s (edgeCount s 0) (edgesPlace s 0)
 
     even : Even (deckFrom s 0)
     even =
-        let a = length-map rows (λ (r : Row). r .first) in
-        let b = length-map rows (λ (r : Row). r .second) in
-        let c = length-map rows (λ (r : Row). delayOf (r .third)) in
-        record { ends = omega (arith, a, b); delays = omega (arith, a, c) }
+        let a = length-map rows (λ (r : EdgeRow). r .start) in
+        let b = length-map rows (λ (r : EdgeRow). r .end) in
+        let c = length-map rows (λ (r : EdgeRow). delayOf (r .early)) in
+        let d = length-map rows (λ (r : EdgeRow). delayOf (r .late)) in
+        record { ends = omega (arith, a, b); early = omega (arith, a, c); late = omega (arith, a, d) }
 
     go : (p : Parsed Deck) → Is (λ x next. (x ≡ deckFrom s 0) × Fits s 0 tables) p → EvenRead (parsed p)
     go (found x at) h = subst Even (sym (h .0)) even

@@ -14,7 +14,7 @@ use Rattle.timing.specs.Marks.{PathList, pathsOf}
 use Rattle.timing.specs.TrueGraphs.{trueGraph}
 use Rattle.timing.specs.WellFormed.{wellFormed}
 use Rattle.timing.specs.Refusals.{unless, _then_}
-use Rattle.timing.specs.Tests.{sameSizes, designSizes, listSizes, designTests, listTests, allowedTest, graphTest, candidates, scratchWords, scratchTest, Room, roomSizes, roomTests}
+use Rattle.timing.specs.Tests.{sameSizes, timeSizes, designSizes, listSizes, designTests, listTests, allowedTest, graphTest, candidates, scratchWords, scratchTest, Room, roomSizes, roomTests}
 use Rattle.timing.specs.Calls.{GraphSlices, graphOf, graphSizes, outcome, Removal, removeFromDesign, removeFromGraph, graphAnswer, testTimes}
 use Rattle.theorems.proofs.Lists.{holds}
 use Rattle.timing.proofs.Verdicts.{every-then, every-unless}
@@ -30,6 +30,12 @@ small-unless k h fit = every-unless SmallRefusal k (h, omega arith) fit
 
 pub small-sizes : (a b c : ℕ) → Small (sameSizes a b c)
 small-sizes a b c = small-unless 30 (omega arith) (eqb a b && eqb a c)
+
+pub small-design-sizes : (D : Design) → Small (designSizes D)
+small-design-sizes D =
+    let m = length (D .starts) in
+    small-then (sameSizes m m (length (D .ends))) (sameSizes m (length (D .early)) (length (D .late)))
+    (small-sizes m m (length (D .ends))) (λ e. small-sizes m (length (D .early)) (length (D .late)))
 
 pub small-design : (D : Design) → Small (designTests D)
 small-design D = every-design SmallRefusal D (λ k j a b l. (omega arith, omega arith))
@@ -90,7 +96,7 @@ small-from-design D r =
     subst (λ (v : Verdict). SmallGraph (graphAnswer (outcome v H)))
     (early-six (designSizes D) (listSizes (r .list)) (roomSizes (r .room)) (designTests D) (listTests D (r .list)) (scratchTest D G (r .list) (r .scratch)) (roomTests (r .room) H))
     (small-made (r .room) H (designEarly D r)
-    (small-then (designSizes D) _ (small-sizes (length (D .starts)) (length (D .ends)) (length (D .delays)))
+    (small-then (designSizes D) _ (small-design-sizes D)
     (λ e. small-then (listSizes (r .list)) _ (small-list-sizes (r .list))
     (λ e. small-then (roomSizes (r .room)) _ (small-sizes (r .room .starts) (r .room .ends) (r .room .names))
     (λ e. small-then (designTests D) _ (small-design D)
@@ -104,7 +110,7 @@ small-from-graph D S r =
     subst (λ (v : Verdict). SmallGraph (graphAnswer (outcome v H)))
     (early-eight (designSizes D) (listSizes (r .list)) (graphSizes S) (roomSizes (r .room)) (designTests D) (listTests D (r .list)) (graphTest D G) (scratchTest D G (r .list) (r .scratch)) (roomTests (r .room) H))
     (small-made (r .room) H (graphEarly D S r)
-    (small-then (designSizes D) _ (small-sizes (length (D .starts)) (length (D .ends)) (length (D .delays)))
+    (small-then (designSizes D) _ (small-design-sizes D)
     (λ e. small-then (listSizes (r .list)) _ (small-list-sizes (r .list))
     (λ e. small-then (graphSizes S) _ (small-sizes (length (S .starts)) (length (S .ends)) (length (S .names)))
     (λ e. small-then (roomSizes (r .room)) _ (small-sizes (r .room .starts) (r .room .ends) (r .room .names))
@@ -112,13 +118,12 @@ small-from-graph D S r =
     (λ e. small-then (listTests D (r .list)) _ (small-list D (r .list))
     (λ e. small-then (graphTest D G) _ (small-unless 32 (omega arith) (wellFormed D G)) (λ e. small-scratch D G (r .list) (r .scratch))))))))))
 
-pub small-times : (D : Design) (S : GraphSlices) (T a r s : ℕ) → Small (testTimes D S T a r s)
+pub small-times : (D : Design) (S : GraphSlices) (T a r s e : ℕ) → Small (testTimes D S T a r s e)
 unfolding testTimes
-small-times D S T a r s =
+small-times D S T a r s e =
     let n = length (S .nodes) in
-    small-then (designSizes D) _ (small-sizes (length (D .starts)) (length (D .ends)) (length (D .delays)))
-    (λ e. small-then (graphSizes S) _ (small-sizes (length (S .starts)) (length (S .ends)) (length (S .names)))
-    (λ e. small-then (sameSizes n a r) _ (small-sizes n a r)
-    (λ e. small-then (sameSizes n n s) _ (small-sizes n n s)
-    (λ e. small-then (designTests D) _ (small-design D)
-    (λ e. small-then (allowedTest T) _ (small-unless 25 (omega arith) (leb T 1000000000)) (λ e. small-unless 32 (omega arith) (wellFormed D (graphOf S))))))))
+    small-then (designSizes D) _ (small-design-sizes D)
+    (λ q. small-then (graphSizes S) _ (small-sizes (length (S .starts)) (length (S .ends)) (length (S .names)))
+    (λ q. small-then (timeSizes n a r s e) _ (small-then (sameSizes n a r) (sameSizes n s e) (small-sizes n a r) (λ p. small-sizes n s e))
+    (λ q. small-then (designTests D) _ (small-design D)
+    (λ q. small-then (allowedTest T) _ (small-unless 25 (omega arith) (leb T 1000000000)) (λ q. small-unless 32 (omega arith) (wellFormed D (graphOf S)))))))

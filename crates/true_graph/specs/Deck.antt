@@ -38,13 +38,13 @@ madeRoom (Counts copies edges) S room = roomAfterWriting (graphWriteTests (front
 madeRoom (NoGraph r) S room = room
 
 -- the deck in front of tables
-abbrev pub ReadFits : DeckRead → List ℕ → List ℕ → List ℤ → List ℕ → List ℕ → Type 0
-ReadFits (DeckFound n edges count paths allowed) starts ends delays listed lengths =
-    (edges ≤ length starts) × (edges ≤ length ends) × (edges ≤ length delays) × (count ≤ length listed) × (paths ≤ length lengths)
-ReadFits (NoDeck r) starts ends delays listed lengths = Unit {0}
+abbrev pub ReadFits : DeckRead → List ℕ → List ℕ → List ℤ → List ℤ → List ℕ → List ℕ → Type 0
+ReadFits (DeckFound n edges count paths allowed) starts ends early late listed lengths =
+    (edges ≤ length starts) × (edges ≤ length ends) × (edges ≤ length early) × (edges ≤ length late) × (count ≤ length listed) × (paths ≤ length lengths)
+ReadFits (NoDeck r) starts ends early late listed lengths = Unit {0}
 
 -- and its true graph
-abbrev pub readRemoval : DeckRead → List ℕ → List ℕ → List ℤ → List ℕ → List ℕ → Outcome Graph
-readRemoval (DeckFound n edges count paths allowed) starts ends delays listed lengths =
-    programRemoval (deckOf (design n (take edges starts) (take edges ends) (take edges delays)) (pathList (take count listed) (take paths lengths)) allowed)
-readRemoval (NoDeck r) starts ends delays listed lengths = refused r
+abbrev pub readRemoval : DeckRead → List ℕ → List ℕ → List ℤ → List ℤ → List ℕ → List ℕ → Outcome Graph
+readRemoval (DeckFound n edges count paths allowed) starts ends early late listed lengths =
+    programRemoval (deckOf (design n (take edges starts) (take edges ends) (take edges early) (take edges late)) (pathList (take count listed) (take paths lengths)) allowed)
+readRemoval (NoDeck r) starts ends early late listed lengths = refused r

@@ -48,13 +48,14 @@ fn pack_graph(
     n: u32,
     starts: &[u32],
     ends: &[u32],
-    delays: &[i32],
+    early: &[i32],
+    late: &[i32],
     listed: &[u32],
     lengths: &[u32],
     room: &mut [u8],
 ) -> Written
     ensures { λ r.
-        let D = design n (now (starts .entry)) (now (ends .entry)) (now (delays .entry)) in
+        let D = design n (now (starts .entry)) (now (ends .entry)) (now (early .entry)) (now (late .entry)) in
         let L = pathList (now (listed .entry)) (now (lengths .entry)) in
         let o = removeFromDesign D (removal L programRoom 16384) in
         ⌜ (r ≡ cWritten o (now (room .entry)))
@@ -69,7 +70,8 @@ fn pack_graph(
         n,
         starts,
         ends,
-        delays,
+        early,
+        late,
         listed,
         lengths,
         &mut room_nodes,
@@ -86,24 +88,25 @@ fn pack_tested(
     n: u32,
     starts: &[u32],
     ends: &[u32],
-    delays: &[i32],
+    early: &[i32],
+    late: &[i32],
     listed: &[u32],
     lengths: &[u32],
     allowed: u32,
     room: &mut [u8],
 ) -> Written
     ensures { λ r.
-        let D = design n (now (starts .entry)) (now (ends .entry)) (now (delays .entry)) in
+        let D = design n (now (starts .entry)) (now (ends .entry)) (now (early .entry)) (now (late .entry)) in
         let L = pathList (now (listed .entry)) (now (lengths .entry)) in
         let o = programRemoval (deckOf D L allowed) in
         ⌜ (r ≡ cWritten o (now (room .entry)))
         × (now (room .exit) ≡ roomAfterC o (now (room .entry))) ⌝ }
 {
-    let verdict = test_deck(n, starts, ends, delays, listed, lengths, allowed);
+    let verdict = test_deck(n, starts, ends, early, late, listed, lengths, allowed);
     if let Verdict::Refused(r) = verdict {
         return Written::Refused(r);
     }
-    pack_graph(n, starts, ends, delays, listed, lengths, room)
+    pack_graph(n, starts, ends, early, late, listed, lengths, room)
 }
 
 // The same for a deck that was read into tables: it stands in front of them.
@@ -111,15 +114,16 @@ fn pack_read(
     read: DeckRead,
     starts: &[u32],
     ends: &[u32],
-    delays: &[i32],
+    early: &[i32],
+    late: &[i32],
     listed: &[u32],
     lengths: &[u32],
     room: &mut [u8],
 ) -> Written
-    requires { ⌜ ReadFits read (now starts) (now ends) (now delays) (now listed) (now lengths) ⌝ }
+    requires { ⌜ ReadFits read (now starts) (now ends) (now early) (now late) (now listed) (now lengths) ⌝ }
     ensures { λ r.
-        let o = readRemoval read (now (starts .entry)) (now (ends .entry)) (now (delays .entry))
-        (now (listed .entry)) (now (lengths .entry)) in
+        let o = readRemoval read (now (starts .entry)) (now (ends .entry))
+        (now (early .entry)) (now (late .entry)) (now (listed .entry)) (now (lengths .entry)) in
         ⌜ (r ≡ cWritten o (now (room .entry)))
         × (now (room .exit) ≡ roomAfterC o (now (room .entry))) ⌝ }
 {
@@ -135,7 +139,8 @@ fn pack_read(
             nodes,
             &starts[..edges],
             &ends[..edges],
-            &delays[..edges],
+            &early[..edges],
+            &late[..edges],
             &listed[..count],
             &lengths[..paths],
             allowed,
@@ -156,16 +161,18 @@ pub fn pack(deck: &[u8], room: &mut [u8]) -> Written
     }
     let mut starts = [0; 1024];
     let mut ends = [0; 1024];
-    let mut delays = [0; 1024];
+    let mut early = [0; 1024];
+    let mut late = [0; 1024];
     let mut listed = [0; 1024];
     let mut lengths = [0; 256];
     let read = read_deck(
         deck,
         &mut starts,
         &mut ends,
-        &mut delays,
+        &mut early,
+        &mut late,
         &mut listed,
         &mut lengths,
     );
-    pack_read(read, &starts, &ends, &delays, &listed, &lengths, room)
+    pack_read(read, &starts, &ends, &early, &late, &listed, &lengths, room)
 }

@@ -1,6 +1,8 @@
-// Tests the decks on standard input, and prints what is found. The input is packed numbers: a count,
-// and for each deck n, T, and then its five slices: starts, ends, delays, listed edges, lengths.
+// Tests the decks on standard input, and prints what is found. The input is two blocks of 65,536 bytes,
+// each of packed numbers: a count, and for each deck n, T, and then its six slices: starts, ends, early
+// and late delays, listed edges, lengths.
 // Crate `cases` says how a slice is packed.
+use cases::Slice;
 use cases::fill;
 use cases::unpack;
 use entries::front;
@@ -19,32 +21,64 @@ fn say(v: Verdict) {
     text(b"\n");
 }
 
-// Tests the deck at a place, and answers the place behind it.
+// Delays from their packed numbers.
+fn fill_delays(s: &[u8], at: usize, delays: &mut [i32]) -> Slice {
+    let mut codes = [0u32; 16400];
+    let c = fill(s, at, &mut codes);
+    unpack(front(&codes, c.len), delays);
+    c
+}
+
+// Tests a deck whose list stands at a place, and answers the place behind it.
+fn test(
+    s: &[u8],
+    at: usize,
+    n: u32,
+    allowed: u32,
+    starts: &[u32],
+    ends: &[u32],
+    early: &[i32],
+    late: &[i32],
+) -> usize {
+    let mut listed = [0u32; 8200];
+    let mut lengths = [0u32; 1040];
+    let a = fill(s, at, &mut listed);
+    let b = fill(s, a.next, &mut lengths);
+    say(unfit::test_deck(
+        n,
+        starts,
+        ends,
+        early,
+        late,
+        front(&listed, a.len),
+        front(&lengths, b.len),
+        allowed,
+    ));
+    b.next
+}
+
+// The same, with all of the deck at the place.
 fn case(s: &[u8], at: usize) -> usize {
     let n = take_number(s, at);
     let allowed = take_number(s, n.next);
     let mut starts = [0u32; 16400];
     let mut ends = [0u32; 16400];
-    let mut codes = [0u32; 16400];
-    let mut delays = [0i32; 16400];
-    let mut listed = [0u32; 8200];
-    let mut lengths = [0u32; 1040];
+    let mut early = [0i32; 16400];
+    let mut late = [0i32; 16400];
     let a = fill(s, allowed.next, &mut starts);
     let b = fill(s, a.next, &mut ends);
-    let c = fill(s, b.next, &mut codes);
-    let d = fill(s, c.next, &mut listed);
-    let e = fill(s, d.next, &mut lengths);
-    unpack(front(&codes, c.len), &mut delays);
-    say(unfit::test_deck(
+    let c = fill_delays(s, b.next, &mut early);
+    let d = fill_delays(s, c.next, &mut late);
+    test(
+        s,
+        d.next,
         n.value,
+        allowed.value,
         front(&starts, a.len),
         front(&ends, b.len),
-        front_delays(&delays, c.len),
-        front(&listed, d.len),
-        front(&lengths, e.len),
-        allowed.value,
-    ));
-    e.next
+        front_delays(&early, c.len),
+        front_delays(&late, d.len),
+    )
 }
 
 fn run(s: &[u8]) {
@@ -57,8 +91,13 @@ fn run(s: &[u8]) {
     }
 }
 
-fn main() {
+fn run_block() {
     let mut input = io::large_buffer();
     let len = io::read_full(STDIN_FILENO, &mut input);
     run(&input[..len]);
+}
+
+fn main() {
+    run_block();
+    run_block();
 }

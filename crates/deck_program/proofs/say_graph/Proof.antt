@@ -25,6 +25,12 @@ array-borrow-prefix-slacks c = search needs
 slice-aggregate-say-times-3 : tie.Need-slice-aggregate-say-times-3
 slice-aggregate-say-times-3 c = simp length-take (omega (arith, c .before .before .before .before .least .ensures .2))
 
+array-borrow-prefix-earliests : tie.Need-array-borrow-prefix-earliests
+array-borrow-prefix-earliests c = search needs
+
+slice-aggregate-say-times-4 : tie.Need-slice-aggregate-say-times-4
+slice-aggregate-say-times-4 c = simp length-take (omega (arith, c .before .before .before .before .before .least .ensures .2))
+
 say-times-requires : tie.Need-say-times-requires
 say-times-requires c κs = tt
 
@@ -42,5 +48,7 @@ say-graph-spec =
     slice-aggregate-say-times-2
     array-borrow-prefix-slacks
     slice-aggregate-say-times-3
+    array-borrow-prefix-earliests
+    slice-aggregate-say-times-4
     say-times-requires
     returns)

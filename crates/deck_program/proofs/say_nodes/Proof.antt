@@ -31,6 +31,12 @@ array-borrow-prefix-ns c = search needs
 slice-aggregate-say-records-4 : tie.Need-slice-aggregate-say-records-4
 slice-aggregate-say-records-4 c = simp length-take (omega (arith, c .before .before .before .before .before .least .ensures .2))
 
+array-borrow-prefix-ne : tie.Need-array-borrow-prefix-ne
+array-borrow-prefix-ne c = search needs
+
+slice-aggregate-say-records-5 : tie.Need-slice-aggregate-say-records-5
+slice-aggregate-say-records-5 c = simp length-take (omega (arith, c .before .before .before .before .before .before .least .ensures .2))
+
 say-records-requires : tie.Need-say-records-requires
 say-records-requires c κs = tt
 
@@ -50,5 +56,7 @@ say-nodes-spec =
     slice-aggregate-say-records-3
     array-borrow-prefix-ns
     slice-aggregate-say-records-4
+    array-borrow-prefix-ne
+    slice-aggregate-say-records-5
     say-records-requires
     returns)

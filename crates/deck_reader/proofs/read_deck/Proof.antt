@@ -4,7 +4,7 @@ use lib.ListN.{length}
 use Rattle.timing.specs.Decks.{Tables, Deck}
 use Rattle.timing.specs.Calls.{Outcome, deckRead}
 use Rattle.deck_reader.specs.Reading.{deckFrom}
-use Rattle.timing.proofs.Verdicts.{same-passed}
+use Rattle.timing.proofs.Verdicts.{edges-passed}
 use Rattle.deck_reader.proofs.Reading.{read-sizes, read-stopped, read-made, read-passed, tables-kept, tables-filled}
 use borrow.Author.Needs.{needs}
 use Rattle.deck_reader.proofs.read_deck.Statement.{statement}
@@ -15,10 +15,10 @@ abbrev tablesAt : tie.Start → Tables
 tablesAt st = record { edges = length (st .args .starts .now); listed = length (st .args .listed .now); paths = length (st .args .lengths .now) }
 
 abbrev outcomeAt : tie.Start → Outcome Deck
-outcomeAt st = let a = st .args in deckRead (a .s .now) (length (a .starts .now)) (length (a .ends .now)) (length (a .delays .now)) (length (a .listed .now)) (length (a .lengths .now))
+outcomeAt st = let a = st .args in deckRead (a .s .now) (length (a .starts .now)) (length (a .ends .now)) (length (a .early .now)) (length (a .late .now)) (length (a .listed .now)) (length (a .lengths .now))
 
-same-sizes-requires : tie.Need-same-sizes-requires
-same-sizes-requires c κs = search needs
+edge-sizes-requires : tie.Need-edge-sizes-requires
+edge-sizes-requires c κs = search needs
 
 enum-known-sizes : tie.Need-enum-known-sizes
 enum-known-sizes c = search needs
@@ -28,8 +28,8 @@ returns c =
     let z = c .before .before .before in
     let st = z .before .before .before .before .before .before in
     let a = st .args in
-    tables-kept (a .starts .now) (a .ends .now) (a .delays .now) (a .listed .now) (a .lengths .now) (outcomeAt st) _
-    (read-sizes (a .s .now) (length (a .starts .now)) (length (a .ends .now)) (length (a .delays .now)) (length (a .listed .now)) (length (a .lengths .now)) _ (sym (z .same-sizes .ensures) ∙ c .before .sizes .given .1))
+    tables-kept (a .starts .now) (a .ends .now) (a .early .now) (a .late .now) (a .listed .now) (a .lengths .now) (outcomeAt st) _
+    (read-sizes (a .s .now) (length (a .starts .now)) (length (a .ends .now)) (length (a .early .now)) (length (a .late .now)) (length (a .listed .now)) (length (a .lengths .now)) _ (sym (z .edge-sizes .ensures) ∙ c .before .sizes .given .1))
 
 enum-told : tie.Need-enum-told
 enum-told c = search needs
@@ -46,22 +46,22 @@ returns-2 c =
     let z = k .before .before .before in
     let st = z .before .before .before .before .before .before in
     let a = st .args in
-    tables-kept (a .starts .now) (a .ends .now) (a .delays .now) (a .listed .now) (a .lengths .now) (outcomeAt st) _
-    (read-stopped (a .s .now) (length (a .starts .now)) (length (a .ends .now)) (length (a .delays .now)) (length (a .listed .now)) (length (a .lengths .now)) _
-    (sym (z .same-sizes .ensures) ∙ k .before .enum-told .given .1) (sym (k .look-deck .ensures) ∙ c .before .look .given .1))
+    tables-kept (a .starts .now) (a .ends .now) (a .early .now) (a .late .now) (a .listed .now) (a .lengths .now) (outcomeAt st) _
+    (read-stopped (a .s .now) (length (a .starts .now)) (length (a .ends .now)) (length (a .early .now)) (length (a .late .now)) (length (a .listed .now)) (length (a .lengths .now)) _
+    (sym (z .edge-sizes .ensures) ∙ k .before .enum-told .given .1) (sym (k .look-deck .ensures) ∙ c .before .look .given .1))
 
 enum-told-2 : tie.Need-enum-told-2
 enum-told-2 c = search needs
 
 fill-deck-requires : tie.Need-fill-deck-requires
 fill-deck-requires c κs =
-    let t = c .before .before .before .before .before in
+    let t = c .before .before .before .before .before .before in
     let k = t .before .before in
     let z = k .before .before .before in
     let st = z .before .before .before .before .before .before in
     let a = st .args in
-    let q = same-passed (length (a .starts .now)) (length (a .ends .now)) (length (a .delays .now)) (sym (z .same-sizes .ensures) ∙ k .before .enum-told .given .1) in
-    (read-passed (a .s .now) (tablesAt st) (sym (k .look-deck .ensures) ∙ t .enum-told2 .given .1) .1, q .0, q .1)
+    let q = edges-passed (length (a .starts .now)) (length (a .ends .now)) (length (a .early .now)) (length (a .late .now)) (sym (z .edge-sizes .ensures) ∙ k .before .enum-told .given .1) in
+    (read-passed (a .s .now) (tablesAt st) (sym (k .look-deck .ensures) ∙ t .enum-told2 .given .1) .1, q .0, q .1, q .2)
 
 same-length : tie.Need-same-length
 same-length c = search needs
@@ -78,23 +78,26 @@ same-length-4 c = search needs
 same-length-5 : tie.Need-same-length-5
 same-length-5 c = search needs
 
+same-length-6 : tie.Need-same-length-6
+same-length-6 c = search needs
+
 returns-3 : tie.Need-returns-3
 returns-3 c =
-    let f = c .before .before .before .before .before .before .before .before .before in
-    let t = f .before .before .before .before .before .before in
+    let f = c .before .before .before .before .before .before .before .before .before .before in
+    let t = f .before .before .before .before .before .before .before in
     let k = t .before .before in
     let z = k .before .before .before in
     let st = z .before .before .before .before .before .before in
     let a = st .args in
-    tables-filled (a .starts .now) (a .ends .now) (a .delays .now) (a .listed .now) (a .lengths .now) (outcomeAt st) (deckFrom (a .s .now) 0) _ _ _ _ _ _
-    (read-made (a .s .now) (length (a .starts .now)) (length (a .ends .now)) (length (a .delays .now)) (length (a .listed .now)) (length (a .lengths .now))
-    (sym (z .same-sizes .ensures) ∙ k .before .enum-told .given .1) (sym (k .look-deck .ensures) ∙ t .enum-told2 .given .1)) (f .fill-deck .ensures)
+    tables-filled (a .starts .now) (a .ends .now) (a .early .now) (a .late .now) (a .listed .now) (a .lengths .now) (outcomeAt st) (deckFrom (a .s .now) 0) _ _ _ _ _ _ _
+    (read-made (a .s .now) (length (a .starts .now)) (length (a .ends .now)) (length (a .early .now)) (length (a .late .now)) (length (a .listed .now)) (length (a .lengths .now))
+    (sym (z .edge-sizes .ensures) ∙ k .before .enum-told .given .1) (sym (k .look-deck .ensures) ∙ t .enum-told2 .given .1)) (f .fill-deck .ensures)
 
 pub read-deck-spec : {M : Type 1} → statement M
 read-deck-spec =
     tie.close
     (tie.spec
-    same-sizes-requires
+    edge-sizes-requires
     enum-known-sizes
     returns
     enum-told
@@ -108,4 +111,5 @@ read-deck-spec =
     same-length-3
     same-length-4
     same-length-5
+    same-length-6
     returns-3)

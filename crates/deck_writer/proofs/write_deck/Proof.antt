@@ -13,7 +13,7 @@ use Rattle.deck_writer.proofs.write_deck.Tie as tie
 
 -- the deck that is written, and its tests
 abbrev deckAt : tie.Start → Deck
-deckAt s = let a = s .args in deckOf (a .n) (a .starts .now) (a .ends .now) (a .delays .now) (a .listed .now) (a .lengths .now) (a .allowed)
+deckAt s = let a = s .args in deckOf (a .n) (a .starts .now) (a .ends .now) (a .early .now) (a .late .now) (a .listed .now) (a .lengths .now) (a .allowed)
 
 tested : (c : tie.After-write-tests) → deckWriteTests (deckAt (c .before .before .before .before .before .before)) ≡ c .write-tests .result
 tested c = sym (tests-untimed (deckAt (c .before .before .before .before .before .before))) ∙ sym (c .write-tests .ensures)

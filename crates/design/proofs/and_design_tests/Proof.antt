@@ -2,8 +2,8 @@ use lib.ListN.{length}
 use Rattle.timing.specs.Lists.{upto}
 use Rattle.timing.specs.Refusals.{firstBad}
 use Rattle.timing.specs.Graphs.{design}
-use Rattle.timing.specs.Tests.{designCounts, strays, falls, tooSlow, designTests}
-use Rattle.timing.proofs.Verdicts.{chain-four}
+use Rattle.timing.specs.Tests.{designCounts, strays, falls, outOfRange, earlyAboveLate, designTests}
+use Rattle.timing.proofs.Verdicts.{chain-five}
 use borrow.Author.Needs.{needs}
 use Rattle.design.proofs.and_design_tests.Statement.{statement}
 use Rattle.design.proofs.and_design_tests.Tie as tie
@@ -20,17 +20,22 @@ and-rise-requires c κs = search needs
 and-in-range-requires : tie.Need-and-in-range-requires
 and-in-range-requires c κs = search needs
 
+and-ordered-requires : tie.Need-and-ordered-requires
+and-ordered-requires c κs = search needs
+
 returns : tie.Need-returns
 unfolding designTests
 returns c =
-    let rising = c .before in
+    let ranged = c .before in
+    let rising = ranged .before in
     let known = rising .before in
     let counts = known .before in
     let a = counts .before .before .before .args in
-    let D = design (a .n) (a .starts .now) (a .ends .now) (a .delays .now) in
+    let D = design (a .n) (a .starts .now) (a .ends .now) (a .early .now) (a .late .now) in
     let edges = upto (length (a .starts .now)) 0 in
-    chain-four (a .before) (designCounts D) (firstBad 12 (strays D) 0 edges) (firstBad 13 (falls D) 0 edges) (firstBad 14 (tooSlow D) 0 edges)
-    (counts .and-design-counts .ensures) (known .and-known .ensures) (rising .and-rise .ensures) (c .and-in-range .ensures)
+    chain-five (a .before) (designCounts D) (firstBad 12 (strays D) 0 edges) (firstBad 13 (falls D) 0 edges)
+    (firstBad 14 (outOfRange D) 0 edges) (firstBad 15 (earlyAboveLate D) 0 edges)
+    (counts .and-design-counts .ensures) (known .and-known .ensures) (rising .and-rise .ensures) (ranged .and-in-range .ensures) (c .and-ordered .ensures)
 
 pub and-design-tests-spec : {M : Type 1} → statement M
 and-design-tests-spec =
@@ -40,4 +45,5 @@ and-design-tests-spec =
     and-known-requires
     and-rise-requires
     and-in-range-requires
+    and-ordered-requires
     returns)

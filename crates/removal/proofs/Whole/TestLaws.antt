@@ -5,7 +5,7 @@ use native.Mathlib.Decide.{decLt}
 use mathlib.Core.Path.{_≡_, refl, sym, ap, _∙_, subst}
 use mathlib.Core.Bool.{Bool, false, cond, _&&_, _||_}
 use mathlib.Core.List.{List, [], _∷_, map}
-use lib.Dec.{eqb, leb, eqb→eq, leb→le}
+use lib.Dec.{eqb, leb, leb→le}
 use borrow.Author.Tests.{ne-eqb}
 use lib.IntN.{ℤ}
 use lib.ListN.{length, getD, set, take}
@@ -24,7 +24,7 @@ use Rattle.timing.specs.Refusals.{unless, _then_}
 use Rattle.timing.specs.Tests.{sameSizes, designSizes, listSizes, nodeCount, designTests, listTests, graphTest}
 use Rattle.timing.specs.Calls.{GraphSlices, graphSlices, graphOf, graphSizes, Outcome, refused, outcome, Removal, lentRemoval, removalTests, removeFromDesign, removeFromGraph, graphAnswer, nodesAfter, startsAfter, endsAfter, namesAfter, scratchAfter}
 use Rattle.theorems.proofs.Lists.{and-left, and-right, holds, length-upto}
-use Rattle.timing.proofs.Verdicts.{then-passed, unless-passed, Every, every-then, every-unless}
+use Rattle.timing.proofs.Verdicts.{then-passed, unless-passed, same-passed, Every, every-then, every-unless}
 use Rattle.theorems.proofs.Tests.{every-design, every-list}
 use Rattle.theorems.proofs.Tested.{DesignFits, design-fits, ListFits, list-fits, formed, tests-count, no-delays}
 use Rattle.theorems.proofs.Legal.{fits-legal, formed-legal}
@@ -52,19 +52,13 @@ graph-chain Passed Passed Passed Passed (Refused x) u c w f = refl
 graph-chain Passed Passed Passed Passed Passed (Refused x) c w f = refl
 graph-chain Passed Passed Passed Passed Passed Passed c w f = ap (λ (v : Verdict). v then w) (f refl)
 
-pub graph-called : (n : ℕ) (starts ends : List ℕ) (delays : List ℤ) (L : PathList) (g o : Verdict) (G : Graph)
-    → let D = design n starts ends delays in
-    ((designSizes D then (listSizes L then ((g then o) then (designTests D then listTests D L)))) then (nodeCount n then graphTest (design n starts ends []) G))
+pub graph-called : (n : ℕ) (starts ends : List ℕ) (early late : List ℤ) (L : PathList) (g o : Verdict) (G : Graph)
+    → let D = design n starts ends early late in
+    ((designSizes D then (listSizes L then ((g then o) then (designTests D then listTests D L)))) then (nodeCount n then graphTest (design n starts ends [] []) G))
     ≡ (designSizes D then (listSizes L then (g then (o then (designTests D then (listTests D L then graphTest D G))))))
-graph-called n starts ends delays L g o G =
-    let D = design n starts ends delays in
-    rw (no-delays n starts ends delays G) (graph-chain (designSizes D) (listSizes L) g o (designTests D) (listTests D L) (nodeCount n) (graphTest D G) (tests-count D))
-
--- three equal lengths
-same-passed : (a b c : ℕ) → sameSizes a b c ≡ Passed → (b ≡ a) × (c ≡ a)
-same-passed a b c e =
-    let t = holds (eqb a b && eqb a c) (unless-passed 30 (eqb a b && eqb a c) e) in
-    (sym (eqb→eq a b (and-left (eqb a b) (eqb a c) t)), sym (eqb→eq a c (and-right (eqb a b) (eqb a c) t)))
+graph-called n starts ends early late L g o G =
+    let D = design n starts ends early late in
+    rw (no-delays n starts ends early late G) (graph-chain (designSizes D) (listSizes L) g o (designTests D) (listTests D L) (nodeCount n) (graphTest D G) (tests-count D))
 
 -- what the tests before 31 say where they pass
 record Tested (d l o t u : Verdict) : Type 0 where
@@ -98,6 +92,15 @@ early-then v w a b = every-then (λ x. keeps (x .number)) v w a (λ e. b)
 early-unless : (k : ℕ) → keeps k → (fit : Bool) → Early (unless k fit)
 early-unless k e fit = every-unless (λ x. keeps (x .number)) k e fit
 
+sizes-early : (a b c : ℕ) → Early (sameSizes a b c)
+sizes-early a b c = early-unless 30 refl (eqb a b && eqb a c)
+
+design-sizes-early : (D : Design) → Early (designSizes D)
+design-sizes-early D =
+    let m = length (D .starts) in
+    early-then (sameSizes m m (length (D .ends))) (sameSizes m (length (D .early)) (length (D .late)))
+    (sizes-early m m (length (D .ends))) (sizes-early m (length (D .early)) (length (D .late)))
+
 design-early : (D : Design) → Early (designTests D)
 design-early D = every-design (λ x. keeps (x .number)) D (λ k j a b l. keeps-below k (omega arith))
 
@@ -106,12 +109,9 @@ list-early D L = every-list (λ x. keeps (x .number)) D L (λ k a b. keeps-below
 
 chain-early : (D : Design) (L : PathList) (o : Verdict) → Early o → Early (designSizes D then (listSizes L then (o then (designTests D then listTests D L))))
 chain-early D L o e =
-    early-then (designSizes D) (listSizes L then (o then (designTests D then listTests D L))) (early-unless 30 refl (eqb (length (D .starts)) (length (D .ends)) && eqb (length (D .starts)) (length (D .delays))))
+    early-then (designSizes D) (listSizes L then (o then (designTests D then listTests D L))) (design-sizes-early D)
     (early-then (listSizes L) (o then (designTests D then listTests D L)) (early-unless 30 refl (eqb (sum (L .lengths)) (length (L .edges))))
     (early-then o (designTests D then listTests D L) e (early-then (designTests D) (listTests D L) (design-early D) (list-early D L))))
-
-sizes-early : (a b c : ℕ) → Early (sameSizes a b c)
-sizes-early a b c = early-unless 30 refl (eqb a b && eqb a c)
 
 -- an answer, the room and the scratch, as the contracts state them
 abbrev pub Stated : Outcome Graph → GraphMade → List ℕ → List ℕ → List ℕ → List ℕ → List ℕ → List ℕ → List ℕ → List ℕ → List ℕ → List ℕ → Type 0
@@ -165,24 +165,24 @@ early-refused : (v : Verdict) (x : Refusal) → Early v → v ≡ Refused x → 
 early-refused v x a e = subst Early e a
 
 -- the tests before 31 of a removal from the design, and of one from an earlier graph
-module _ (n : ℕ) (starts ends : List ℕ) (delays : List ℤ) (listed lengths : List ℕ) where
+module _ (n : ℕ) (starts ends : List ℕ) (early late : List ℤ) (listed lengths : List ℕ) where
   abbrev pub designBefore : List ℕ → List ℕ → List ℕ → Verdict
   designBefore room-from room-to room-via =
-      let D = design n starts ends delays in
+      let D = design n starts ends early late in
       let L = pathList listed lengths in
       designSizes D then (listSizes L then (sameSizes (length room-from) (length room-to) (length room-via) then (designTests D then listTests D L)))
 
   abbrev pub graphBefore : List ℕ → List ℕ → List ℕ → List ℕ → List ℕ → List ℕ → List ℕ → Verdict
   graphBefore nodes from to via room-from room-to room-via =
-      let D = design n starts ends delays in
+      let D = design n starts ends early late in
       let L = pathList listed lengths in
       let S = graphSlices nodes from to via in
       designSizes D then (listSizes L then (graphSizes S then (sameSizes (length room-from) (length room-to) (length room-via) then (designTests D then (listTests D L then graphTest D (graphOf S))))))
 
 -- Removal from the design.
-module _ (n : ℕ) (starts ends : List ℕ) (delays : List ℤ) (listed lengths room-nodes room-from room-to room-via s : List ℕ) where
+module _ (n : ℕ) (starts ends : List ℕ) (early late : List ℤ) (listed lengths room-nodes room-from room-to room-via s : List ℕ) where
   abbrev D : Design
-  D = design n starts ends delays
+  D = design n starts ends early late
 
   abbrev L : PathList
   L = pathList listed lengths
@@ -190,29 +190,30 @@ module _ (n : ℕ) (starts ends : List ℕ) (delays : List ℤ) (listed lengths 
   abbrev R : Removal
   R = lentRemoval listed lengths room-nodes room-from room-to room-via s
 
-  abbrev early : Verdict
-  early = designBefore n starts ends delays listed lengths room-from room-to room-via
+  abbrev before : Verdict
+  before = designBefore n starts ends early late listed lengths room-from room-to room-via
 
-  design-outcome : removeFromDesign D R ≡ outcome (early then removalTests D (designGraph D) R) (trueGraph (designGraph D) (pathsOf L))
+  design-outcome : removeFromDesign D R ≡ outcome (before then removalTests D (designGraph D) R) (trueGraph (designGraph D) (pathsOf L))
   unfolding removeFromDesign
   design-outcome =
       ap (λ (v : Verdict). outcome v (trueGraph (designGraph D) (pathsOf L)))
       (sym (chain-on (designSizes D) (listSizes L) (sameSizes (length room-from) (length room-to) (length room-via)) (designTests D) (listTests D L) (removalTests D (designGraph D) R)))
 
-  pub design-refused : (x : Refusal) → early ≡ Refused x → Stated (removeFromDesign D R) (NoGraph x) room-nodes room-from room-to room-via s room-nodes room-from room-to room-via s
+  pub design-refused : (x : Refusal) → before ≡ Refused x → Stated (removeFromDesign D R) (NoGraph x) room-nodes room-from room-to room-via s room-nodes room-from room-to room-via s
   design-refused x e =
       subst (λ (o : Outcome Graph). Stated o (NoGraph x) room-nodes room-from room-to room-via s room-nodes room-from room-to room-via s)
-      (ap (λ (v : Verdict). outcome v (trueGraph (designGraph D) (pathsOf L))) (sym (refused-on early (removalTests D (designGraph D) R) x e)) ∙ sym design-outcome)
-      (stated-refused x room-nodes room-from room-to room-via s (early-refused early x (chain-early D L (sameSizes (length room-from) (length room-to) (length room-via)) (sizes-early (length room-from) (length room-to) (length room-via))) e))
+      (ap (λ (v : Verdict). outcome v (trueGraph (designGraph D) (pathsOf L))) (sym (refused-on before (removalTests D (designGraph D) R) x e)) ∙ sym design-outcome)
+      (stated-refused x room-nodes room-from room-to room-via s (early-refused before x (chain-early D L (sameSizes (length room-from) (length room-to) (length room-via)) (sizes-early (length room-from) (length room-to) (length room-via))) e))
 
-  module _ (e : early ≡ Passed) where
+  module _ (e : before ≡ Passed) where
     abbrev all : Tested (designSizes D) (listSizes L) (sameSizes (length room-from) (length room-to) (length room-via)) (designTests D) (listTests D L)
     all = tested (designSizes D) (listSizes L) (sameSizes (length room-from) (length room-to) (length room-via)) (designTests D) (listTests D L) e
 
     pub design-numberable : (m : ℕ) → m ≡ length starts → Numberable starts ends listed lengths n m room-from room-to room-via
     design-numberable m q =
         record {
-          delays = delays;
+          early = early;
+          late = late;
           design-fits = design-fits D (all .sizes) (all .design);
           list-fits = list-fits D L (all .sums) (all .list);
           numbers = q;
@@ -223,18 +224,18 @@ module _ (n : ℕ) (starts ends : List ℕ) (delays : List ℤ) (listed lengths 
         → Stated (removeFromDesign D R) r room-nodes room-from room-to room-via s room-nodes′ room-from′ room-to′ room-via′ s′
     unfolding DesignRemoved
     design-removed r room-nodes′ room-from′ room-to′ room-via′ s′ x =
-        let y = x delays (design-fits D (all .sizes) (all .design)) (list-fits D L (all .sums) (all .list)) in
+        let y = x early late (design-fits D (all .sizes) (all .design)) (list-fits D L (all .sums) (all .list)) in
         subst (λ (o : Outcome Graph). Stated o r room-nodes room-from room-to room-via s room-nodes′ room-from′ room-to′ room-via′ s′)
-        (ap (λ (v : Verdict). outcome v (trueGraph (designGraph D) (pathsOf L))) (sym (passed-on early (removalTests D (designGraph D) R) e)) ∙ sym design-outcome)
+        (ap (λ (v : Verdict). outcome v (trueGraph (designGraph D) (pathsOf L))) (sym (passed-on before (removalTests D (designGraph D) R) e)) ∙ sym design-outcome)
         (stated-removed (removalOutcome D L (designGraph D) room-nodes room-from room-to room-via s) r room-nodes room-from room-to room-via s room-nodes′ room-from′ room-to′ room-via′ s′ y)
 
 -- the passes are asked about the design as a graph, and answer about it
 module _ (starts ends listed lengths : List ℕ) (n m : ℕ) (q : m ≡ length starts) where
-  numbered-worked : (delays : List ℤ) → DesignFits (design n starts ends delays) → ListFits (design n starts ends delays) (pathList listed lengths)
-      → Worked (design n starts ends delays) (pathList listed lengths) (designGraph (design n starts ends delays)) starts listed lengths (upto n 0) starts ends (upto m 0)
+  numbered-worked : (early late : List ℤ) → DesignFits (design n starts ends early late) → ListFits (design n starts ends early late) (pathList listed lengths)
+      → Worked (design n starts ends early late) (pathList listed lengths) (designGraph (design n starts ends early late)) starts listed lengths (upto n 0) starts ends (upto m 0)
   unfolding designGraph
-  numbered-worked delays f g =
-      let D = design n starts ends delays in
+  numbered-worked early late f g =
+      let D = design n starts ends early late in
       record {
         given =
             record {
@@ -256,23 +257,23 @@ module _ (starts ends listed lengths : List ℕ) (n m : ℕ) (q : m ≡ length s
   pub numbered-workable : (room-from room-to room-via : List ℕ) → Numberable starts ends listed lengths n m room-from room-to room-via → Workable starts listed lengths (upto n 0) starts ends (upto m 0)
   numbered-workable room-from room-to room-via x =
       record {
-        design = design n starts ends (x .delays);
+        design = design n starts ends (x .early) (x .late);
         list = pathList listed lengths;
-        graph = designGraph (design n starts ends (x .delays));
-        worked = numbered-worked (x .delays) (x .design-fits) (x .list-fits);
+        graph = designGraph (design n starts ends (x .early) (x .late));
+        worked = numbered-worked (x .early) (x .late) (x .design-fits) (x .list-fits);
       }
 
   pub numbered-removed : (r : GraphMade) (room-nodes room-from room-to room-via s room-nodes′ room-from′ room-to′ room-via′ s′ : List ℕ)
       → AllRemoved starts listed lengths (upto n 0) starts ends (upto m 0) r room-nodes room-from room-to room-via s room-nodes′ room-from′ room-to′ room-via′ s′
       → DesignRemoved starts ends listed lengths n r room-nodes room-from room-to room-via s room-nodes′ room-from′ room-to′ room-via′ s′
   unfolding AllRemoved DesignRemoved
-  numbered-removed r room-nodes room-from room-to room-via s room-nodes′ room-from′ room-to′ room-via′ s′ x delays f g =
-      x (design n starts ends delays) (pathList listed lengths) (designGraph (design n starts ends delays)) (numbered-worked delays f g)
+  numbered-removed r room-nodes room-from room-to room-via s room-nodes′ room-from′ room-to′ room-via′ s′ x early late f g =
+      x (design n starts ends early late) (pathList listed lengths) (designGraph (design n starts ends early late)) (numbered-worked early late f g)
 
 -- Removal from an earlier graph.
-module _ (n : ℕ) (starts ends : List ℕ) (delays : List ℤ) (listed lengths nodes from to via room-nodes room-from room-to room-via s : List ℕ) where
+module _ (n : ℕ) (starts ends : List ℕ) (early late : List ℤ) (listed lengths nodes from to via room-nodes room-from room-to room-via s : List ℕ) where
   abbrev E : Design
-  E = design n starts ends delays
+  E = design n starts ends early late
 
   abbrev K : PathList
   K = pathList listed lengths
@@ -287,7 +288,7 @@ module _ (n : ℕ) (starts ends : List ℕ) (delays : List ℤ) (listed lengths 
   room = sameSizes (length room-from) (length room-to) (length room-via)
 
   abbrev prior : Verdict
-  prior = graphBefore n starts ends delays listed lengths nodes from to via room-from room-to room-via
+  prior = graphBefore n starts ends early late listed lengths nodes from to via room-from room-to room-via
 
   graph-outcome : removeFromGraph E S Q ≡ outcome (prior then removalTests E (graphOf S) Q) (trueGraph (graphOf S) (pathsOf K))
   unfolding removeFromGraph
@@ -363,18 +364,18 @@ module _ (n : ℕ) (starts ends : List ℕ) (delays : List ℤ) (listed lengths 
         (stated-removed (removalOutcome E K (graphOf S) room-nodes room-from room-to room-via s) r room-nodes room-from room-to room-via s room-nodes′ room-from′ room-to′ room-via′ s′ (x E K (graphOf S) worked))
 
 -- the tests as the calls have them, with the verdict of the room made first
-module _ (n : ℕ) (starts ends : List ℕ) (delays : List ℤ) (listed lengths room-from room-to room-via : List ℕ) where
+module _ (n : ℕ) (starts ends : List ℕ) (early late : List ℤ) (listed lengths room-from room-to room-via : List ℕ) where
   pub design-tested : (v o : Verdict) → o ≡ sameSizes (length room-from) (length room-to) (length room-via)
-      → v ≡ (designSizes (design n starts ends delays) then (listSizes (pathList listed lengths) then (o then (designTests (design n starts ends delays) then listTests (design n starts ends delays) (pathList listed lengths)))))
-      → designBefore n starts ends delays listed lengths room-from room-to room-via ≡ v
+      → v ≡ (designSizes (design n starts ends early late) then (listSizes (pathList listed lengths) then (o then (designTests (design n starts ends early late) then listTests (design n starts ends early late) (pathList listed lengths)))))
+      → designBefore n starts ends early late listed lengths room-from room-to room-via ≡ v
   design-tested v o p q =
-      sym (q ∙ ap (λ (x : Verdict). designSizes (design n starts ends delays) then (listSizes (pathList listed lengths) then (x then (designTests (design n starts ends delays) then listTests (design n starts ends delays) (pathList listed lengths))))) p)
+      sym (q ∙ ap (λ (x : Verdict). designSizes (design n starts ends early late) then (listSizes (pathList listed lengths) then (x then (designTests (design n starts ends early late) then listTests (design n starts ends early late) (pathList listed lengths))))) p)
 
   pub graph-tested : (nodes from to via : List ℕ) (v o : Verdict) → o ≡ sameSizes (length room-from) (length room-to) (length room-via)
-      → v ≡ (designSizes (design n starts ends delays) then (listSizes (pathList listed lengths) then (graphSizes (graphSlices nodes from to via) then (o then (designTests (design n starts ends delays) then (listTests (design n starts ends delays) (pathList listed lengths) then graphTest (design n starts ends delays) (graphOf (graphSlices nodes from to via))))))))
-      → graphBefore n starts ends delays listed lengths nodes from to via room-from room-to room-via ≡ v
+      → v ≡ (designSizes (design n starts ends early late) then (listSizes (pathList listed lengths) then (graphSizes (graphSlices nodes from to via) then (o then (designTests (design n starts ends early late) then (listTests (design n starts ends early late) (pathList listed lengths) then graphTest (design n starts ends early late) (graphOf (graphSlices nodes from to via))))))))
+      → graphBefore n starts ends early late listed lengths nodes from to via room-from room-to room-via ≡ v
   graph-tested nodes from to via v o p q =
-      sym (q ∙ ap (λ (x : Verdict). designSizes (design n starts ends delays) then (listSizes (pathList listed lengths) then (graphSizes (graphSlices nodes from to via) then (x then (designTests (design n starts ends delays) then (listTests (design n starts ends delays) (pathList listed lengths) then graphTest (design n starts ends delays) (graphOf (graphSlices nodes from to via)))))))) p)
+      sym (q ∙ ap (λ (x : Verdict). designSizes (design n starts ends early late) then (listSizes (pathList listed lengths) then (graphSizes (graphSlices nodes from to via) then (x then (designTests (design n starts ends early late) then (listTests (design n starts ends early late) (pathList listed lengths) then graphTest (design n starts ends early late) (graphOf (graphSlices nodes from to via)))))))) p)
 
 -- places that hold their own numbers
 pub front-upto : (n i : ℕ) (l : List ℕ) → n ≤ length l → ((k : ℕ) → k < n → getD l k 0 ≡ i + k) → take n l ≡ upto n i

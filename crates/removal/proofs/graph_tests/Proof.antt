@@ -28,16 +28,16 @@ and-graph-test-requires c κs = search needs
 returns : tie.Need-returns
 returns c =
     let a = c .before .before .before .before .before .before .before .before .before .before .before .before .args in
-    let D = design (a .n) (a .starts .now) (a .ends .now) (a .delays .now) in
+    let D = design (a .n) (a .starts .now) (a .ends .now) (a .early .now) (a .late .now) in
     let L = pathList (a .listed .now) (a .lengths .now) in
     let G = graphOf (graphSlices (a .nodes .now) (a .from .now) (a .to .now) (a .via .now)) in
     let g : Verdict = sameSizes (length (a .from .now)) (length (a .to .now)) (length (a .via .now)) in
     c .and-graph-test .ensures
-    ∙ ap (λ (v : Verdict). v then (nodeCount (a .n) then graphTest (design (a .n) (a .starts .now) (a .ends .now) []) G))
+    ∙ ap (λ (v : Verdict). v then (nodeCount (a .n) then graphTest (design (a .n) (a .starts .now) (a .ends .now) [] []) G))
     (c .before .list-tests .ensures
     ∙ ap (λ (v : Verdict). designSizes D then (listSizes L then (v then (designTests D then listTests D L))))
     (c .before .before .then .ensures ∙ ap (λ (v : Verdict). v then a .room) (c .before .before .before .same-sizes .ensures)))
-    ∙ graph-called (a .n) (a .starts .now) (a .ends .now) (a .delays .now) L g (a .room) G
+    ∙ graph-called (a .n) (a .starts .now) (a .ends .now) (a .early .now) (a .late .now) L g (a .room) G
 
 pub graph-tests-spec : {M : Type 1} → statement M
 graph-tests-spec =

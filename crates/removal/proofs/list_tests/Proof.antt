@@ -28,9 +28,9 @@ and-list-tests-requires c κs = search needs
 returns : tie.Need-returns
 returns c =
     let a = c .before .before .before .before .before .before .before .before .before .args in
-    let D = design (a .n) (a .starts .now) (a .ends .now) (a .delays .now) in
+    let D = design (a .n) (a .starts .now) (a .ends .now) (a .early .now) (a .late .now) in
     let L = pathList (a .listed .now) (a .lengths .now) in
-    c .and-list-tests .ensures (a .n) (a .delays .now)
+    c .and-list-tests .ensures (a .n) (a .early .now) (a .late .now)
     ∙ ap (λ (v : Verdict). v then listTests D L)
     (c .before .and-design-tests .ensures
     ∙ ap (λ (v : Verdict). v then designTests D)

@@ -8,8 +8,8 @@ use Rattle.removal.proofs.remove_from_graph.Tie as tie
 abbrev start : tie.After-graph-tests → tie.Start
 start c = c .before .before .before .before .before .before .before .before .before .before .before .before .before .before .before
 
-tested : (c : tie.After-graph-tests) → let a = start c .args in graphBefore (a .n) (a .starts .now) (a .ends .now) (a .delays .now) (a .listed .now) (a .lengths .now) (a .nodes .now) (a .from .now) (a .to .now) (a .via .now) (a .room-from .now) (a .room-to .now) (a .room-via .now) ≡ c .graph-tests .result
-tested c = let a = start c .args in graph-tested (a .n) (a .starts .now) (a .ends .now) (a .delays .now) (a .listed .now) (a .lengths .now) (a .room-from .now) (a .room-to .now) (a .room-via .now) (a .nodes .now) (a .from .now) (a .to .now) (a .via .now) (c .graph-tests .result) (c .before .same-sizes .result) (c .before .same-sizes .ensures) (c .graph-tests .ensures)
+tested : (c : tie.After-graph-tests) → let a = start c .args in graphBefore (a .n) (a .starts .now) (a .ends .now) (a .early .now) (a .late .now) (a .listed .now) (a .lengths .now) (a .nodes .now) (a .from .now) (a .to .now) (a .via .now) (a .room-from .now) (a .room-to .now) (a .room-via .now) ≡ c .graph-tests .result
+tested c = let a = start c .args in graph-tested (a .n) (a .starts .now) (a .ends .now) (a .early .now) (a .late .now) (a .listed .now) (a .lengths .now) (a .room-from .now) (a .room-to .now) (a .room-via .now) (a .nodes .now) (a .from .now) (a .to .now) (a .via .now) (c .graph-tests .result) (c .before .same-sizes .result) (c .before .same-sizes .ensures) (c .graph-tests .ensures)
 
 same-sizes-requires : tie.Need-same-sizes-requires
 same-sizes-requires c κs = search needs
@@ -24,7 +24,7 @@ returns : tie.Need-returns
 returns c =
     let w = c .before .before .before in
     let a = start w .args in
-    graph-refused (a .n) (a .starts .now) (a .ends .now) (a .delays .now) (a .listed .now) (a .lengths .now) (a .nodes .now) (a .from .now) (a .to .now) (a .via .now) (a .room-nodes .now) (a .room-from .now) (a .room-to .now) (a .room-via .now) (a .scratch .now) (c .before .verdict .given .0 .0) (tested w ∙ c .before .verdict .given .1)
+    graph-refused (a .n) (a .starts .now) (a .ends .now) (a .early .now) (a .late .now) (a .listed .now) (a .lengths .now) (a .nodes .now) (a .from .now) (a .to .now) (a .via .now) (a .room-nodes .now) (a .room-from .now) (a .room-to .now) (a .room-via .now) (a .scratch .now) (c .before .verdict .given .0 .0) (tested w ∙ c .before .verdict .given .1)
 
 enum-told : tie.Need-enum-told
 enum-told c = search needs
@@ -34,7 +34,7 @@ remove-requires c κs =
     let w = c .before .before .before .before .before .before .before in
     let a = start w .args in
     let e = tested w ∙ c .before .before .before .before .before .enum-told .given .1 in
-    (graph-workable (a .n) (a .starts .now) (a .ends .now) (a .delays .now) (a .listed .now) (a .lengths .now) (a .nodes .now) (a .from .now) (a .to .now) (a .via .now) (a .room-nodes .now) (a .room-from .now) (a .room-to .now) (a .room-via .now) (a .scratch .now) e, graph-rooms (a .n) (a .starts .now) (a .ends .now) (a .delays .now) (a .listed .now) (a .lengths .now) (a .nodes .now) (a .from .now) (a .to .now) (a .via .now) (a .room-nodes .now) (a .room-from .now) (a .room-to .now) (a .room-via .now) (a .scratch .now) e)
+    (graph-workable (a .n) (a .starts .now) (a .ends .now) (a .early .now) (a .late .now) (a .listed .now) (a .lengths .now) (a .nodes .now) (a .from .now) (a .to .now) (a .via .now) (a .room-nodes .now) (a .room-from .now) (a .room-to .now) (a .room-via .now) (a .scratch .now) e, graph-rooms (a .n) (a .starts .now) (a .ends .now) (a .early .now) (a .late .now) (a .listed .now) (a .lengths .now) (a .nodes .now) (a .from .now) (a .to .now) (a .via .now) (a .room-nodes .now) (a .room-from .now) (a .room-to .now) (a .room-via .now) (a .scratch .now) e)
 
 same-length : tie.Need-same-length
 same-length c = search needs
@@ -56,7 +56,7 @@ returns-2 c =
     let r = c .before .before .before .before .before .before .before .before .before .before in
     let w = r .before .before .before .before .before .before .before .before in
     let a = start w .args in
-    graph-removed (a .n) (a .starts .now) (a .ends .now) (a .delays .now) (a .listed .now) (a .lengths .now) (a .nodes .now) (a .from .now) (a .to .now) (a .via .now) (a .room-nodes .now) (a .room-from .now) (a .room-to .now) (a .room-via .now) (a .scratch .now) (tested w ∙ r .before .before .before .before .before .before .enum-told .given .1) (r .remove .result) (r .remove .last .1 .1 .1 .1 .1 .1 .1 .0) (r .remove .last .1 .1 .1 .1 .1 .1 .1 .1 .0) (r .remove .last .1 .1 .1 .1 .1 .1 .1 .1 .1 .0) (r .remove .last .1 .1 .1 .1 .1 .1 .1 .1 .1 .1 .0) (r .remove .last .1 .1 .1 .1 .1 .1 .1 .1 .1 .1 .1 .0) (r .remove .ensures)
+    graph-removed (a .n) (a .starts .now) (a .ends .now) (a .early .now) (a .late .now) (a .listed .now) (a .lengths .now) (a .nodes .now) (a .from .now) (a .to .now) (a .via .now) (a .room-nodes .now) (a .room-from .now) (a .room-to .now) (a .room-via .now) (a .scratch .now) (tested w ∙ r .before .before .before .before .before .before .enum-told .given .1) (r .remove .result) (r .remove .last .1 .1 .1 .1 .1 .1 .1 .0) (r .remove .last .1 .1 .1 .1 .1 .1 .1 .1 .0) (r .remove .last .1 .1 .1 .1 .1 .1 .1 .1 .1 .0) (r .remove .last .1 .1 .1 .1 .1 .1 .1 .1 .1 .1 .0) (r .remove .last .1 .1 .1 .1 .1 .1 .1 .1 .1 .1 .1 .0) (r .remove .ensures)
 
 pub remove-from-graph-spec : {M : Type 1} → statement M
 remove-from-graph-spec =

@@ -6,10 +6,10 @@ use Rattle.removal_cases.proofs.run_removals.Statement.{statement}
 use Rattle.removal_cases.proofs.run_removals.Tie as tie
 
 abbrev Inv-loop : tie.InvT-loop
-Inv-loop s d delays words₀ step₀ left₀ words step left = length words ≡ length words₀
+Inv-loop s d early late words₀ step₀ left₀ words step left = length words ≡ length words₀
 
 abbrev μ-loop : tie.MeasureT-loop
-μ-loop s d delays words₀ step₀ left₀ words step left = left
+μ-loop s d early late words₀ step₀ left₀ words step left = left
 
 take-number-requires : tie.Need-take-number-requires Inv-loop μ-loop
 take-number-requires c κs = search needs

@@ -25,14 +25,14 @@ returns c =
     let t = c .before .before .before in
     let a = t .before .before .args in
     ap (λ (x : NodeTimes). Record (record { node = a .v; times = x })) (c .node-times .ensures)
-    ∙ ap (recordAnswer (a .n) (a .nodes .now) (a .arrivals .now) (a .requireds .now) (a .slacks .now) (a .v)) (sym (c .before .enum-told .given .1) ∙ t .record-tests .ensures)
+    ∙ ap (recordAnswer (a .n) (a .nodes .now) (a .arrivals .now) (a .requireds .now) (a .slacks .now) (a .earliests .now) (a .v)) (sym (c .before .enum-told .given .1) ∙ t .record-tests .ensures)
 
 returns-2 : tie.Need-returns-2
 unfolding recordOf
 returns-2 c =
     let t = c .before .before .before in
     let a = t .before .before .args in
-    ap (recordAnswer (a .n) (a .nodes .now) (a .arrivals .now) (a .requireds .now) (a .slacks .now) (a .v)) (sym (c .before .fit .given .1) ∙ t .record-tests .ensures)
+    ap (recordAnswer (a .n) (a .nodes .now) (a .arrivals .now) (a .requireds .now) (a .slacks .now) (a .earliests .now) (a .v)) (sym (c .before .fit .given .1) ∙ t .record-tests .ensures)
 
 pub node-record-spec : {M : Type 1} → statement M
 node-record-spec =

@@ -14,6 +14,9 @@ least-requires-2 c κs = tt
 least-requires-3 : tie.Need-least-requires-3
 least-requires-3 c κs = tt
 
+least-requires-4 : tie.Need-least-requires-4
+least-requires-4 c κs = tt
+
 array-borrow-prefix-arrivals : tie.Need-array-borrow-prefix-arrivals
 array-borrow-prefix-arrivals c = search needs
 
@@ -32,6 +35,12 @@ array-borrow-prefix-slacks c = search needs
 slice-aggregate-ask-and-say-3 : tie.Need-slice-aggregate-ask-and-say-3
 slice-aggregate-ask-and-say-3 c = simp length-take (omega arith)
 
+array-borrow-prefix-earliests : tie.Need-array-borrow-prefix-earliests
+array-borrow-prefix-earliests c = search needs
+
+slice-aggregate-ask-and-say-4 : tie.Need-slice-aggregate-ask-and-say-4
+slice-aggregate-ask-and-say-4 c = simp length-take (omega arith)
+
 ask-and-say-requires : tie.Need-ask-and-say-requires
 ask-and-say-requires c κs = tt
 
@@ -45,11 +54,14 @@ ask-spec =
     least-requires
     least-requires-2
     least-requires-3
+    least-requires-4
     array-borrow-prefix-arrivals
     slice-aggregate-ask-and-say
     array-borrow-prefix-requireds
     slice-aggregate-ask-and-say-2
     array-borrow-prefix-slacks
     slice-aggregate-ask-and-say-3
+    array-borrow-prefix-earliests
+    slice-aggregate-ask-and-say-4
     ask-and-say-requires
     returns)

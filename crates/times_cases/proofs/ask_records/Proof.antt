@@ -17,6 +17,9 @@ least-requires-3 c κs = tt
 least-requires-4 : tie.Need-least-requires-4
 least-requires-4 c κs = tt
 
+least-requires-5 : tie.Need-least-requires-5
+least-requires-5 c κs = tt
+
 array-borrow-prefix-known : tie.Need-array-borrow-prefix-known
 array-borrow-prefix-known c = search needs
 
@@ -41,6 +44,12 @@ array-borrow-prefix-ns c = search needs
 slice-aggregate-records-4 : tie.Need-slice-aggregate-records-4
 slice-aggregate-records-4 c = simp length-take (omega arith)
 
+array-borrow-prefix-ne : tie.Need-array-borrow-prefix-ne
+array-borrow-prefix-ne c = search needs
+
+slice-aggregate-records-5 : tie.Need-slice-aggregate-records-5
+slice-aggregate-records-5 c = simp length-take (omega arith)
+
 records-requires : tie.Need-records-requires
 records-requires c κs = tt
 
@@ -55,6 +64,7 @@ ask-records-spec =
     least-requires-2
     least-requires-3
     least-requires-4
+    least-requires-5
     array-borrow-prefix-known
     slice-aggregate-records
     array-borrow-prefix-na
@@ -63,5 +73,7 @@ ask-records-spec =
     slice-aggregate-records-3
     array-borrow-prefix-ns
     slice-aggregate-records-4
+    array-borrow-prefix-ne
+    slice-aggregate-records-5
     records-requires
     returns)

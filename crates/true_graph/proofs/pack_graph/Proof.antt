@@ -16,7 +16,7 @@ abbrev start : tie.After-remove-from-design → tie.Start
 start w = w .before .before .before .before .before .before .before .before .before .before .before
 
 abbrev designAt : tie.Start → Design
-designAt s = let a = s .args in design (a .n) (a .starts .now) (a .ends .now) (a .delays .now)
+designAt s = let a = s .args in design (a .n) (a .starts .now) (a .ends .now) (a .early .now) (a .late .now)
 
 abbrev lentAt : tie.Start → Removal
 lentAt s = let a = s .args in lentRemoval (a .listed .now) (a .lengths .now) (zeros 512) (zeros 2048) (zeros 2048) (zeros 2048) (zeros 16384)
@@ -34,7 +34,7 @@ abbrev rooms : GraphSlices
 rooms = graphSlices (zeros 512) (zeros 2048) (zeros 2048) (zeros 2048)
 
 abbrev roomsAt : tie.After-remove-from-design → GraphSlices
-roomsAt w = let l = w .remove-from-design .last in graphSlices (l .1 .1 .1 .1 .1 .1 .0) (l .1 .1 .1 .1 .1 .1 .1 .0) (l .1 .1 .1 .1 .1 .1 .1 .1 .0) (l .1 .1 .1 .1 .1 .1 .1 .1 .1 .0)
+roomsAt w = let l = w .remove-from-design .last in graphSlices (l .1 .1 .1 .1 .1 .1 .1 .0) (l .1 .1 .1 .1 .1 .1 .1 .1 .0) (l .1 .1 .1 .1 .1 .1 .1 .1 .1 .0) (l .1 .1 .1 .1 .1 .1 .1 .1 .1 .1 .0)
 
 answered : (w : tie.After-remove-from-design)
     → Answered (outcomeAt (start w)) (w .remove-from-design .result) (rooms .nodes) (rooms .starts) (rooms .ends) (rooms .names) (roomsAt w .nodes) (roomsAt w .starts) (roomsAt w .ends) (roomsAt w .names)

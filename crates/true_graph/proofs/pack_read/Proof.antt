@@ -14,10 +14,10 @@ abbrev start : tie.After-known-told2 → tie.Start
 start k = k .before .before .before .before .before .before .before .before
 
 abbrev FitsAt : tie.Start → DeckRead → Type 0
-FitsAt s x = let a = s .args in ReadFits x (a .starts .now) (a .ends .now) (a .delays .now) (a .listed .now) (a .lengths .now)
+FitsAt s x = let a = s .args in ReadFits x (a .starts .now) (a .ends .now) (a .early .now) (a .late .now) (a .listed .now) (a .lengths .now)
 
 abbrev removalAt : tie.Start → DeckRead → Outcome Graph
-removalAt s x = let a = s .args in readRemoval x (a .starts .now) (a .ends .now) (a .delays .now) (a .listed .now) (a .lengths .now)
+removalAt s x = let a = s .args in readRemoval x (a .starts .now) (a .ends .now) (a .early .now) (a .late .now) (a .listed .now) (a .lengths .now)
 
 fits : (k : tie.After-known-told2) → let g = k .before .read2 .given .0 in FitsAt (start k) (DeckFound (g .0) (g .1 .0) (g .1 .1 .0) (g .1 .1 .1 .0) (g .1 .1 .1 .1 .0))
 fits k = subst (FitsAt (start k)) (k .before .read2 .given .1) (start k .pre)
@@ -41,17 +41,22 @@ slice-aggregate-pack-tested-2 c =
 slice-aggregate-pack-tested-3 : tie.Need-slice-aggregate-pack-tested-3
 slice-aggregate-pack-tested-3 c =
     let k = c .before .before .before in
-    length-front (k .before .read2 .given .0 .1 .0) (start k .args .delays .now) (fits k .2)
+    length-front (k .before .read2 .given .0 .1 .0) (start k .args .early .now) (fits k .2)
 
 slice-aggregate-pack-tested-4 : tie.Need-slice-aggregate-pack-tested-4
 slice-aggregate-pack-tested-4 c =
     let k = c .before .before .before .before in
-    length-front (k .before .read2 .given .0 .1 .1 .0) (start k .args .listed .now) (fits k .3)
+    length-front (k .before .read2 .given .0 .1 .0) (start k .args .late .now) (fits k .3)
 
 slice-aggregate-pack-tested-5 : tie.Need-slice-aggregate-pack-tested-5
 slice-aggregate-pack-tested-5 c =
     let k = c .before .before .before .before .before in
-    length-front (k .before .read2 .given .0 .1 .1 .1 .0) (start k .args .lengths .now) (fits k .4)
+    length-front (k .before .read2 .given .0 .1 .1 .0) (start k .args .listed .now) (fits k .4)
+
+slice-aggregate-pack-tested-6 : tie.Need-slice-aggregate-pack-tested-6
+slice-aggregate-pack-tested-6 c =
+    let k = c .before .before .before .before .before .before in
+    length-front (k .before .read2 .given .0 .1 .1 .1 .0) (start k .args .lengths .now) (fits k .5)
 
 pack-tested-requires : tie.Need-pack-tested-requires
 pack-tested-requires c κs = tt
@@ -68,7 +73,7 @@ same-length c = search needs
 returns-2 : tie.Need-returns-2
 returns-2 c =
     let g = c .before .before in
-    let k = g .before .before .before .before .before .before .before in
+    let k = g .before .before .before .before .before .before .before .before in
     let s = start k in
     let e = sym (k .before .read2 .given .1) in
     (g .pack-tested .ensures .0 ∙ ap (λ (x : DeckRead). cWritten (removalAt s x) (s .args .room .now)) e, g .pack-tested .ensures .1 ∙ ap (λ (x : DeckRead). roomAfterC (removalAt s x) (s .args .room .now)) e)
@@ -84,6 +89,7 @@ pack-read-spec =
     slice-aggregate-pack-tested-3
     slice-aggregate-pack-tested-4
     slice-aggregate-pack-tested-5
+    slice-aggregate-pack-tested-6
     pack-tested-requires
     returns
     same-length

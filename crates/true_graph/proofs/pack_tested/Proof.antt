@@ -12,7 +12,7 @@ abbrev start : tie.After-test-deck → tie.Start
 start w = w .before .before .before .before .before .before
 
 abbrev designAt : tie.Start → Design
-designAt s = let a = s .args in design (a .n) (a .starts .now) (a .ends .now) (a .delays .now)
+designAt s = let a = s .args in design (a .n) (a .starts .now) (a .ends .now) (a .early .now) (a .late .now)
 
 abbrev listAt : tie.Start → PathList
 listAt s = pathList (s .args .listed .now) (s .args .lengths .now)

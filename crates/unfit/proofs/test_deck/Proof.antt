@@ -18,7 +18,7 @@ unfolding testList testDeck
 returns c =
     let fit = c .before in
     let a = fit .before .before .before .before .before .args in
-    let D = design (a .n) (a .starts .now) (a .ends .now) (a .delays .now) in
+    let D = design (a .n) (a .starts .now) (a .ends .now) (a .early .now) (a .late .now) in
     let L = pathList (a .listed .now) (a .lengths .now) in
     after-four (designSizes D) (listSizes L) (designTests D) (listTests D L) (allowedTest (a .allowed)) (fit .test-list .ensures) (c .and-unless .ensures)
 

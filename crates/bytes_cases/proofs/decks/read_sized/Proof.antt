@@ -19,6 +19,9 @@ least-requires-4 c κs = tt
 least-requires-5 : tie.Need-least-requires-5
 least-requires-5 c κs = tt
 
+least-requires-6 : tie.Need-least-requires-6
+least-requires-6 c κs = tt
+
 array-borrow-prefix-starts : tie.Need-array-borrow-prefix-starts
 array-borrow-prefix-starts c = search needs
 
@@ -31,23 +34,29 @@ array-borrow-prefix-ends c = search needs
 slice-aggregate-read-2 : tie.Need-slice-aggregate-read-2
 slice-aggregate-read-2 c = simp length-take (omega arith)
 
-array-borrow-prefix-delays : tie.Need-array-borrow-prefix-delays
-array-borrow-prefix-delays c = search needs
+array-borrow-prefix-early : tie.Need-array-borrow-prefix-early
+array-borrow-prefix-early c = search needs
 
 slice-aggregate-read-3 : tie.Need-slice-aggregate-read-3
 slice-aggregate-read-3 c = simp length-take (omega arith)
 
-array-borrow-prefix-listed : tie.Need-array-borrow-prefix-listed
-array-borrow-prefix-listed c = search needs
+array-borrow-prefix-late : tie.Need-array-borrow-prefix-late
+array-borrow-prefix-late c = search needs
 
 slice-aggregate-read-4 : tie.Need-slice-aggregate-read-4
 slice-aggregate-read-4 c = simp length-take (omega arith)
 
-array-borrow-prefix-lengths : tie.Need-array-borrow-prefix-lengths
-array-borrow-prefix-lengths c = search needs
+array-borrow-prefix-listed : tie.Need-array-borrow-prefix-listed
+array-borrow-prefix-listed c = search needs
 
 slice-aggregate-read-5 : tie.Need-slice-aggregate-read-5
 slice-aggregate-read-5 c = simp length-take (omega arith)
+
+array-borrow-prefix-lengths : tie.Need-array-borrow-prefix-lengths
+array-borrow-prefix-lengths c = search needs
+
+slice-aggregate-read-6 : tie.Need-slice-aggregate-read-6
+slice-aggregate-read-6 c = simp length-take (omega arith)
 
 read-requires : tie.Need-read-requires
 read-requires c κs = tt
@@ -64,15 +73,18 @@ read-sized-spec =
     least-requires-3
     least-requires-4
     least-requires-5
+    least-requires-6
     array-borrow-prefix-starts
     slice-aggregate-read
     array-borrow-prefix-ends
     slice-aggregate-read-2
-    array-borrow-prefix-delays
+    array-borrow-prefix-early
     slice-aggregate-read-3
-    array-borrow-prefix-listed
+    array-borrow-prefix-late
     slice-aggregate-read-4
-    array-borrow-prefix-lengths
+    array-borrow-prefix-listed
     slice-aggregate-read-5
+    array-borrow-prefix-lengths
+    slice-aggregate-read-6
     read-requires
     returns)

@@ -5,10 +5,10 @@ use Rattle.deck_program.proofs.lines.put_copies.Statement.{statement}
 use Rattle.deck_program.proofs.lines.put_copies.Tie as tie
 
 abbrev Inv-loop : tie.InvT-loop
-Inv-loop buf₀ at nodes arrivals requireds slacks next₀ c₀ buf next c = Unit {0}
+Inv-loop buf₀ at nodes arrivals requireds slacks earliests next₀ c₀ buf next c = Unit {0}
 
 abbrev μ-loop : tie.MeasureT-loop
-μ-loop buf₀ at nodes arrivals requireds slacks next₀ c₀ buf next c = length nodes - c
+μ-loop buf₀ at nodes arrivals requireds slacks earliests next₀ c₀ buf next c = length nodes - c
 
 loop-holds : tie.Need-loop-holds Inv-loop μ-loop
 loop-holds c = tt
@@ -24,6 +24,9 @@ time-at-requires-2 c κs = tt
 
 time-at-requires-3 : tie.Need-time-at-requires-3 Inv-loop μ-loop
 time-at-requires-3 c κs = tt
+
+time-at-requires-4 : tie.Need-time-at-requires-4 Inv-loop μ-loop
+time-at-requires-4 c κs = tt
 
 put-copy-requires : tie.Need-put-copy-requires Inv-loop μ-loop
 put-copy-requires c κs = tt
@@ -51,6 +54,7 @@ put-copies-spec =
     time-at-requires
     time-at-requires-2
     time-at-requires-3
+    time-at-requires-4
     put-copy-requires
     add-c
     loop-less

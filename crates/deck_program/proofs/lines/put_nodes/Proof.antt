@@ -5,10 +5,10 @@ use Rattle.deck_program.proofs.lines.put_nodes.Statement.{statement}
 use Rattle.deck_program.proofs.lines.put_nodes.Tie as tie
 
 abbrev Inv-loop : tie.InvT-loop
-Inv-loop buf₀ at known na nr ns next₀ v₀ buf next v = Unit {0}
+Inv-loop buf₀ at known na nr ns ne next₀ v₀ buf next v = Unit {0}
 
 abbrev μ-loop : tie.MeasureT-loop
-μ-loop buf₀ at known na nr ns next₀ v₀ buf next v = length known - v
+μ-loop buf₀ at known na nr ns ne next₀ v₀ buf next v = length known - v
 
 loop-holds : tie.Need-loop-holds Inv-loop μ-loop
 loop-holds c = tt
@@ -24,6 +24,9 @@ time-at-requires-2 c κs = tt
 
 time-at-requires-3 : tie.Need-time-at-requires-3 Inv-loop μ-loop
 time-at-requires-3 c κs = tt
+
+time-at-requires-4 : tie.Need-time-at-requires-4 Inv-loop μ-loop
+time-at-requires-4 c κs = tt
 
 put-node-requires : tie.Need-put-node-requires Inv-loop μ-loop
 put-node-requires c κs = tt
@@ -51,6 +54,7 @@ put-nodes-spec =
     time-at-requires
     time-at-requires-2
     time-at-requires-3
+    time-at-requires-4
     put-node-requires
     add-v
     loop-less

@@ -1,10 +1,12 @@
--- n, m, then the rows, which are the deck's first three tables.
+-- n, m, then the rows, which are the deck's first four tables.
 use Prim.Native.Nat.{ℕ}
 use native.Mathlib.Omega.{arith}
 use mathlib.Core.Path.{_≡_, _∙_, ap}
+use Rattle.timing.specs.Delays.{delayOf}
+use Rattle.timing.specs.Decks.{EdgeRow}
 use Rattle.timing.specs.Looks.{valueAt, nextAt}
 use Rattle.deck_reader.specs.Reading.{edgeCount, edgesPlace}
-use Rattle.deck_reader.proofs.Reading.{starts-placed, ends-placed, delays-placed, count-place}
+use Rattle.deck_reader.proofs.Reading.{rows-placed, count-place}
 use borrow.Author.Needs.{needs}
 use Rattle.deck_reader.proofs.filler.fill_design.Statement.{statement}
 use Rattle.deck_reader.proofs.filler.fill_design.Tie as tie
@@ -31,10 +33,10 @@ wide-requires c κs = search needs
 
 fill-rows-requires : tie.Need-fill-rows-requires
 fill-rows-requires c κs =
-    let w = c .before .before .before in
+    let w = c .before .before .before .before in
     let p = w .before .before .before .before .before .before .pre in
     let e = count-is w in
-    (omega (arith, p), omega (arith, p), omega (arith, p))
+    (omega (arith, p), omega (arith, p), omega (arith, p), omega (arith, p))
 
 same-length : tie.Need-same-length
 same-length c = search needs
@@ -45,10 +47,13 @@ same-length-2 c = search needs
 same-length-3 : tie.Need-same-length-3
 same-length-3 c = search needs
 
+same-length-4 : tie.Need-same-length-4
+same-length-4 c = search needs
+
 returns : tie.Need-returns
 returns c =
-    let f = c .before .before .before .before .before in
-    let w = f .before .before .before .before in
+    let f = c .before .before .before .before .before .before in
+    let w = f .before .before .before .before .before in
     let st = w .before .before .before .before .before .before in
     let a = st .args in
     let p = st .pre in
@@ -59,9 +64,10 @@ returns c =
       w .before .before .take-number .ensures .0,
       mi,
       count-place s _ _ _ mi ai _ (e .0),
-      starts-placed s _ _ _ mi ai (a .starts .now) _ (omega (arith, p)) (e .1),
-      ends-placed s _ _ _ mi ai (a .ends .now) _ (omega (arith, p)) (e .2),
-      delays-placed s _ _ _ mi ai (a .delays .now) _ (omega (arith, p)) (e .3),
+      rows-placed s _ _ _ mi ai (λ (r : EdgeRow). r .start) (a .starts .now) _ (omega (arith, p)) (e .1),
+      rows-placed s _ _ _ mi ai (λ (r : EdgeRow). r .end) (a .ends .now) _ (omega (arith, p)) (e .2),
+      rows-placed s _ _ _ mi ai (λ (r : EdgeRow). delayOf (r .early)) (a .early .now) _ (omega (arith, p)) (e .3),
+      rows-placed s _ _ _ mi ai (λ (r : EdgeRow). delayOf (r .late)) (a .late .now) _ (omega (arith, p)) (e .4),
     )
 
 pub fill-design-spec : {M : Type 1} → statement M
@@ -75,4 +81,5 @@ fill-design-spec =
     same-length
     same-length-2
     same-length-3
+    same-length-4
     returns)

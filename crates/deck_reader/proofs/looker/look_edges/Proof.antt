@@ -1,8 +1,9 @@
 -- The count, then the rows.
 use mathlib.Core.Path.{sym, _∙_}
-use Rattle.timing.specs.Parsing.{repeated, row}
+use Rattle.timing.specs.Parsing.{repeated}
+use Rattle.timing.specs.Decks.{edgeRow}
 use Rattle.deck_reader.specs.Reading.{countIn}
-use Rattle.deck_reader.proofs.Looking.{number-at, number-stop}
+use Rattle.deck_reader.proofs.Looking.{edges-at, number-stop}
 use borrow.Author.Needs.{needs}
 use Rattle.deck_reader.proofs.looker.look_edges.Statement.{statement}
 use Rattle.deck_reader.proofs.looker.look_edges.Tie as tie
@@ -23,13 +24,13 @@ returns : tie.Need-returns
 returns c =
     let r = c .before .before in
     let a = r .before .before .before .before .args in
-    number-at (countIn (a .s .now) 0 11 16384 (a .edges) (a .at)) (λ m. repeated m (row (a .s .now))) _ _ _ (sym (r .before .before .look-count .ensures) ∙ r .r .given .1) (c .look-rows .ensures)
+    edges-at (a .s .now) (a .edges) (a .at) _ _ _ (sym (r .before .before .look-count .ensures) ∙ r .r .given .1) (c .look-rows .ensures)
 
 returns-2 : tie.Need-returns-2
 returns-2 c =
     let n = c .before .before .before in
     let a = n .before .before .args in
-    number-stop (countIn (a .s .now) 0 11 16384 (a .edges) (a .at)) (λ m. repeated m (row (a .s .now))) _ (sym (n .look-count .ensures) ∙ c .before .r2 .given .1)
+    number-stop (countIn (a .s .now) 0 11 16384 (a .edges) (a .at)) (λ m. repeated m (edgeRow (a .s .now))) _ (sym (n .look-count .ensures) ∙ c .before .r2 .given .1)
 
 pub look-edges-spec : {M : Type 1} → statement M
 look-edges-spec =

@@ -33,26 +33,14 @@ number-size-requires-4 c κs = search needs
 add-counts-3 : tie.Need-add-counts-3
 add-counts-3 c = omega arith
 
+edges-size-requires : tie.Need-edges-size-requires
+edges-size-requires c κs = let f = c .before .before .before .before .before .before .before .before .pre in (f .ends, f .early, f .late, f .edges)
+
 numbers-size-requires : tie.Need-numbers-size-requires
 numbers-size-requires c κs = search needs
 
 numbers-size-requires-2 : tie.Need-numbers-size-requires-2
 numbers-size-requires-2 c κs = search needs
-
-add-edges : tie.Need-add-edges
-add-edges c = omega arith
-
-delays-size-requires : tie.Need-delays-size-requires
-delays-size-requires c κs = search needs
-
-add-edges-2 : tie.Need-add-edges-2
-add-edges-2 c = omega arith
-
-numbers-size-requires-3 : tie.Need-numbers-size-requires-3
-numbers-size-requires-3 c κs = search needs
-
-numbers-size-requires-4 : tie.Need-numbers-size-requires-4
-numbers-size-requires-4 c κs = search needs
 
 add-paths : tie.Need-add-paths
 add-paths c = omega arith
@@ -65,10 +53,10 @@ add-result-2 c = omega arith
 
 returns : tie.Need-returns
 returns c =
-    let k4 = c .before .before .before .before .before in
+    let k4 = c .before .before .before in
     let s = k4 .before .before .before .before .before .before .before .before in
     let a = s .args in
-    let d = deckOf (a .n) (a .starts .now) (a .ends .now) (a .delays .now) (a .listed .now) (a .lengths .now) (a .allowed) in
+    let d = deckOf (a .n) (a .starts .now) (a .ends .now) (a .early .now) (a .late .now) (a .listed .now) (a .lengths .now) (a .allowed) in
     omega (
       arith,
       size-deck d (s .pre),
@@ -76,11 +64,9 @@ returns c =
       k4 .before .before .number-size2 .ensures .0,
       k4 .before .number-size3 .ensures .0,
       k4 .number-size4 .ensures .0,
-      c .before .before .before .before .numbers-size .ensures .0,
-      c .before .before .before .numbers-size2 .ensures .0,
-      c .before .before .delays-size .ensures .0,
-      c .before .numbers-size3 .ensures .0,
-      c .numbers-size4 .ensures .0,
+      c .before .before .edges-size .ensures .0,
+      c .before .numbers-size .ensures .0,
+      c .numbers-size2 .ensures .0,
     )
 
 pub deck-size-spec : {M : Type 1} → statement M
@@ -96,13 +82,9 @@ deck-size-spec =
     add-counts-2
     number-size-requires-4
     add-counts-3
+    edges-size-requires
     numbers-size-requires
     numbers-size-requires-2
-    add-edges
-    delays-size-requires
-    add-edges-2
-    numbers-size-requires-3
-    numbers-size-requires-4
     add-paths
     add-result
     add-result-2

@@ -9,14 +9,14 @@ use Rattle.deck_writer.proofs.writer.put_deck.Tie as tie
 
 -- the deck that is written
 abbrev deckAt : tie.Start → Deck
-deckAt s = let a = s .args in deckOf (a .n) (a .starts .now) (a .ends .now) (a .delays .now) (a .listed .now) (a .lengths .now) (a .allowed)
+deckAt s = let a = s .args in deckOf (a .n) (a .starts .now) (a .ends .now) (a .early .now) (a .late .now) (a .listed .now) (a .lengths .now) (a .allowed)
 
 put-design-requires : tie.Need-put-design-requires
 put-design-requires c κs =
     let s = c .before .before .before .before .before .before in
     let d = deckAt s in
     let r = s .args .room .now in
-    (((s .pre .0 .ends), (s .pre .0 .delays), (s .pre .0 .edges)), fits-first r 0 (designNumbers d) (listNumbers d) (fits-first r 0 (designNumbers d ++ listNumbers d) (d .allowed ∷ []) (deck-fits d r (s .pre .1))))
+    ((s .pre .0 .ends, s .pre .0 .early, s .pre .0 .late, s .pre .0 .edges), fits-first r 0 (designNumbers d) (listNumbers d) (fits-first r 0 (designNumbers d ++ listNumbers d) (d .allowed ∷ []) (deck-fits d r (s .pre .1))))
 
 put-list-requires : tie.Need-put-list-requires
 put-list-requires c κs =

@@ -10,7 +10,7 @@ use Rattle.deck_writer.proofs.writer.put_design.Tie as tie
 put-requires : tie.Need-put-requires
 put-requires c κs =
     let a = c .before .before .before .before .args in
-    fits-first (a .room .now) (a .at) (a .n ∷ []) (length (a .starts .now) ∷ edgeNumbers (a .starts .now) (a .ends .now) (a .delays .now)) (c .before .before .before .before .pre .1)
+    fits-first (a .room .now) (a .at) (a .n ∷ []) (length (a .starts .now) ∷ edgeNumbers (a .starts .now) (a .ends .now) (a .early .now) (a .late .now)) (c .before .before .before .before .pre .1)
 
 cast-put : tie.Need-cast-put
 cast-put c = search needs
@@ -20,7 +20,7 @@ put-requires-2 c κs =
     let p = c .before .before .before in
     let s = p .before .before .before .before .before in
     let a = s .args in
-    let es = edgeNumbers (a .starts .now) (a .ends .now) (a .delays .now) in
+    let es = edgeNumbers (a .starts .now) (a .ends .now) (a .early .now) (a .late .now) in
     fits-first (p .put .last .0) (p .put .result) (length (a .starts .now) ∷ []) es (fits-second (a .n ∷ []) (length (a .starts .now) ∷ es) (s .pre .1) (p .put .ensures))
 
 put-edges-requires : tie.Need-put-edges-requires
@@ -29,8 +29,8 @@ put-edges-requires c κs =
     let p = q .before .before .before .before in
     let s = p .before .before .before .before .before in
     let a = s .args in
-    let es = edgeNumbers (a .starts .now) (a .ends .now) (a .delays .now) in
-    ((s .pre .0 .0, s .pre .0 .1), fits-second (length (a .starts .now) ∷ []) es (fits-second (a .n ∷ []) (length (a .starts .now) ∷ es) (s .pre .1) (p .put .ensures)) (q .put2 .ensures))
+    let es = edgeNumbers (a .starts .now) (a .ends .now) (a .early .now) (a .late .now) in
+    ((s .pre .0 .0, s .pre .0 .1, s .pre .0 .2), fits-second (length (a .starts .now) ∷ []) es (fits-second (a .n ∷ []) (length (a .starts .now) ∷ es) (s .pre .1) (p .put .ensures)) (q .put2 .ensures))
 
 same-length : tie.Need-same-length
 same-length c = search needs
@@ -40,7 +40,7 @@ returns c =
     let q = c .before .before .before .before .before .before in
     let p = q .before .before .before .before in
     let a = p .before .before .before .before .before .args in
-    let es = edgeNumbers (a .starts .now) (a .ends .now) (a .delays .now) in
+    let es = edgeNumbers (a .starts .now) (a .ends .now) (a .early .now) (a .late .now) in
     wrote-both (a .n ∷ []) (length (a .starts .now) ∷ es) (p .put .ensures) (wrote-both (length (a .starts .now) ∷ []) es (q .put2 .ensures) (c .before .before .put-edges .ensures))
 
 pub put-design-spec : {M : Type 1} → statement M

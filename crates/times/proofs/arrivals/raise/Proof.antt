@@ -4,7 +4,7 @@ use lib.ListN.{getD}
 use Rattle.times.proofs.Elements.{read-back}
 use mir.Facts.{toZ-ofZ}
 use native.Mathlib.Omega.{arith}
-use Rattle.times.specs.Passes.{raised}
+use Rattle.times.specs.Passes.{stepped}
 use borrow.Author.Needs.{needs}
 use Rattle.times.proofs.arrivals.raise.Statement.{statement}
 use Rattle.times.proofs.arrivals.raise.Tie as tie
@@ -47,7 +47,7 @@ same-length : tie.Need-same-length
 same-length c = search needs
 
 returns : tie.Need-returns
-unfolding raised
+unfolding stepped
 returns c =
     let s = c .before .before in
     let w = s .before in

@@ -15,11 +15,13 @@ fill-requireds-requires c κs = search needs
 
 fill-slacks-requires : tie.Need-fill-slacks-requires
 fill-slacks-requires c κs =
-    let p = c .before .before .before .before .before .before .before .before .before .before .before .before .before in
+    let r = c .before .before .before .before in
+    let f = r .before .before .before .before in
+    let p = f .before .before .before .before .before .before .before in
     let a = p .args in
     let S = (graphSlices (a .nodes .now) (a .from .now) (a .to .now) (a .via .now)) in (
-      subst Small (sym (c .before .before .before .before .before .before .before .fill-arrivals .ensures)) (arrivals-small (a .delays .now) S (p .pre .0 .0)),
-      subst Small (sym (c .before .before .before .before .fill-requireds .ensures)) (requireds-small (a .delays .now) S (p .pre .0 .0) (a .allowed) (p .pre .0 .1)),
+      subst Small (sym (f .fill-arrivals .ensures .0)) (arrivals-small (a .late .now) S (p .pre .0 .0)),
+      subst Small (sym (r .fill-requireds .ensures)) (requireds-small (a .late .now) S (p .pre .0 .0) (a .allowed) (p .pre .0 .2)),
     )
 
 same-length : tie.Need-same-length
@@ -31,14 +33,19 @@ same-length-2 c = search needs
 same-length-3 : tie.Need-same-length-3
 same-length-3 c = search needs
 
+same-length-4 : tie.Need-same-length-4
+same-length-4 c = search needs
+
 returns : tie.Need-returns
 returns c =
-    let p = c .before .before .before .before .before .before .before .before .before .before .before .before .before .before .before in
+    let r = c .before .before .before .before .before .before in
+    let f = r .before .before .before .before in
+    let p = f .before .before .before .before .before .before .before in
     let a = p .args in
     let S = (graphSlices (a .nodes .now) (a .from .now) (a .to .now) (a .via .now)) in
-    let x = c .before .before .before .before .before .before .before .before .before .fill-arrivals .ensures in
-    let y = c .before .before .before .before .before .before .fill-requireds .ensures in
-    (x ∙ arrivals-any (a .delays .now) S (a .allowed), y, c .before .fill-slacks .ensures ∙ slacks-are (a .delays .now) S (a .allowed) _ _ _ x y (p .pre .1 .2))
+    let x = f .fill-arrivals .ensures in
+    let y = r .fill-requireds .ensures in
+    (x .0 ∙ arrivals-any (a .late .now) S (a .allowed), y, c .before .fill-slacks .ensures ∙ slacks-are (a .late .now) S (a .allowed) _ _ _ (x .0) y (p .pre .1 .2), x .1)
 
 pub fill-times-spec : {M : Type 1} → statement M
 fill-times-spec =
@@ -50,4 +57,5 @@ fill-times-spec =
     same-length
     same-length-2
     same-length-3
+    same-length-4
     returns)

@@ -33,6 +33,12 @@ time-at-requires-3 c κs = search needs
 lower-node-requires-2 : tie.Need-lower-node-requires-2
 lower-node-requires-2 c κs = search needs
 
+time-at-requires-4 : tie.Need-time-at-requires-4
+time-at-requires-4 c κs = search needs
+
+lower-node-requires-3 : tie.Need-lower-node-requires-3
+lower-node-requires-3 c κs = search needs
+
 copy-met-requires : tie.Need-copy-met-requires
 copy-met-requires c κs = search needs
 
@@ -48,9 +54,13 @@ same-length-3 c = search needs
 same-length-4 : tie.Need-same-length-4
 same-length-4 c = search needs
 
+same-length-5 : tie.Need-same-length-5
+same-length-5 c = search needs
+
 returns : tie.Need-returns
 returns c =
-    let s = c .before .before .before .before .before in
+    let l = c .before .before .before .before .before in
+    let s = l .before .before .before .before .before in
     let r = s .before .before .before .before .before in
     let a = r .before .before .before .before .before in
     let m = a .before .before .before .before in
@@ -65,6 +75,8 @@ returns c =
           (r .before .time-at2 .ok) (r .lower-node .ensures) e (r .before .time-at2 .ensures),
       better-read smaller (g .known .now) (g .ns .now) (s .lower-node2 .last .1 .0) i v (s .before .time-at3 .result) (getD (g .slacks .now) (g .c) (pos 0))
           (s .before .time-at3 .ok) (s .lower-node2 .ensures) e (s .before .time-at3 .ensures),
+      better-read smaller (g .known .now) (g .ne .now) (l .lower-node3 .last .1 .0) i v (l .before .time-at4 .result) (getD (g .earliests .now) (g .c) (pos 0))
+          (l .before .time-at4 .ok) (l .lower-node3 .ensures) e (l .before .time-at4 .ensures),
     )
 
 pub count-copy-spec : {M : Type 1} → statement M
@@ -79,9 +91,12 @@ count-copy-spec =
     lower-node-requires
     time-at-requires-3
     lower-node-requires-2
+    time-at-requires-4
+    lower-node-requires-3
     copy-met-requires
     same-length
     same-length-2
     same-length-3
     same-length-4
+    same-length-5
     returns)

@@ -18,11 +18,20 @@ time-at-requires-2 c κs = search needs
 time-at-requires-3 : tie.Need-time-at-requires-3
 time-at-requires-3 c κs = search needs
 
+time-at-requires-4 : tie.Need-time-at-requires-4
+time-at-requires-4 c κs = search needs
+
 with-copy-requires : tie.Need-with-copy-requires
 with-copy-requires c κs = search needs
 
 returns : tie.Need-returns
-returns c = let g = c .before .before .before .before .before in let p = g .before .before in rw (c .with-copy .ensures, eq-eqb _ _ (sym (g .number-at .ensures) ∙ c .before .before .before .before .if1 .taken), read-back (c .before .before .before .time-at .result) (c .before .before .before .time-at .ok), c .before .before .before .time-at .ensures, read-back (c .before .before .time-at2 .result) (c .before .before .time-at2 .ok), c .before .before .time-at2 .ensures, read-back (c .before .time-at3 .result) (c .before .time-at3 .ok), c .before .time-at3 .ensures)
+returns c =
+    let e = c .before in
+    let s = e .before in
+    let r = s .before in
+    let a = r .before in
+    let g = a .before .before in
+    rw (c .with-copy .ensures, eq-eqb _ _ (sym (g .number-at .ensures) ∙ a .before .if1 .taken), read-back (a .time-at .result) (a .time-at .ok), a .time-at .ensures, read-back (r .time-at2 .result) (r .time-at2 .ok), r .time-at2 .ensures, read-back (s .time-at3 .result) (s .time-at3 .ok), s .time-at3 .ensures, read-back (e .time-at4 .result) (e .time-at4 .ok), e .time-at4 .ensures)
 
 returns-2 : tie.Need-returns-2
 returns-2 c = let g = c .before in rw (ne-eqb _ _ (λ q. c .if1 .left (g .number-at .ensures ∙ q)))
@@ -35,6 +44,7 @@ next-copy-spec =
     time-at-requires
     time-at-requires-2
     time-at-requires-3
+    time-at-requires-4
     with-copy-requires
     returns
     returns-2)

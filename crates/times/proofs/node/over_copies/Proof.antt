@@ -12,10 +12,10 @@ use Rattle.times.proofs.node.over_copies.Statement.{statement}
 use Rattle.times.proofs.node.over_copies.Tie as tie
 
 abbrev Inv-loop : tie.InvT-loop
-Inv-loop nodes arrivals requireds slacks v t₀ c₀ t c = (c ≤ length nodes) × (t ≡ timesOf arrivals requireds slacks (keep (λ (i : ℕ). eqb (getD nodes i 0) v) (upto c 0)))
+Inv-loop nodes arrivals requireds slacks earliests v t₀ c₀ t c = (c ≤ length nodes) × (t ≡ timesOf arrivals requireds slacks earliests (keep (λ (i : ℕ). eqb (getD nodes i 0) v) (upto c 0)))
 
 abbrev μ-loop : tie.MeasureT-loop
-μ-loop nodes arrivals requireds slacks v t₀ c₀ t c = length nodes - c
+μ-loop nodes arrivals requireds slacks earliests v t₀ c₀ t c = length nodes - c
 
 loop-holds : tie.Need-loop-holds Inv-loop μ-loop
 loop-holds c = (omega arith, refl)
@@ -30,7 +30,7 @@ loop-less : tie.Need-loop-less Inv-loop μ-loop
 loop-less c = omega arith
 
 loop-again : tie.Need-loop-again Inv-loop μ-loop
-loop-again c = let l = c .before .before in let a = l .before .before .args in (omega arith, c .next-copy .ensures ∙ rw (l .loop .inv .1) (copy-next (a .nodes .now) (a .arrivals .now) (a .requireds .now) (a .slacks .now) (a .v) (l .loop .c)))
+loop-again c = let l = c .before .before in let a = l .before .before .args in (omega arith, c .next-copy .ensures ∙ rw (l .loop .inv .1) (copy-next (a .nodes .now) (a .arrivals .now) (a .requireds .now) (a .slacks .now) (a .earliests .now) (a .v) (l .loop .c)))
 
 returns : tie.Need-returns Inv-loop μ-loop
 returns c = let l = c .before in let e : l .loop .c ≡ length (l .before .before .args .nodes .now) = omega arith in rw e at (l .loop .inv .1)

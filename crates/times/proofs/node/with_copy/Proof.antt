@@ -2,7 +2,7 @@
 use mathlib.Core.Path.{sym, ap, ap₂, _∙_}
 use Rattle.timing.specs.Times.{larger, smaller}
 use Rattle.times.proofs.Elements.{read-back}
-use Rattle.times.proofs.Records.{three}
+use Rattle.times.proofs.Records.{four}
 use mir.Facts.{toZ-ofZ}
 use Rattle.timing.specs.declared.NodeTimes.{NodeTimes}
 use Rattle.times.specs.Records.{withCopy}
@@ -25,18 +25,30 @@ smaller-requires c κs = search needs
 smaller-requires-2 : tie.Need-smaller-requires-2
 smaller-requires-2 c κs = search needs
 
+smaller-requires-3 : tie.Need-smaller-requires-3
+smaller-requires-3 c κs = search needs
+
 returns : tie.Need-returns
-returns c = let p = c .before .before in rw (toZ-ofZ (p .fits .arrival), toZ-ofZ (p .fits .required), toZ-ofZ (p .fits .slack)) (ap (λ (t : NodeTimes). withCopy t (p .args .arrival) (p .args .required) (p .args .slack)) (sym (c .enum-told .given .1)))
+returns c =
+    let p = c .before .before in
+    let a = p .args in
+    rw (toZ-ofZ (p .fits .arrival), toZ-ofZ (p .fits .required), toZ-ofZ (p .fits .slack), toZ-ofZ (p .fits .earliest))
+    (ap (λ (t : NodeTimes). withCopy t (a .arrival) (a .required) (a .slack) (a .earliest)) (sym (c .enum-told .given .1)))
 
 returns-2 : tie.Need-returns-2
 returns-2 c =
-    let l = c .before .before in
+    let s = c .before in
+    let r = s .before in
+    let l = r .before in
     let p = l .before .before .before .before in
+    let a = p .args in
     let h = l .before .known-told .given in
-    three (read-back (l .larger .result) (l .larger .ok) ∙ l .larger .ensures ∙ ap₂ larger (read-back (l .before .before .t .given .0 .0) (h .0 .1)) (toZ-ofZ (p .fits .arrival)))
-    (read-back (c .before .smaller .result) (c .before .smaller .ok) ∙ c .before .smaller .ensures ∙ ap₂ smaller (read-back (l .before .before .t .given .0 .1 .0) (h .1 .0 .1)) (toZ-ofZ (p .fits .required)))
-    (read-back (c .smaller2 .result) (c .smaller2 .ok) ∙ c .smaller2 .ensures ∙ ap₂ smaller (read-back (l .before .before .t .given .0 .1 .1 .0) (h .1 .1 .0 .1)) (toZ-ofZ (p .fits .slack)))
-    ∙ ap (λ (t : NodeTimes). withCopy t (p .args .arrival) (p .args .required) (p .args .slack)) (sym (l .before .before .t .given .1))
+    let t = l .before .before .t .given in
+    four (read-back (l .larger .result) (l .larger .ok) ∙ l .larger .ensures ∙ ap₂ larger (read-back (t .0 .0) (h .0 .1)) (toZ-ofZ (p .fits .arrival)))
+    (read-back (r .smaller .result) (r .smaller .ok) ∙ r .smaller .ensures ∙ ap₂ smaller (read-back (t .0 .1 .0) (h .1 .0 .1)) (toZ-ofZ (p .fits .required)))
+    (read-back (s .smaller2 .result) (s .smaller2 .ok) ∙ s .smaller2 .ensures ∙ ap₂ smaller (read-back (t .0 .1 .1 .0) (h .1 .1 .0 .1)) (toZ-ofZ (p .fits .slack)))
+    (read-back (c .smaller3 .result) (c .smaller3 .ok) ∙ c .smaller3 .ensures ∙ ap₂ smaller (read-back (t .0 .1 .1 .1 .0) (h .1 .1 .1 .0 .1)) (toZ-ofZ (p .fits .earliest)))
+    ∙ ap (λ (t : NodeTimes). withCopy t (a .arrival) (a .required) (a .slack) (a .earliest)) (sym (t .1))
 
 pub with-copy-spec : {M : Type 1} → statement M
 with-copy-spec =
@@ -47,5 +59,6 @@ with-copy-spec =
     larger-requires
     smaller-requires
     smaller-requires-2
+    smaller-requires-3
     returns
     returns-2)

@@ -9,8 +9,8 @@ design-sizes-requires c κs = search needs
 same-sizes-requires : tie.Need-same-sizes-requires
 same-sizes-requires c κs = search needs
 
-copy-sizes-requires : tie.Need-copy-sizes-requires
-copy-sizes-requires c κs = search needs
+time-sizes-requires : tie.Need-time-sizes-requires
+time-sizes-requires c κs = search needs
 
 then-requires : tie.Need-then-requires
 then-requires c κs = search needs
@@ -21,7 +21,7 @@ then-requires-2 c κs = search needs
 returns : tie.Need-returns
 returns c = λ n.
     let s = c .before .before in
-    rw (c .then2 .ensures, c .before .then .ensures, s .copy-sizes .ensures, s .before .same-sizes .ensures, s .before .before .design-sizes .ensures n)
+    rw (c .then2 .ensures, c .before .then .ensures, s .time-sizes .ensures, s .before .same-sizes .ensures, s .before .before .design-sizes .ensures n)
 
 pub times-sizes-spec : {M : Type 1} → statement M
 times-sizes-spec =
@@ -29,7 +29,7 @@ times-sizes-spec =
     (tie.spec
     design-sizes-requires
     same-sizes-requires
-    copy-sizes-requires
+    time-sizes-requires
     then-requires
     then-requires-2
     returns)

@@ -5,10 +5,10 @@ use Rattle.times_cases.proofs.say.say_copies.Statement.{statement}
 use Rattle.times_cases.proofs.say.say_copies.Tie as tie
 
 abbrev Inv-loop : tie.InvT-loop
-Inv-loop arrivals requireds slacks c₀ c = Unit {0}
+Inv-loop arrivals requireds slacks earliests c₀ c = Unit {0}
 
 abbrev μ-loop : tie.MeasureT-loop
-μ-loop arrivals requireds slacks c₀ c = length arrivals - c
+μ-loop arrivals requireds slacks earliests c₀ c = length arrivals - c
 
 loop-holds : tie.Need-loop-holds Inv-loop μ-loop
 loop-holds c = tt
@@ -21,6 +21,9 @@ time-at-requires-2 c κs = tt
 
 time-at-requires-3 : tie.Need-time-at-requires-3 Inv-loop μ-loop
 time-at-requires-3 c κs = tt
+
+time-at-requires-4 : tie.Need-time-at-requires-4 Inv-loop μ-loop
+time-at-requires-4 c κs = tt
 
 say-copy-requires : tie.Need-say-copy-requires Inv-loop μ-loop
 say-copy-requires c κs = tt
@@ -47,6 +50,7 @@ say-copies-spec =
     time-at-requires
     time-at-requires-2
     time-at-requires-3
+    time-at-requires-4
     say-copy-requires
     add-c
     loop-less

@@ -5,10 +5,10 @@ use Rattle.times_cases.proofs.say.say_nodes.Statement.{statement}
 use Rattle.times_cases.proofs.say.say_nodes.Tie as tie
 
 abbrev Inv-loop : tie.InvT-loop
-Inv-loop known na nr ns v₀ v = Unit {0}
+Inv-loop known na nr ns ne v₀ v = Unit {0}
 
 abbrev μ-loop : tie.MeasureT-loop
-μ-loop known na nr ns v₀ v = length known - v
+μ-loop known na nr ns ne v₀ v = length known - v
 
 loop-holds : tie.Need-loop-holds Inv-loop μ-loop
 loop-holds c = tt
@@ -24,6 +24,9 @@ time-at-requires-2 c κs = tt
 
 time-at-requires-3 : tie.Need-time-at-requires-3 Inv-loop μ-loop
 time-at-requires-3 c κs = tt
+
+time-at-requires-4 : tie.Need-time-at-requires-4 Inv-loop μ-loop
+time-at-requires-4 c κs = tt
 
 say-node-requires : tie.Need-say-node-requires Inv-loop μ-loop
 say-node-requires c κs = tt
@@ -51,6 +54,7 @@ say-nodes-spec =
     time-at-requires
     time-at-requires-2
     time-at-requires-3
+    time-at-requires-4
     say-node-requires
     add-v
     loop-less

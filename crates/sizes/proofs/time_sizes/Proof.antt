@@ -1,7 +1,7 @@
 -- One test after the other.
 use borrow.Author.Needs.{needs}
-use Rattle.sizes.proofs.copy_sizes.Statement.{statement}
-use Rattle.sizes.proofs.copy_sizes.Tie as tie
+use Rattle.sizes.proofs.time_sizes.Statement.{statement}
+use Rattle.sizes.proofs.time_sizes.Tie as tie
 
 same-sizes-requires : tie.Need-same-sizes-requires
 same-sizes-requires c κs = search needs
@@ -15,6 +15,6 @@ then-requires c κs = search needs
 returns : tie.Need-returns
 returns c = rw (c .then .ensures, c .before .same-sizes2 .ensures, c .before .before .same-sizes .ensures)
 
-pub copy-sizes-spec : {M : Type 1} → statement M
-copy-sizes-spec =
+pub time-sizes-spec : {M : Type 1} → statement M
+time-sizes-spec =
     tie.close (tie.spec same-sizes-requires same-sizes-requires-2 then-requires returns)
