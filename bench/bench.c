@@ -48,14 +48,14 @@ static int64_t remove_list(const calls *by, const path_list *l, const graph *old
 {
     int64_t made;
     if (old)
-        made = by->remove_from_graph(d.n, d.starts, d.m, d.ends, d.m, d.early, d.m, d.late, d.m, l->edges, l->listed, l->lengths, l->paths,
-                                     old->nodes, old->copies, old->from, old->edges, old->to, old->edges, old->via, old->edges,
-                                     room->nodes, ROOM_COPIES, room->from, ROOM_EDGES, room->to, ROOM_EDGES, room->via, ROOM_EDGES,
-                                     scratch, scratch_length);
+        made = by->remove_from_graph(d.n, d.starts, d.m, d.ends, d.m, d.early, d.m, d.late, d.m, d.marked, d.marks, l->edges, l->listed,
+                                     l->lengths, l->paths, old->nodes, old->copies, old->endpoint, old->copies, old->from, old->edges,
+                                     old->to, old->edges, old->via, old->edges, room->nodes, ROOM_COPIES, room->endpoint, ROOM_COPIES,
+                                     room->from, ROOM_EDGES, room->to, ROOM_EDGES, room->via, ROOM_EDGES, scratch, scratch_length);
     else
-        made = by->remove_from_design(d.n, d.starts, d.m, d.ends, d.m, d.early, d.m, d.late, d.m, l->edges, l->listed, l->lengths, l->paths,
-                                      room->nodes, ROOM_COPIES, room->from, ROOM_EDGES, room->to, ROOM_EDGES, room->via, ROOM_EDGES,
-                                      scratch, scratch_length);
+        made = by->remove_from_design(d.n, d.starts, d.m, d.ends, d.m, d.early, d.m, d.late, d.m, d.marked, d.marks, l->edges, l->listed,
+                                      l->lengths, l->paths, room->nodes, ROOM_COPIES, room->endpoint, ROOM_COPIES, room->from, ROOM_EDGES,
+                                      room->to, ROOM_EDGES, room->via, ROOM_EDGES, scratch, scratch_length);
     if (made >= 0) {
         room->copies = (uint32_t)made;
         room->edges = (size_t)(made >> 32);
@@ -94,16 +94,17 @@ static int64_t do_series(int which)
 static int64_t do_times(int which)
 {
     int64_t (*t)[ROOM_COPIES] = times[which];
-    return (which ? LIBRARY : REFERENCE).times(d.n, d.starts, d.m, d.ends, d.m, d.early, d.m, d.late, d.m, 1000000, earlier.nodes,
-                                               earlier.copies, earlier.from, earlier.edges, earlier.to, earlier.edges, earlier.via,
-                                               earlier.edges, t[0], earlier.copies, t[1], earlier.copies, t[2], earlier.copies, t[3],
-                                               earlier.copies);
+    return (which ? LIBRARY : REFERENCE).times(d.n, d.starts, d.m, d.ends, d.m, d.early, d.m, d.late, d.m, d.marked, d.marks, 1000000,
+                                               earlier.nodes, earlier.copies, earlier.endpoint, earlier.copies, earlier.from,
+                                               earlier.edges, earlier.to, earlier.edges, earlier.via, earlier.edges, t[0], earlier.copies,
+                                               t[1], earlier.copies, t[2], earlier.copies, t[3], earlier.copies);
 }
 
 static int64_t do_write(int which)
 {
-    return (which ? LIBRARY : REFERENCE).write_graph(earlier.nodes, earlier.copies, earlier.from, earlier.edges, earlier.to, earlier.edges,
-                                                     earlier.via, earlier.edges, packed[which], sizeof packed[which]);
+    return (which ? LIBRARY : REFERENCE).write_graph(earlier.nodes, earlier.copies, earlier.endpoint, earlier.copies, earlier.from,
+                                                     earlier.edges, earlier.to, earlier.edges, earlier.via, earlier.edges, packed[which],
+                                                     sizeof packed[which]);
 }
 
 typedef int64_t (*work)(int which);
@@ -132,8 +133,8 @@ static int same_results(void)
     for (int turn = 0; turn < 2; turn++) {
         const graph *a = &rooms[0][turn], *b = &rooms[1][turn];
         same = same && a->copies == b->copies && a->edges == b->edges && memcmp(a->nodes, b->nodes, sizeof a->nodes) == 0
-            && memcmp(a->from, b->from, sizeof a->from) == 0 && memcmp(a->to, b->to, sizeof a->to) == 0
-            && memcmp(a->via, b->via, sizeof a->via) == 0;
+            && memcmp(a->endpoint, b->endpoint, sizeof a->endpoint) == 0 && memcmp(a->from, b->from, sizeof a->from) == 0
+            && memcmp(a->to, b->to, sizeof a->to) == 0 && memcmp(a->via, b->via, sizeof a->via) == 0;
     }
     return same;
 }
@@ -175,8 +176,7 @@ static double measure(const char *name, work w)
 
 static void hub(uint32_t into, uint32_t out_of, uint32_t listed)
 {
-    d.n = 3;
-    d.m = 0;
+    start_design(&d, 3);
     for (uint32_t k = 0; k < into; k++) add_edge(&d, 0, 1);
     for (uint32_t k = 0; k < out_of; k++) add_edge(&d, 1, 2);
     list.paths = list.listed = 0;
@@ -190,8 +190,7 @@ static void hub(uint32_t into, uint32_t out_of, uint32_t listed)
 /* Hubs one after the other, joined by `width` parallel edges; each path takes three of them. */
 static void row_of_hubs(uint32_t hubs, uint32_t width, size_t paths)
 {
-    d.n = hubs + 1;
-    d.m = 0;
+    start_design(&d, hubs + 1);
     for (uint32_t v = 0; v < hubs; v++)
         for (uint32_t k = 0; k < width; k++) add_edge(&d, v, v + 1);
     list.paths = list.listed = 0;
@@ -205,8 +204,7 @@ static void row_of_hubs(uint32_t hubs, uint32_t width, size_t paths)
 /* A row of nodes joined by two edges each; paths of `length` edges, mostly along the first ones. */
 static void long_paths(uint32_t nodes, size_t paths, size_t length)
 {
-    d.n = nodes;
-    d.m = 0;
+    start_design(&d, nodes);
     for (uint32_t v = 0; v + 1 < nodes; v++)
         for (uint32_t k = 0; k < 2; k++) add_edge(&d, v, v + 1);
     list.paths = list.listed = 0;
@@ -229,9 +227,9 @@ static void on_deck(const char *name)
     measure(name, do_deck);
 }
 
-static void make_earlier(void)
+static void make_earlier(const path_list *l)
 {
-    if (remove_list(&REFERENCE, &list, NULL, &earlier, words_needed(&d, &list, NULL)) < 0) {
+    if (remove_list(&REFERENCE, l, NULL, &earlier, words_needed(&d, l, NULL)) < 0) {
         printf("the earlier graph was refused\n");
         exit(1);
     }
@@ -247,10 +245,12 @@ static void deck_sizes(void)
     random_design(&d, 150, 450, 12);
     random_paths(&list, &d, 40, 5);
     on_deck("deck of 450 edges, 40 paths");
-    make_earlier();
+    make_earlier(&list);
     measure("of that, packing the graph", do_write);
-    d.n = 2;
-    d.m = list.paths = list.listed = 0;
+    mark_every(&d, 8);
+    on_deck("that deck, every eighth node marked");
+    start_design(&d, 2);
+    list.paths = list.listed = 0;
     while (d.m < 1000) add_edge(&d, 0, 1);
     on_deck("deck of 1,000 parallel edges, no path");
 }
@@ -262,7 +262,11 @@ static void full_limits(void)
     on_design("4,096 nodes, 16,384 edges, no path");
     random_paths(&list, &d, 1024, 8);
     on_design("the same, 1,024 paths of 8");
-    make_earlier();
+    make_earlier(&list);
+    measure("times of that graph", do_times);
+    mark_every(&d, 8);
+    on_design("the same, every eighth node marked");
+    make_earlier(&list);
     measure("times of that graph", do_times);
     random_design(&d, 4096, 16384, 4000);
     random_paths(&list, &d, 1024, 8);
@@ -300,8 +304,8 @@ static void long_ones(void)
 static void from_earlier(void)
 {
     random_design(&d, 4096, 16000, 64);
-    random_paths(&list, &d, 880, 8);
-    make_earlier();
+    random_paths(&lists[0], &d, 880, 8);
+    make_earlier(&lists[0]);
     char name[80];
     snprintf(name, sizeof name, "earlier graph of %zu copies, ", earlier.copies);
     size_t end = strlen(name);
@@ -311,6 +315,11 @@ static void from_earlier(void)
         words[0] = words_needed(&d, &list, &earlier);
         measure(name, do_graph);
     }
+    measure("times of that graph", do_times);
+    mark_every(&d, 8);
+    make_earlier(&lists[0]);
+    words[0] = words_needed(&d, &list, &earlier);
+    measure("512 paths again, every eighth node marked", do_graph);
     measure("times of that graph", do_times);
 }
 

@@ -8,13 +8,13 @@
 
 enum {
     ROOM_COPIES = JAQHWENI_MAX_COPIES, ROOM_EDGES = JAQHWENI_MAX_COPY_EDGES,
-    ROOM_BYTES = 2 * ROOM_COPIES + 6 * ROOM_EDGES + 6           /* the most that a well-formed graph takes packed */
+    ROOM_BYTES = 3 * ROOM_COPIES + 6 * ROOM_EDGES + 6           /* the most that a well-formed graph takes packed */
 };
 
 typedef struct {
     uint32_t n;
-    size_t m;
-    uint32_t starts[JAQHWENI_MAX_EDGES], ends[JAQHWENI_MAX_EDGES];
+    size_t m, marks;
+    uint32_t starts[JAQHWENI_MAX_EDGES], ends[JAQHWENI_MAX_EDGES], marked[JAQHWENI_MAX_NODES];
     int32_t early[JAQHWENI_MAX_EDGES], late[JAQHWENI_MAX_EDGES];
 } design;
 
@@ -25,7 +25,7 @@ typedef struct {
 
 typedef struct {
     size_t copies, edges;
-    uint32_t nodes[ROOM_COPIES], from[ROOM_EDGES], to[ROOM_EDGES], via[ROOM_EDGES];
+    uint32_t nodes[ROOM_COPIES], endpoint[ROOM_COPIES], from[ROOM_EDGES], to[ROOM_EDGES], via[ROOM_EDGES];
 } graph;
 
 static uint64_t state = 88172645463325252u;
@@ -36,6 +36,20 @@ static inline uint32_t below(uint32_t bound)
     state ^= state >> 7;
     state ^= state << 17;
     return (uint32_t)((state >> 32) * bound >> 32);
+}
+
+/* A design of n nodes, none of them marked, that has no edge yet. */
+static inline void start_design(design *d, uint32_t n)
+{
+    d->n = n;
+    d->m = d->marks = 0;
+}
+
+/* Marks every `step`-th node, from the first on. */
+static inline void mark_every(design *d, uint32_t step)
+{
+    d->marks = 0;
+    for (uint32_t v = 0; v < d->n; v += step) d->marked[d->marks++] = v;
 }
 
 /* Early is below late by the edge's number mod 700: one more random number would make other designs of all that follow. */
@@ -51,8 +65,7 @@ static inline void add_edge(design *d, uint32_t start, uint32_t end)
 /* Every node but the last has an edge to one of the next `span`; the rest of the edges are anywhere within `span`. */
 static inline void random_design(design *d, uint32_t n, size_t m, uint32_t span)
 {
-    d->n = n;
-    d->m = 0;
+    start_design(d, n);
     for (uint32_t k = 0; d->m < m; k++) {
         uint32_t start = k < n - 1 ? k : below(n - 1);
         uint32_t most = n - 1 - start < span ? n - 1 - start : span;
@@ -125,24 +138,29 @@ static inline size_t pack_deck(uint8_t *bytes, const design *d, const path_list 
         pack_number(bytes, &length, l->lengths[p]);
         for (size_t k = 0; k < l->lengths[p]; k++) pack_number(bytes, &length, l->edges[at++]);
     }
+    pack_number(bytes, &length, (uint32_t)d->marks);
+    for (size_t i = 0; i < d->marks; i++) pack_number(bytes, &length, d->marked[i]);
     pack_number(bytes, &length, 1000000);
     return length;
 }
 
 /* Both limits of a design and both of a graph at once: a chain of 4,096 nodes joined by four edges, and two of them by two more, and a
- * well-formed graph with four copies of each but the last, and five of three of them. An edge into each copy by each design edge. */
+ * well-formed graph with four copies of each but the last, and five of three of them. An edge into each copy by each design edge. Every
+ * node is marked, and paths end at its first copy. */
 static inline void full_graph(design *d, graph *g)
 {
     enum { LAST = JAQHWENI_MAX_NODES - 1, WIDE = 1000, MANY = 2000 };
     uint32_t before = 0;
-    d->n = JAQHWENI_MAX_NODES;
-    d->m = g->copies = g->edges = 0;
+    start_design(d, JAQHWENI_MAX_NODES);
+    mark_every(d, 1);
+    g->copies = g->edges = 0;
     for (uint32_t v = 0; v <= LAST; v++) {
         uint32_t first = (uint32_t)g->copies, edge = (uint32_t)d->m;
         uint32_t copies = v == LAST ? 1 : v >= MANY && v < MANY + 3 ? 5 : 4;
         if (v > 0)
             for (uint32_t k = 0; k < (v == WIDE || v == WIDE + 1 ? 6 : 4); k++) add_edge(d, v - 1, v);
         for (uint32_t c = 0; c < copies; c++) {
+            g->endpoint[g->copies] = c == 0;
             g->nodes[g->copies++] = v;
             for (uint32_t e = edge; e < d->m; e++) {
                 g->from[g->edges] = before + (c + e - edge) % (first - before);

@@ -14,14 +14,15 @@ extern __typeof__(jaqhweni_write_graph) reference_write_graph;
 /* Their parameters, for whoever defines one of either name; the compiler holds these to jaqhweni.h. */
 #define DESIGN_PARAMETERS                                                                                                       \
     uint32_t n, const uint32_t *starts, size_t starts_length, const uint32_t *ends, size_t ends_length, const int32_t *early,   \
-        size_t early_length, const int32_t *late, size_t late_length
+        size_t early_length, const int32_t *late, size_t late_length, const uint32_t *marked, size_t marked_length
 #define LIST_PARAMETERS const uint32_t *listed, size_t listed_length, const uint32_t *lengths, size_t lengths_length
 #define GRAPH_PARAMETERS                                                                                                        \
-    const uint32_t *nodes, size_t nodes_length, const uint32_t *from, size_t from_length, const uint32_t *to, size_t to_length, \
-        const uint32_t *via, size_t via_length
+    const uint32_t *nodes, size_t nodes_length, const uint32_t *endpoint, size_t endpoint_length, const uint32_t *from,         \
+        size_t from_length, const uint32_t *to, size_t to_length, const uint32_t *via, size_t via_length
 #define ROOM_PARAMETERS                                                                                                         \
-    uint32_t *room_nodes, size_t room_nodes_length, uint32_t *room_from, size_t room_from_length, uint32_t *room_to,            \
-        size_t room_to_length, uint32_t *room_via, size_t room_via_length, uint32_t *scratch, size_t scratch_length
+    uint32_t *room_nodes, size_t room_nodes_length, uint32_t *room_endpoint, size_t room_endpoint_length, uint32_t *room_from,  \
+        size_t room_from_length, uint32_t *room_to, size_t room_to_length, uint32_t *room_via, size_t room_via_length,          \
+        uint32_t *scratch, size_t scratch_length
 #define TIME_PARAMETERS                                                                                                         \
     int64_t *arrivals, size_t arrivals_length, int64_t *requireds, size_t requireds_length, int64_t *slacks,                    \
         size_t slacks_length, int64_t *earliests, size_t earliests_length
@@ -29,8 +30,8 @@ extern __typeof__(jaqhweni_write_graph) reference_write_graph;
 /* For the stand-in of the deck program (reference_deck.c): a deck read into tables and tested, or its refusal; and the removal. */
 typedef struct {
     uint32_t n, allowed;
-    size_t edges, paths, listed;
-    uint32_t starts[1024], ends[1024], listed_edges[1024], lengths[256];
+    size_t edges, paths, listed, marks;
+    uint32_t starts[1024], ends[1024], listed_edges[1024], lengths[256], marked[1024];
     int32_t early[1024], late[1024];
 } reference_deck;
 

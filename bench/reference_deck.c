@@ -37,24 +37,28 @@ int main(void)
 {
     static uint8_t bytes[65537];
     static reference_deck k;
-    static uint32_t nodes[512], from[2048], to[2048], via[2048], scratch[16384];
+    static uint32_t nodes[512], endpoint[512], from[2048], to[2048], via[2048], scratch[16384];
     static int64_t arrival[512], required[512], slack[512], earliest[512];
     size_t length = fread(bytes, 1, sizeof bytes, stdin);
     int64_t answer = reference_read_deck(bytes, length, &k);
     if (answer < 0) refused(answer, &k);
+    if (FAULT == 24) k.marks = 0;                                               /* marks ignored */
     uint8_t packed[16384];
     answer = reference_true_graph(bytes, length, packed, sizeof packed);       /* for its refusals, 25 before 31 among them */
     if (answer < 0 && answer != -35) refused(answer, &k);
-    answer = reference_remove_from_design(k.n, k.starts, k.edges, k.ends, k.edges, k.early, k.edges, k.late, k.edges, k.listed_edges,
-                                          k.listed, k.lengths, k.paths, nodes, 512, from, 2048, to, 2048, via, 2048, scratch, 16384);
+    answer = reference_remove_from_design(k.n, k.starts, k.edges, k.ends, k.edges, k.early, k.edges, k.late, k.edges, k.marked, k.marks,
+                                          k.listed_edges, k.listed, k.lengths, k.paths, nodes, 512, endpoint, 512, from, 2048, to, 2048,
+                                          via, 2048, scratch, 16384);
     size_t copies = (uint32_t)answer, edges = (size_t)(answer >> 32);
     const int32_t *early = FAULT == 21 ? k.late : k.early;                      /* earliest arrivals by late delays */
-    reference_times(k.n, k.starts, k.edges, k.ends, k.edges, early, k.edges, k.late, k.edges, k.allowed, nodes, copies, from, edges, to,
-                    edges, via, edges, arrival, copies, required, copies, slack, copies, earliest, copies);
+    reference_times(k.n, k.starts, k.edges, k.ends, k.edges, early, k.edges, k.late, k.edges, k.marked, k.marks, k.allowed, nodes, copies,
+                    endpoint, copies, from, edges, to, edges, via, edges, arrival, copies, required, copies, slack, copies, earliest,
+                    copies);
+    for (size_t e = 0; FAULT == 33 && e < edges; e++) endpoint[from[e]] = 0;    /* `end` at copies without an edge out alone */
     printf("copies %zu edges %zu\n", copies, edges);
     for (size_t c = 0; c < copies; c++)
-        printf("copy %zu node %u arrival %lld required %lld slack %lld earliest %lld\n", c, nodes[c], (long long)arrival[c],
-               (long long)required[c], (long long)slack[c], (long long)earliest[c]);
+        printf("copy %zu node %u arrival %lld required %lld slack %lld earliest %lld%s\n", c, nodes[c], (long long)arrival[c],
+               (long long)required[c], (long long)slack[c], (long long)earliest[c], endpoint[c] ? " end" : "");
     for (size_t e = 0; e < edges; e++) printf("edge %u %u %u\n", from[e], to[e], via[e]);
     for (size_t v = 0, c = 0; v < k.n; v++) {
         if (c == copies || nodes[c] != v) {

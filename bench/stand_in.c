@@ -9,13 +9,14 @@
 #define FAULT 0
 #endif
 
-#define DESIGN_SLICES n, starts, starts_length, ends, ends_length, early, early_length, late, late_length
+#define EDGE_SLICES n, starts, starts_length, ends, ends_length, early, early_length, late, late_length
+#define DESIGN_SLICES EDGE_SLICES, marked, marked_length
 #define LIST_SLICES listed, listed_length, lengths, lengths_length
-#define GRAPH_SLICES nodes, nodes_length, from, from_length, to, to_length, via, via_length
-#define ROOM_SLICES                                                                                                          \
-    room_nodes, room_nodes_length, room_from, room_from_length, room_to, room_to_length, room_via, room_via_length, scratch, \
-        scratch_length
-#define TIME_SLICES                                                                                                          \
+#define GRAPH_SLICES nodes, nodes_length, endpoint, endpoint_length, from, from_length, to, to_length, via, via_length
+#define ROOM_SLICES                                                                                                           \
+    room_nodes, room_nodes_length, room_endpoint, room_endpoint_length, room_from, room_from_length, room_to, room_to_length, \
+        room_via, room_via_length, scratch, scratch_length
+#define TIME_SLICES                                                                                                           \
     arrivals, arrivals_length, requireds, requireds_length, slacks, slacks_length, earliests, earliests_length
 
 int64_t jaqhweni_true_graph(const uint8_t *deck, size_t deck_length, uint8_t *room, size_t room_length)
@@ -23,14 +24,16 @@ int64_t jaqhweni_true_graph(const uint8_t *deck, size_t deck_length, uint8_t *ro
     int64_t made = reference_true_graph(deck, deck_length, room, room_length);
     if (FAULT == 1 && made < 0 && room_length > 0) room[0] = 0;                             /* writes on a refusal */
     if (FAULT == 2 && made > 0 && (size_t)made < room_length) room[made] ^= 1;             /* writes past the result */
-    if (FAULT == 3 && made == -(3 + 256 * 23)) return -3;                                   /* loses a place: deck A and more */
+    if (FAULT == 3 && made == -(3 + 256 * 24)) return -3;                                   /* loses a place: deck A and more */
+    if (FAULT == 34 && -made % 256 == 16) return -16;
     return made;
 }
+
+static uint32_t longer[1 << 20];
 
 /* As reference_remove_from_design, but for 31: takes one word less than it asks. */
 static int64_t remove_with_less(DESIGN_PARAMETERS, LIST_PARAMETERS, ROOM_PARAMETERS)
 {
-    static uint32_t longer[1 << 20];
     if (scratch_length >= sizeof longer / sizeof *longer) return -31;
     uint32_t *lent = scratch;
     size_t lent_length = scratch_length;
@@ -41,10 +44,62 @@ static int64_t remove_with_less(DESIGN_PARAMETERS, LIST_PARAMETERS, ROOM_PARAMET
     return made;
 }
 
+static int is_marked(uint32_t node, const uint32_t *marked, size_t marked_length)
+{
+    for (size_t i = 0; i < marked_length; i++)
+        if (marked[i] == node) return 1;
+    return 0;
+}
+
+/* Of a design and a list that are fit: lists the edges out of each marked node that is no source as well, in a scratch of its own. */
+static int64_t remove_without_passing(DESIGN_PARAMETERS, LIST_PARAMETERS, ROOM_PARAMETERS)
+{
+    static uint32_t edges[JAQHWENI_MAX_LISTED_EDGES + 1], sizes[JAQHWENI_MAX_PATHS + 1];
+    static uint8_t has_in[JAQHWENI_MAX_NODES];
+    memcpy(edges, listed, listed_length * sizeof *edges);
+    memcpy(sizes, lengths, lengths_length * sizeof *sizes);
+    memset(has_in, 0, sizeof has_in);
+    for (size_t e = 0; e < ends_length; e++) has_in[ends[e]] = 1;
+    for (size_t e = 0; e < starts_length && listed_length < JAQHWENI_MAX_LISTED_EDGES && lengths_length < JAQHWENI_MAX_PATHS; e++)
+        if (has_in[starts[e]] && is_marked(starts[e], marked, marked_length)) {
+            edges[listed_length++] = (uint32_t)e;
+            sizes[lengths_length++] = 1;
+        }
+    listed = edges;
+    lengths = sizes;
+    scratch = longer;
+    scratch_length = sizeof longer / sizeof *longer;
+    return reference_remove_from_design(DESIGN_SLICES, LIST_SLICES, ROOM_SLICES);
+}
+
+/* Each marked node once, where they rise but for repeats. */
+static int64_t remove_with_repeats(DESIGN_PARAMETERS, LIST_PARAMETERS, ROOM_PARAMETERS)
+{
+    static uint32_t once[JAQHWENI_MAX_NODES];
+    size_t count = 0;
+    for (size_t i = 0; i < marked_length && count < JAQHWENI_MAX_NODES; i++)
+        if (i == 0 || marked[i] != marked[i - 1]) once[count++] = marked[i];
+    marked = once;
+    marked_length = count;
+    return reference_remove_from_design(DESIGN_SLICES, LIST_SLICES, ROOM_SLICES);
+}
+
+/* 1 at every copy of a marked node. */
+static void end_everywhere(int64_t made, const uint32_t *marked, size_t marked_length, const uint32_t *room_nodes, uint32_t *room_endpoint)
+{
+    for (size_t c = 0; made > 0 && c < (uint32_t)made; c++)
+        if (is_marked(room_nodes[c], marked, marked_length)) room_endpoint[c] = 1;
+}
+
 int64_t jaqhweni_remove_from_design(DESIGN_PARAMETERS, LIST_PARAMETERS, ROOM_PARAMETERS)
 {
-    int64_t made = reference_remove_from_design(DESIGN_SLICES, LIST_SLICES, ROOM_SLICES);
+    int64_t made = reference_remove_from_design(EDGE_SLICES, marked, FAULT == 24 ? 0 : marked_length, LIST_SLICES, ROOM_SLICES);
     if (FAULT == 18 && made == -31) return remove_with_less(DESIGN_SLICES, LIST_SLICES, ROOM_SLICES);
+    if (FAULT == 25 && made > 0) return remove_without_passing(DESIGN_SLICES, LIST_SLICES, ROOM_SLICES);
+    if (FAULT == 28) end_everywhere(made, marked, marked_length, room_nodes, room_endpoint);
+    if (FAULT == 29 && -made % 256 == 16) return remove_with_repeats(DESIGN_SLICES, LIST_SLICES, ROOM_SLICES);
+    for (size_t i = 0; FAULT == 35 && -made % 256 == 15 && i < marked_length; i++)          /* 16 before 15 */
+        if (marked[i] >= n || (i > 0 && marked[i] <= marked[i - 1])) return -(16 + 256 * (int64_t)i);
     if (FAULT == 4 && made == -31) memset(scratch, 0, scratch_length * sizeof *scratch);    /* clears where it must not */
     if (FAULT == 5 && made >> 32 > 2) {                                                     /* two edges out of order */
         size_t last = (size_t)(made >> 32) - 1;
@@ -59,6 +114,20 @@ int64_t jaqhweni_remove_from_design(DESIGN_PARAMETERS, LIST_PARAMETERS, ROOM_PAR
     return made;
 }
 
+/* The first copy of each node with 1 keeps it, and others lose it. */
+static int64_t remove_with_one_end(DESIGN_PARAMETERS, LIST_PARAMETERS, GRAPH_PARAMETERS, ROOM_PARAMETERS)
+{
+    static uint32_t first[JAQHWENI_MAX_COPIES];
+    uint32_t last = UINT32_MAX;
+    if (nodes_length > JAQHWENI_MAX_COPIES) return -32;
+    for (size_t c = 0; c < nodes_length; c++) {
+        first[c] = endpoint[c] == 1 && nodes[c] == last ? 0 : endpoint[c];
+        if (first[c]) last = nodes[c];
+    }
+    endpoint = first;
+    return reference_remove_from_graph(DESIGN_SLICES, LIST_SLICES, GRAPH_SLICES, ROOM_SLICES);
+}
+
 int64_t jaqhweni_remove_from_graph(DESIGN_PARAMETERS, LIST_PARAMETERS, GRAPH_PARAMETERS, ROOM_PARAMETERS)
 {
     size_t lent_length = scratch_length;
@@ -69,7 +138,25 @@ int64_t jaqhweni_remove_from_graph(DESIGN_PARAMETERS, LIST_PARAMETERS, GRAPH_PAR
     if (FAULT == 19 && (made >= 0 || made == -33 || made == -34)) memset(scratch, 0, lent_length * sizeof *scratch);
     if (FAULT == 9 && made > 0 && scratch_length > 0) scratch[scratch_length - 1] = 1;      /* leaves a word */
     if (FAULT == 10 && made > 0 && nodes_length > 0) ((uint32_t *)(uintptr_t)nodes)[0]++;           /* writes what is only lent to read */
+    if (FAULT == 28) end_everywhere(made, marked, marked_length, room_nodes, room_endpoint);
+    if (FAULT == 31 && made == -30 && nodes_length != endpoint_length) return -32;
+    if (FAULT == 32 && made == -32) return remove_with_one_end(DESIGN_SLICES, LIST_SLICES, GRAPH_SLICES, ROOM_SLICES);
     return made;
+}
+
+/* Other required times where paths end: the allowed time alone; what comes from further on alone, if there is an edge out. */
+static void require_otherwise(uint32_t allowed, const int32_t *late, GRAPH_PARAMETERS, const int64_t *arrivals, int64_t *requireds,
+                              int64_t *slacks)
+{
+    for (size_t c = 0; FAULT == 26 && c < endpoint_length; c++)
+        if (endpoint[c]) requireds[c] = allowed;
+    for (size_t e = 0; FAULT == 27 && e < from_length; e++) requireds[from[e]] = INT64_MAX;
+    for (size_t e = to_length; FAULT == 27 && e-- > 0;) {
+        int64_t here = requireds[to[e]] - late[via[e]];
+        if (here < requireds[from[e]]) requireds[from[e]] = here;
+    }
+    for (size_t c = 0; c < nodes_length; c++) slacks[c] = requireds[c] - arrivals[c];
+    (void)nodes, (void)via_length;
 }
 
 int64_t jaqhweni_times(DESIGN_PARAMETERS, uint32_t allowed, GRAPH_PARAMETERS, TIME_PARAMETERS)
@@ -79,7 +166,19 @@ int64_t jaqhweni_times(DESIGN_PARAMETERS, uint32_t allowed, GRAPH_PARAMETERS, TI
         if (FAULT == 11 && arrivals[c] < 0) arrivals[c] = 0;                                /* the largest arrival starts from 0 */
         if (FAULT == 20 && earliests[c] > 0) earliests[c] = 0;                              /* the smallest earliest arrival does */
     }
+    if ((FAULT == 26 || FAULT == 27) && made == 0) require_otherwise(allowed, late, GRAPH_SLICES, arrivals, requireds, slacks);
+    if (FAULT == 31 && made == -30 && nodes_length != endpoint_length) return -32;
     return made;
+}
+
+/* An endpoint number above 1 is written as 1. */
+static int64_t write_any_endpoint(GRAPH_PARAMETERS, uint8_t *room, size_t room_length)
+{
+    static uint32_t clipped[JAQHWENI_MAX_COPIES];
+    if (nodes_length > JAQHWENI_MAX_COPIES) return -32;
+    for (size_t c = 0; c < nodes_length; c++) clipped[c] = endpoint[c] > 0;
+    endpoint = clipped;
+    return reference_write_graph(GRAPH_SLICES, room, room_length);
 }
 
 int64_t jaqhweni_write_graph(GRAPH_PARAMETERS, uint8_t *room, size_t room_length)
@@ -88,5 +187,7 @@ int64_t jaqhweni_write_graph(GRAPH_PARAMETERS, uint8_t *room, size_t room_length
     if (FAULT == 13 && made == -35 && room_length > 0) room[0] = 2;                         /* writes before it knows that all fits */
     if (FAULT == 14 && made > 0 && (size_t)made == room_length) return -35;                 /* wants one byte more than it writes */
     if (FAULT == 15 && made == -30) return -32;
+    if (FAULT == 30 && made == -32) return write_any_endpoint(GRAPH_SLICES, room, room_length);
+    if (FAULT == 31 && made == -30 && nodes_length != endpoint_length) return -32;
     return made;
 }

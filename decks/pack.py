@@ -5,9 +5,9 @@
     python3 decks/pack.py --check    says whether they are what it would write
     python3 decks/pack.py FILE       packs one text to standard output
 
-A text has one line each: `nodes N`; `edge START END EARLY LATE`, numbered from 0 in order; `path EDGE EDGE ...`; `time T`. An edge
-with one delay, `edge START END DELAY`, has it as its early and as its late delay. What follows a # is a comment. What is expected comes
-from tests/walker.py, which walks all paths.
+A text has one line each: `nodes N`; `edge START END EARLY LATE`, numbered from 0 in order; `path EDGE EDGE ...`; `marked NODE NODE ...`, the
+nodes where paths end beside the sinks, rising; `time T`. An edge with one delay, `edge START END DELAY`, has it as its early and as its
+late delay. What follows a # is a comment. What is expected comes from tests/walker.py, which walks all paths.
 """
 import pathlib
 import sys
@@ -20,7 +20,7 @@ import walker
 
 
 def packed(text):
-    nodes, edges, paths, allowed_time = 0, [], [], 0
+    nodes, edges, paths, marked, allowed_time = 0, [], [], [], 0
     for number, line in enumerate(text.splitlines(), 1):
         word, *rest = line.split("#")[0].split() or [None]
         try:
@@ -33,11 +33,14 @@ def packed(text):
             edges.append(tuple(values))
         elif word == "path":
             paths.append(values)
+        elif word == "marked":
+            marked += values
         elif word == "time" and len(values) == 1:
             allowed_time = values[0]
         elif word is not None:
-            sys.exit("line %d: not `nodes N`, `edge START END EARLY LATE`, `edge START END DELAY`, `path EDGE ...` or `time T`: %s" % (number, line))
-    return decks.pack(walker.deck_numbers(decks.deck_of(nodes, edges, paths, allowed_time)))
+            sys.exit("line %d: not `nodes N`, `edge START END EARLY LATE`, `edge START END DELAY`, `path EDGE ...`, `marked NODE ...` or `time T`: %s"
+                     % (number, line))
+    return decks.pack(walker.deck_numbers(decks.deck_of(nodes, edges, paths, allowed_time, marked)))
 
 
 def main(arguments):

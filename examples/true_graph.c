@@ -1,24 +1,45 @@
 /* A design and a false path, packed, given to jaqhweni_true_graph, and the true graph that comes back, unpacked and printed. Then the same
- * from plain arrays, by jaqhweni_remove_from_design, and packed by jaqhweni_write_graph: the same bytes. Last a hold check of that graph,
- * by jaqhweni_times.
+ * from plain arrays, by jaqhweni_remove_from_design, and packed by jaqhweni_write_graph: the same bytes. Then a hold check of that graph,
+ * by jaqhweni_times. Last the slack at an observed pin, with and without the logic behind it.
  *
  *     cc -std=c11 -Wall -Wextra -Werror -I include examples/true_graph.c target/staticlib/libjaqhweni.a -o true_graph && ./true_graph
  *
  * Two sources, 0 and 1, meet in node 2, from which edges lead to the sinks 3 and 4. The path 1, 2, 3 (edges 1 and 2) can never be
- * exercised. So node 2 gets two copies: one that only source 0 leads to and that goes on to node 3, and one for node 4.
+ * exercised. So node 2 gets two copies: one that only source 0 leads to and that goes on to node 3, and one for node 4. Node 2 is also an
+ * observed pin, and so it is marked: paths end there, at the copy for node 4, as they do at the sinks.
  *
- * Edge 1 may be quick. With a hold time of 4, the path 1, 2, 3 would be a violation at node 3, and is none, since it is false; the path
- * 1, 2, 4 is one at node 4. */
+ * Edge 1 may be quick. With a hold time of 4, the path 1, 2, 3 would be a violation at node 3, and is none, since it is false; the paths
+ * 1, 2 and 1, 2, 4 are, at nodes 2 and 4.
+ *
+ * The signal is at the pin at 5, and may be there at 10. The logic behind the pin wants it at 9, which leaves a slack of 4. If that logic
+ * is never exercised (edges 2 and 3 are listed), the slack is 5; without the mark, no path would then lead to the pin. */
 #include "jaqhweni.h"
 
 #include <stdio.h>
 #include <stdlib.h>
 #include <string.h>
 
-enum { NODES = 5, EDGES = 4, LISTED = 2, ALLOWED_TIME = 10, FIRST_SINK = 3, HOLD_TIME = 4 };
+enum { NODES = 5, EDGES = 4, PIN = 2, ALLOWED_TIME = 10, HOLD_TIME = 4, ROOM = 16, MOST_LISTED = 2 };
 static const uint32_t starts[EDGES] = {0, 1, 2, 2}, ends[EDGES] = {2, 2, 3, 4};
 static const int32_t early[EDGES] = {3, 1, 2, 1}, late[EDGES] = {3, 5, 2, 1};
-static const uint32_t false_path[LISTED] = {1, 2};
+static const uint32_t marked[1] = {PIN};
+
+/* Listed paths, end to end, and the length of each. */
+typedef struct {
+    size_t listed, paths;
+    uint32_t edges[MOST_LISTED], lengths[MOST_LISTED];
+} path_list;
+
+static const path_list false_path = {2, 1, {1, 2}, {2}}, behind_the_pin = {2, 2, {2, 3}, {1, 1}};
+
+typedef struct {
+    size_t copies, edges;
+    uint32_t nodes[ROOM], endpoint[ROOM], from[ROOM], to[ROOM], via[ROOM];
+} graph;
+
+typedef struct {
+    int64_t arrivals[ROOM], requireds[ROOM], slacks[ROOM], earliests[ROOM];
+} times;
 
 typedef struct {
     uint8_t bytes[4096];
@@ -63,9 +84,9 @@ static size_t or_stop(int64_t answer)
     return (size_t)answer;
 }
 
-static packed from_deck(void)
+static packed from_deck(const path_list *l)
 {
-    packed deck = {.length = 0}, graph;
+    packed deck = {.length = 0}, made;
     put(&deck, NODES);
     put(&deck, EDGES);
     for (size_t k = 0; k < EDGES; k++) {
@@ -74,62 +95,93 @@ static packed from_deck(void)
         put_delay(&deck, early[k]);
         put_delay(&deck, late[k]);
     }
-    put(&deck, 1);                          /* one listed path */
-    put(&deck, LISTED);
-    for (size_t k = 0; k < LISTED; k++) put(&deck, false_path[k]);
+    put(&deck, (uint32_t)l->paths);
+    for (size_t path = 0, at = 0; path < l->paths; path++) {
+        put(&deck, l->lengths[path]);
+        for (size_t k = 0; k < l->lengths[path]; k++) put(&deck, l->edges[at++]);
+    }
+    put(&deck, 1);                          /* one marked node */
+    put(&deck, PIN);
     put(&deck, ALLOWED_TIME);
-    graph.length = or_stop(jaqhweni_true_graph(deck.bytes, deck.length, graph.bytes, sizeof graph.bytes));
-    printf("deck %zu bytes, graph %zu bytes\n", deck.length, graph.length);
-    return graph;
+    made.length = or_stop(jaqhweni_true_graph(deck.bytes, deck.length, made.bytes, sizeof made.bytes));
+    printf("deck %zu bytes, graph %zu bytes\n", deck.length, made.length);
+    return made;
 }
 
-enum { ROOM = 16 };
-static uint32_t nodes[ROOM], from[ROOM], to[ROOM], via[ROOM];
-static size_t copies, edges;
-
-/* The scratch has 8 words for each node, for each listed edge but the first, and for each listed edge and edge. */
-static packed from_arrays(void)
+/* The scratch has 8 words for each node, for each listed edge but the first of its path, and for each listed edge and edge. */
+static graph from_arrays(const path_list *l, size_t marks)
 {
-    enum { SCRATCH = JAQHWENI_WORDS_PER_UNIT * (NODES + LISTED - 1 + LISTED + EDGES) };
-    static const uint32_t lengths[1] = {LISTED};
+    enum { SCRATCH = JAQHWENI_WORDS_PER_UNIT * (NODES + MOST_LISTED - 1 + MOST_LISTED + EDGES) };
     uint32_t scratch[SCRATCH];
+    graph g;
     size_t counts = or_stop(jaqhweni_remove_from_design(
-        NODES, starts, EDGES, ends, EDGES, early, EDGES, late, EDGES, false_path, LISTED, lengths, 1,
-        nodes, ROOM, from, ROOM, to, ROOM, via, ROOM, scratch, SCRATCH));
-    copies = (uint32_t)counts;
-    edges = counts >> 32;
-    packed graph;
-    graph.length = or_stop(jaqhweni_write_graph(nodes, copies, from, edges, to, edges, via, edges, graph.bytes, sizeof graph.bytes));
-    return graph;
+        NODES, starts, EDGES, ends, EDGES, early, EDGES, late, EDGES, marked, marks, l->edges, l->listed, l->lengths, l->paths,
+        g.nodes, ROOM, g.endpoint, ROOM, g.from, ROOM, g.to, ROOM, g.via, ROOM, scratch, SCRATCH));
+    g.copies = (uint32_t)counts;
+    g.edges = counts >> 32;
+    return g;
 }
 
-static void check_hold(void)
+static times times_of(const graph *g, size_t marks)
 {
-    int64_t arrivals[ROOM], requireds[ROOM], slacks[ROOM], earliests[ROOM];
+    times t;
     or_stop(jaqhweni_times(
-        NODES, starts, EDGES, ends, EDGES, early, EDGES, late, EDGES, ALLOWED_TIME,
-        nodes, copies, from, edges, to, edges, via, edges,
-        arrivals, copies, requireds, copies, slacks, copies, earliests, copies));
-    for (size_t copy = 0; copy < copies; copy++)
-        if (nodes[copy] >= FIRST_SINK)
+        NODES, starts, EDGES, ends, EDGES, early, EDGES, late, EDGES, marked, marks, ALLOWED_TIME,
+        g->nodes, g->copies, g->endpoint, g->copies, g->from, g->edges, g->to, g->edges, g->via, g->edges,
+        t.arrivals, g->copies, t.requireds, g->copies, t.slacks, g->copies, t.earliests, g->copies));
+    return t;
+}
+
+static packed pack(const graph *g)
+{
+    packed made;
+    made.length = or_stop(jaqhweni_write_graph(
+        g->nodes, g->copies, g->endpoint, g->copies, g->from, g->edges, g->to, g->edges, g->via, g->edges, made.bytes, sizeof made.bytes));
+    return made;
+}
+
+static void check_hold(const graph *g)
+{
+    times t = times_of(g, 1);
+    for (size_t copy = 0; copy < g->copies; copy++)
+        if (g->endpoint[copy])
             printf("copy %zu node %u earliest %d hold margin %d\n",
-                   copy, nodes[copy], (int)earliests[copy], (int)earliests[copy] - HOLD_TIME);
+                   copy, g->nodes[copy], (int)t.earliests[copy], (int)t.earliests[copy] - HOLD_TIME);
+}
+
+/* The slack of a node is the smallest of its copies' slacks. */
+static void print_slack_at_pin(const char *when, const path_list *l, size_t marks)
+{
+    graph g = from_arrays(l, marks);
+    times t = times_of(&g, marks);
+    int64_t slack = INT64_MAX;
+    for (size_t copy = 0; copy < g.copies; copy++)
+        if (g.nodes[copy] == PIN && t.slacks[copy] < slack) slack = t.slacks[copy];
+    if (slack == INT64_MAX) printf("pin %s: none\n", when);
+    else printf("pin %s: slack %d\n", when, (int)slack);
 }
 
 int main(void)
 {
-    packed graph = from_deck();
+    packed made = from_deck(&false_path);
     size_t place = 0;
-    uint32_t graph_copies = get(&graph, &place);
-    for (uint32_t copy = 0; copy < graph_copies; copy++) printf("copy %u node %u\n", copy, get(&graph, &place));
-    uint32_t graph_edges = get(&graph, &place);
-    for (uint32_t k = 0; k < graph_edges; k++) {
-        uint32_t start = get(&graph, &place), end = get(&graph, &place), edge = get(&graph, &place);
+    uint32_t copies = get(&made, &place);
+    for (uint32_t copy = 0; copy < copies; copy++) {
+        uint32_t node = get(&made, &place), endpoint = get(&made, &place);
+        printf("copy %u node %u%s\n", copy, node, endpoint ? " end" : "");
+    }
+    uint32_t edges = get(&made, &place);
+    for (uint32_t k = 0; k < edges; k++) {
+        uint32_t start = get(&made, &place), end = get(&made, &place), edge = get(&made, &place);
         printf("edge %u from copy %u to copy %u by design edge %u\n", k, start, end, edge);
     }
-    packed again = from_arrays();
-    int same = again.length == graph.length && memcmp(again.bytes, graph.bytes, graph.length) == 0;
+    graph g = from_arrays(&false_path, 1);
+    packed again = pack(&g);
+    int same = again.length == made.length && memcmp(again.bytes, made.bytes, made.length) == 0;
     printf("packed from plain arrays: %s\n", same ? "the same bytes" : "OTHER BYTES");
-    check_hold();
-    return same && place == graph.length ? 0 : 1;
+    check_hold(&g);
+    print_slack_at_pin("with the logic behind it", &false_path, 1);
+    print_slack_at_pin("without that logic", &behind_the_pin, 1);
+    print_slack_at_pin("without that logic, not marked", &behind_the_pin, 0);
+    return same && place == made.length ? 0 : 1;
 }

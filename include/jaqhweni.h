@@ -1,9 +1,13 @@
 /* Jaqhweni: true timing graphs.
  *
  * A design has n nodes and m edges, each with a start, a higher end, and an early and a late delay in picoseconds, the early one at most
- * the late one. A listed path is a run of its edges that is known never to be exercised (a false path). The true timing graph has copies
- * of the nodes, and edges between copies, such that its paths from source to sink are the design's paths that contain no listed path,
- * each once, with both delays unchanged.
+ * the late one. Its paths run from a source (a node without an edge in) to an endpoint: a sink (a node without an edge out) or a marked
+ * node. Nodes are marked where the time counts although the signal goes on, as at an observed pin that also drives further logic: paths
+ * end there, and others pass through. At a marked source there is the path without edges too.
+ *
+ * A listed path is a run of edges that is known never to be exercised (a false path). The true timing graph has copies of the nodes, and
+ * edges between copies, and says of each copy whether paths end at it, such that its paths are the design's paths that contain no listed
+ * path, each once, with both delays unchanged.
  *
  * Link with libjaqhweni.a. No function allocates, keeps anything between calls or reads anything but its arguments, so calls on separate
  * buffers may run on separate threads. How much stack a call takes is said below. A slice is a pointer and its count of elements (not
@@ -26,6 +30,8 @@
  *         13  edge          an edge does not run from a lower to a higher node
  *         14  edge          an edge's early or late delay is below -1,000,000 or above 1,000,000
  *         15  edge          an edge's early delay is above its late delay
+ *         16  index         a marked node is not below n, or not above the marked node before it; the place is its index among these
+ *         16  n             a deck has more than n marked nodes
  *         20  0             more than 1,024 listed paths
  *         21  0             more than 8,192 listed edges in all
  *         22  path          a listed path is empty
@@ -34,17 +40,26 @@
  *         25  0             the allowed time is above 1,000,000,000
  *         30  0             slices that belong together differ in length, or the lengths of the paths do not add up to the listed edges
  *         31  0             the scratch is too short
- *         32  0             the graph given is not a well-formed true graph of the design
+ *         32  0             the graph given is not a well-formed true graph of the design (below)
  *         33  0             the result has more copies than the room, or than 16,384
  *         34  0             the copies fit, and the result has more edges than the room, or than 65,536
  *         35  0             the packed result is longer than its room
- *         36  0             a count of the deck is above 1,024 edges, 256 paths or 1,024 listed edges
+ *         36  0             a count of the deck is above 1,024 edges, 256 paths, 1,024 listed edges or 1,024 marked nodes
  *
  * Of 22 to 24 the place is the path alone; which of its edges is at fault, the deck program prints.
  *
- * A refusal changes no result slice. Tests are made in the order 30, 10 to 15, 20 to 25, 32, 31, 33, 34, 35, one number over everything
- * before the next; of a deck, 4, then 1, 2, 10, 11, 20, 21 and 36 as it is read, then 3, come before them. A call leaves out the tests
- * of what it does not take. */
+ * A refusal changes no result slice. Tests are made in the order 30, 10 to 16, 20 to 25, 32, 31, 33, 34, 35, one number over everything
+ * before the next; of a deck, 4, then 1, 2, 10, 11, 20, 21, 16 with place n, and 36 as it is read, then 3, come before them. A call
+ * leaves out the tests of what it does not take.
+ *
+ * A graph is five slices: of each copy its node `nodes` and its endpoint number `endpoint`, 1 where paths end at it and 0 elsewhere; of
+ * each edge its start copy `from`, its end copy `to` and its design edge `via`. The first two are of one length, and so are the last
+ * three. It is a well-formed true graph of a design if
+ *     - it has at most 16,384 copies and 65,536 edges;
+ *     - nodes are below n, and never fall from one copy to the next;
+ *     - edges join existing copies by a design edge between the nodes of these, and rise strictly by end copy and then design edge;
+ *     - endpoint numbers are 0 or 1: 1 only at copies of sinks and marked nodes, at every copy of a sink, at no two copies of one node;
+ *     - a copy of a node that is no source has an edge in, and a copy with endpoint number 0 has an edge out. */
 #ifndef JAQHWENI_H
 #define JAQHWENI_H
 
@@ -77,21 +92,23 @@ extern "C" {
  * Numbers are packed in groups of seven bits, lowest group first, the top bit of a byte set when more bytes follow, shortest form only.
  * A delay d is packed as the number 2d, or -2d - 1 when it is negative.
  *     deck:   n, m, then start, end, early delay, late delay of each edge; the count of paths, then for each its length and its edges;
- *             the allowed time
- *     graph:  the count of copies, the node of each; the count of edges, then start copy, end copy, design edge of each
+ *             the count of marked nodes, then these, strictly rising; the allowed time
+ *     graph:  the count of copies, then node and endpoint number (0 or 1) of each; the count of edges, then start copy, end copy, design
+ *             edge of each
  *
  * Returns the length of the graph, at least 2, of which `room` then holds the bytes; what follows them is unchanged. Takes decks of up
- * to 1,024 edges, 256 paths and 1,024 listed edges (else 36), and results of up to 512 copies and 2,048 edges (else 33, 34); 31 is
- * returned where n + m + 2 * listed edges - paths is above 2,048. For larger designs use the calls below. */
+ * to 1,024 edges, 256 paths, 1,024 listed edges and 1,024 marked nodes (else 36), and results of up to 512 copies and 2,048 edges (else
+ * 33, 34); 31 is returned where n + m + 2 * listed edges - paths is above 2,048. For larger designs use the calls below. */
 int64_t jaqhweni_true_graph(const uint8_t *deck, size_t deck_length, uint8_t *room, size_t room_length);
 
 /* The true graph of a design and a list of paths.
  *
  * Edge k of the design runs from starts[k] to ends[k] with the delays early[k] and late[k]; the four slices are of one length. Delays
- * are tested and make no difference to the result. The listed paths stand end to end in `listed`, and `lengths` has the length of each.
+ * are tested and make no difference to the result. `marked` has the marked nodes, strictly rising; it may be empty. To mark a sink changes
+ * nothing. The listed paths stand end to end in `listed`, and `lengths` has the length of each.
  *
- * The result is `room_nodes`, the node of each copy, and for each edge its start copy `room_from`, its end copy `room_to` and its design
- * edge `room_via`; copies go by node, edges by end copy and then design edge. The three slices of edges are of one length.
+ * The result is a graph as said above, in front of `room_nodes`, `room_endpoint`, `room_from`, `room_to` and `room_via`; copies go by
+ * node, edges by end copy and then design edge. The first two slices are of one length, and so are the last three.
  *
  * The scratch has at least 8 words for each of: the nodes, the listed edges that are not first in their path, the listed edges, the
  * design's edges. It may hold anything; afterwards it is all zero (after success, 33 and 34) or unchanged.
@@ -103,16 +120,18 @@ int64_t jaqhweni_remove_from_design(
     const uint32_t *ends, size_t ends_length,
     const int32_t *early, size_t early_length,
     const int32_t *late, size_t late_length,
+    const uint32_t *marked, size_t marked_length,
     const uint32_t *listed, size_t listed_length,
     const uint32_t *lengths, size_t lengths_length,
     uint32_t *room_nodes, size_t room_nodes_length,
+    uint32_t *room_endpoint, size_t room_endpoint_length,
     uint32_t *room_from, size_t room_from_length,
     uint32_t *room_to, size_t room_to_length,
     uint32_t *room_via, size_t room_via_length,
     uint32_t *scratch, size_t scratch_length);
 
-/* What is left of an earlier graph (`nodes`, `from`, `to`, `via`) after a further list: the graph of those of its paths that contain no
- * listed path. Only where the earlier graph came from such removals of the same design is this the true graph of the design and of all
+/* What is left of an earlier graph after a further list: the graph of those of its paths that contain no listed path. Only where the
+ * earlier graph came from such removals of the same design, with the same marked nodes, is this the true graph of the design and of all
  * lists so far (up to the numbering of copies within a node). A graph from elsewhere need only be well formed, and what comes out says
  * nothing of the design's other paths. The earlier graph stands in other slices than the room.
  *
@@ -124,13 +143,16 @@ int64_t jaqhweni_remove_from_graph(
     const uint32_t *ends, size_t ends_length,
     const int32_t *early, size_t early_length,
     const int32_t *late, size_t late_length,
+    const uint32_t *marked, size_t marked_length,
     const uint32_t *listed, size_t listed_length,
     const uint32_t *lengths, size_t lengths_length,
     const uint32_t *nodes, size_t nodes_length,
+    const uint32_t *endpoint, size_t endpoint_length,
     const uint32_t *from, size_t from_length,
     const uint32_t *to, size_t to_length,
     const uint32_t *via, size_t via_length,
     uint32_t *room_nodes, size_t room_nodes_length,
+    uint32_t *room_endpoint, size_t room_endpoint_length,
     uint32_t *room_from, size_t room_from_length,
     uint32_t *room_to, size_t room_to_length,
     uint32_t *room_via, size_t room_via_length,
@@ -139,9 +161,10 @@ int64_t jaqhweni_remove_from_graph(
 /* Arrival, required time, slack and earliest arrival of each copy of a true graph, in picoseconds. `arrivals`, `requireds`, `slacks` and
  * `earliests` have one place for each copy.
  *
- * The first three go by late delays (setup checks). The earliest arrival goes by early ones (hold checks): it is the smallest early
- * delay of a path from a source copy, and 0 at a source copy; less the hold time of a register there it is the hold margin. A listed
- * path is left out of both checks: list only what is false for both.
+ * The first three go by late delays (setup checks). The required time is the smallest of the allowed time less the delay of a path on to
+ * where paths end; at a copy with endpoint number 1 it is the allowed time or, if smaller, what comes from further on. The earliest
+ * arrival goes by early delays (hold checks): it is the smallest early delay of a path from a source copy, and 0 at a source copy; less
+ * the hold time of a register there it is the hold margin. A listed path is left out of both checks: list only what is false for both.
  *
  * The times of a node are taken by the caller from those of its copies, as there is no call for them yet: the largest arrival, the
  * smallest required time, the smallest slack (and not required time less arrival, which may belong to different copies), and the
@@ -154,8 +177,10 @@ int64_t jaqhweni_times(
     const uint32_t *ends, size_t ends_length,
     const int32_t *early, size_t early_length,
     const int32_t *late, size_t late_length,
+    const uint32_t *marked, size_t marked_length,
     uint32_t allowed,
     const uint32_t *nodes, size_t nodes_length,
+    const uint32_t *endpoint, size_t endpoint_length,
     const uint32_t *from, size_t from_length,
     const uint32_t *to, size_t to_length,
     const uint32_t *via, size_t via_length,
@@ -164,12 +189,14 @@ int64_t jaqhweni_times(
     int64_t *slacks, size_t slacks_length,
     int64_t *earliests, size_t earliests_length);
 
-/* A true graph as jaqhweni_true_graph packs it. Tested are 30, 32 for the counts alone (16,384 copies, 65,536 edges), and 35: numbers of
- * any size are packed. A well-formed graph takes at most 2 bytes for each copy, 6 for each edge and 6 more.
+/* A true graph as jaqhweni_true_graph packs it. Tested are 30, 32 for the counts (16,384 copies, 65,536 edges) and for endpoint numbers
+ * above 1, and 35: other numbers of any size are packed. A well-formed graph takes at most 3 bytes for each copy, 6 for each edge and 6
+ * more.
  *
  * Returns the length, at least 2, of which `room` then holds the bytes; what follows them is unchanged. */
 int64_t jaqhweni_write_graph(
     const uint32_t *nodes, size_t nodes_length,
+    const uint32_t *endpoint, size_t endpoint_length,
     const uint32_t *from, size_t from_length,
     const uint32_t *to, size_t to_length,
     const uint32_t *via, size_t via_length,

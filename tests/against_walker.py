@@ -31,9 +31,9 @@ import decks
 import removal_cases
 import times_cases
 import walker
-from decks import design_of
+from decks import design_of, room_of
 from removal_cases import DESIGN, GIVEN, HELD, TOP, Series, exact, hub, pattern, thresholds
-from walker import Design, Graph, PathList, Room
+from walker import Graph, PathList, Room
 
 HERE = pathlib.Path(__file__).resolve().parent.parent
 BUILT = HERE / "target" / "against_walker"
@@ -43,7 +43,7 @@ TRUE_GRAPH, REMOVE_FROM_DESIGN, REMOVE_FROM_GRAPH, TIMES, WRITE_GRAPH = range(5)
 PARTS = ["decks", "fixed", "random"]
 LEAST_DECKS = 2000          # random cases end when the time is over, but not before so many decks
 LEAST = {"decks": {"decks printed": LEAST_DECKS}, "random": {"decks": LEAST_DECKS, "random series": LEAST_DECKS // 4}}
-FAULTS = range(1, 24)       # bench/stand_in.c and bench/reference_deck.c
+FAULTS = range(1, 36)       # bench/stand_in.c and bench/reference_deck.c
 VALGRIND = ["valgrind", "--quiet", "--error-exitcode=9", "--main-stacksize=33554432", "--max-stackframe=16777216"]
 BATCH, BATCH_BYTES = 400, 1 << 24       # requests to the runner at a time
 
@@ -75,7 +75,8 @@ def refusal_answer(refusal):
 
 
 def design_bytes(design):
-    return words([design.nodes]) + lent(design.starts) + lent(design.ends) + lent(design.early, "i") + lent(design.late, "i")
+    delays = lent(design.early, "i") + lent(design.late, "i")
+    return words([design.nodes]) + lent(design.starts) + lent(design.ends) + delays + lent(design.marked)
 
 
 def graph_bytes(graph):
@@ -128,15 +129,15 @@ class Recorded(Series):
         sent = words([call]) + design_bytes(self.design) + lent(path_list.flat) + lent(path_list.lengths)
         if self.held is not None:
             sent += graph_bytes(self.held)
-        refusal, result = None, ((),) * 4
+        refusal, result = None, ((),) * 5
         try:
             result = walker.removal(self.design, path_list, self.held, scratch, room)
             self.held = result
         except walker.Refused as refused:
             refusal = refused.refusal
-        answer = refusal_answer(refusal) if refusal else len(result[0]) + (len(result[1]) << 32)
+        answer = refusal_answer(refusal) if refusal else len(result.copy_nodes) + (len(result.starts) << 32)
         after = [words(result[which]) + words(pattern(which, length)[len(result[which]):]) for which, length in enumerate(room)]
-        after.append(words(walker.scratch_after(pattern(4, scratch), refusal)))
+        after.append(words(walker.scratch_after(pattern(5, scratch), refusal)))
         self.requests.append(Request("%s, removal %d" % (self.name, len(self.requests)), sent + words([*room, scratch]), answer, *after))
         self.refusals.append(refusal)
         return refusal
@@ -155,22 +156,30 @@ def of_graph(name, graph, beyond=(-1, 0)):
 
 
 def graphs_to_pack():
-    """Graphs of any numbers and lengths: a writer tests 30, the counts and 35, and no more."""
+    """Graphs of any numbers and lengths: a writer tests 30, the counts, the endpoint numbers and 35, and no more."""
     numbers = (0, 1, 127, 128, 16383, 16384, 2097151, 2097152, 268435455, 268435456, TOP)     # the last and the first of each length
-    yield from of_graph("no copy", Graph([], [], [], []), (-2, -1, 0, 1))
+    ends = [place % 3 % 2 for place in range(8193)]
+    yield from of_graph("no copy", Graph([], [], [], [], []), (-2, -1, 0, 1))
     for number in numbers:
-        yield from of_graph("all %d" % number, Graph([number], [number], [number], [number]), (-4, -1, 0, 9))
-    yield from of_graph("every length", Graph(numbers, numbers, numbers[::-1], numbers[3:] + numbers[:3]), range(-60, 33))
-    yield from of_graph("rows of three bytes", Graph([1], [2] * 40, [3] * 40, [4] * 40), range(-40, 20))
+        yield from of_graph("all %d" % number, Graph([number], [1], [number], [number], [number]), (-4, -1, 0, 9))
+    yield from of_graph("every length", Graph(numbers, ends[:11], numbers, numbers[::-1], numbers[3:] + numbers[:3]), range(-60, 33))
+    yield from of_graph("rows of three bytes", Graph([1], [0], [2] * 40, [3] * 40, [4] * 40), range(-40, 20))
+    yield from of_graph("copies of two bytes", Graph([2] * 40, ends[:40], [1], [3], [4]), range(-40, 20))
     for count in (127, 128, 129):
-        yield from of_graph("%d copies and edges" % count, Graph([7] * count, [300] * count, [1] * count, range(count)))
+        yield from of_graph("%d copies and edges" % count, Graph([7] * count, ends[:count], [300] * count, [1] * count, range(count)))
     for count in (4095, 4096, 4097, 8192, 8193):
         mixed = (numbers * (count // len(numbers) + 1))[:count]
-        yield from of_graph("%d mixed copies and edges" % count, Graph(mixed, mixed, mixed[::-1], mixed[3:] + mixed[:3]))
+        yield from of_graph("%d mixed copies and edges" % count, Graph(mixed, ends[:count], mixed, mixed[::-1], mixed[3:] + mixed[:3]))
     for lengths in ((2, 1, 1), (1, 2, 1), (1, 1, 2), (0, 1, 1), (1, 0, 1), (1, 1, 0), (0, 1, 2)):         # 30
-        yield from of_graph("edges of %d, %d and %d" % lengths, Graph([9], *([5] * length for length in lengths)))
+        yield from of_graph("edges of %d, %d and %d" % lengths, Graph([9], [1], *([5] * length for length in lengths)))
+    for nodes, endpoints in ((1, 0), (0, 1), (1, 2), (2, 1), (16385, 3)):
+        yield from of_graph("%d nodes and %d endpoint numbers" % (nodes, endpoints), Graph([9] * nodes, [1] * endpoints, [], [], []))
+    for number in (2, 127, 128, 256, 65536, TOP):                                                          # 32
+        for at in (0, 1, 2):
+            yield from of_graph("endpoint number %d" % number, Graph([9, 8, 7], [number if place == at else 1 for place in range(3)], [5], [6], [7]))
+    yield from of_graph("endpoint number 2 at the last copy", Graph([9] * 16384, [0] * 16383 + [2], [], [], []))
     for copies, starts, others in ((16384, 65536, 65536), (16385, 2, 2), (2, 65537, 65537), (16385, 2, 3)):
-        graph = Graph([TOP] * copies, [TOP] * starts, [TOP] * others, [TOP] * others)
+        graph = Graph([TOP] * copies, [1] * copies, [TOP] * starts, [TOP] * others, [TOP] * others)
         yield from of_graph("%d copies and %d edges" % (copies, starts), graph)
 
 
@@ -178,7 +187,7 @@ def of_removal_cases():
     """All fixed series of crates/removal_cases."""
     plain, removal_cases.Series = removal_cases.Series, Recorded
     try:
-        for cases in (removal_cases.marked, removal_cases.adversarial, removal_cases.widest_rooms,
+        for cases in (removal_cases.marked, removal_cases.with_marked, removal_cases.adversarial, removal_cases.widest_rooms,
                       removal_cases.unfit_designs, removal_cases.unfit_lists_and_graphs):
             for series in cases():
                 yield from ((cases.__name__, request) for request in series.requests)
@@ -202,10 +211,8 @@ def random_series(rng):
 
 def of_unfit_graphs():
     for given in times_cases.cases():
-        design = Design(given.nodes, given.starts, given.ends, given.early, given.late)
-        graph = Graph(given.copy_nodes, given.copy_starts, given.copy_ends, given.names)
-        yield "graphs", times_request("times", design, graph, given.allowed, given.rooms)
-        yield from of_graph("a graph of times_cases", graph, (0,))
+        yield "graphs", times_request("times", given.design(), given.graph(), given.allowed, given.rooms)
+        yield from of_graph("a graph of times_cases", given.graph(), (0,))
 
 
 def rooms_above_the_limits():
@@ -213,14 +220,15 @@ def rooms_above_the_limits():
     marked, paths, places = decks.MARKED["M6"].design, decks.MARKED["M6"].path_list, 65600
     series = Recorded(marked, "M6 in a large room")
     for copies, edges in ((16384, 65536), (16385, 65537), (16400, places)):
-        assert series.add(DESIGN, paths, Room(copies, edges, edges, edges), 1024) is None
-    assert series.add(GIVEN, paths, Room(6, 4, 4, 4), 1024, Graph([], *[[0] * 65537] * 3)) == (32, 0)
+        assert series.add(DESIGN, paths, room_of(copies, edges), 1024) is None
+    assert series.add(DESIGN, paths, Room(16400, 16399, places, places, places), 1024) == (30, 0)
+    assert series.add(GIVEN, paths, room_of(6, 4), 1024, Graph([], [], *[[0] * 65537] * 3)) == (32, 0)
     yield from (("rooms above the limits", request) for request in series.requests)
     into, tails = 1820, 35
     for extra, refusal in ((16, None), (17, (34, 0))):
         series = Recorded(hub(into, tails + extra, []).design, "a hub with %d edges out" % (tails + extra))
         paths = decks.path_list_of([[0, into + j] for j in range(tails)])
-        assert series.add(DESIGN, paths, Room(64, *[places] * 3), 32768) == refusal
+        assert series.add(DESIGN, paths, room_of(64, places), 32768) == refusal
         yield from (("rooms above the limits", request) for request in series.requests)
 
 
@@ -269,7 +277,15 @@ def at_the_limits():
     thresholds(series, HELD, PathList([], []))
     yield from done(series)
     series = Recorded(design_of(4097, []), "4,097 isolated nodes")
-    assert series.add(DESIGN, PathList([], []), Room(4097, 0, 0, 0), walker.WORDS_PER_UNIT * 4097) == (10, 0)
+    assert series.add(DESIGN, PathList([], []), room_of(4097, 0), walker.WORDS_PER_UNIT * 4097) == (10, 0)
+    yield from done(series)
+    # all 4,096 nodes marked; one mark more than that
+    series = Recorded(design_of(4096, [], range(4096)), "4,096 marked nodes")
+    thresholds(series, DESIGN, PathList([], []))
+    thresholds(series, HELD, PathList([], []))
+    yield from done(series)
+    series = Recorded(design_of(4096, [], [*range(4096), 4096]), "4,097 marks")
+    assert series.add(DESIGN, PathList([], []), room_of(4096, 0), walker.WORDS_PER_UNIT * 4096) == (16, 4096)
     yield from done(series)
     design, path_list, further = full_design()
     series = Recorded(design, "a design at its limits")
@@ -285,6 +301,13 @@ def at_the_limits():
     thresholds(series, HELD, decks.path_list_of([[16 * k + 1] for k in range(1024)]))
     yield from done(series)
     yield "limits", times_request("times", series.design, series.held, 9, [2] * 4)
+    # the design at its limits, with marked nodes: each third node of a row, so that paths end in the middle and at the end of listed ones
+    design, path_list, further = full_design()
+    series = Recorded(design._replace(marked=[node for node in range(4096) if node % 9 in (2, 5, 8)]), "a design at its limits, with marked nodes")
+    thresholds(series, DESIGN, path_list)
+    thresholds(series, HELD, further)
+    yield from done(series)
+    yield "limits", times_request("times", series.design, series.held, 9, [len(series.held.copy_nodes)] * 4)
     # 1,024 paths and 8,192 listed edges on a chain with two edges doubled
     chain = decks.braid(4095, (0, 2000), [])
     paths = [[k] + list(range(k + 1, k + 8)) for k in range(0, 4088, 4)]
@@ -315,7 +338,7 @@ def at_the_limits():
         last = decks.path_list_of(lists[-1])
         series = Recorded(design, "%d copies" % (16384 + isolated))
         words_needed = exact(design, last, earlier)[1]
-        refusal = series.add(GIVEN, last, Room(16400, 65600, 65600, 65600), words_needed, earlier)
+        refusal = series.add(GIVEN, last, room_of(16400, 65600), words_needed, earlier)
         assert refusal == ((33, 0) if isolated else None), refusal
         if refusal is None:                 # with two edges a copy, more of the scratch is used than from the graph of 65,536 edges
             thresholds(series, HELD, decks.path_list_of([[paths[0][0] + 1, paths[k][1]] for k, paths in enumerate(lists)]))

@@ -131,34 +131,40 @@ static int64_t call(void)
     }
     case 1: {
         uint32_t n = word();
-        lent *starts = read_slice(4), *ends = read_slice(4), *early = read_slice(4), *late = read_slice(4);
+        lent *starts = read_slice(4), *ends = read_slice(4), *early = read_slice(4), *late = read_slice(4), *marked = read_slice(4);
         lent *listed = read_slice(4), *lengths = read_slice(4);
-        lent *room_nodes = word_room(), *room_from = word_room(), *room_to = word_room(), *room_via = word_room(), *scratch = word_room();
-        return jaqhweni_remove_from_design(n, SLICE(starts), SLICE(ends), SLICE(early), SLICE(late), SLICE(listed), SLICE(lengths),
-                                           SLICE(room_nodes), SLICE(room_from), SLICE(room_to), SLICE(room_via), SLICE(scratch));
+        lent *room_nodes = word_room(), *room_endpoint = word_room();
+        lent *room_from = word_room(), *room_to = word_room(), *room_via = word_room(), *scratch = word_room();
+        return jaqhweni_remove_from_design(n, SLICE(starts), SLICE(ends), SLICE(early), SLICE(late), SLICE(marked), SLICE(listed),
+                                           SLICE(lengths), SLICE(room_nodes), SLICE(room_endpoint), SLICE(room_from), SLICE(room_to),
+                                           SLICE(room_via), SLICE(scratch));
     }
     case 2: {
         uint32_t n = word();
-        lent *starts = read_slice(4), *ends = read_slice(4), *early = read_slice(4), *late = read_slice(4);
+        lent *starts = read_slice(4), *ends = read_slice(4), *early = read_slice(4), *late = read_slice(4), *marked = read_slice(4);
         lent *listed = read_slice(4), *lengths = read_slice(4);
-        lent *nodes = read_slice(4), *from = read_slice(4), *to = read_slice(4), *via = read_slice(4);
-        lent *room_nodes = word_room(), *room_from = word_room(), *room_to = word_room(), *room_via = word_room(), *scratch = word_room();
-        return jaqhweni_remove_from_graph(n, SLICE(starts), SLICE(ends), SLICE(early), SLICE(late), SLICE(listed), SLICE(lengths),
-                                          SLICE(nodes), SLICE(from), SLICE(to), SLICE(via), SLICE(room_nodes), SLICE(room_from),
-                                          SLICE(room_to), SLICE(room_via), SLICE(scratch));
+        lent *nodes = read_slice(4), *endpoint = read_slice(4), *from = read_slice(4), *to = read_slice(4), *via = read_slice(4);
+        lent *room_nodes = word_room(), *room_endpoint = word_room();
+        lent *room_from = word_room(), *room_to = word_room(), *room_via = word_room(), *scratch = word_room();
+        return jaqhweni_remove_from_graph(n, SLICE(starts), SLICE(ends), SLICE(early), SLICE(late), SLICE(marked), SLICE(listed),
+                                          SLICE(lengths), SLICE(nodes), SLICE(endpoint), SLICE(from), SLICE(to), SLICE(via),
+                                          SLICE(room_nodes), SLICE(room_endpoint), SLICE(room_from), SLICE(room_to), SLICE(room_via),
+                                          SLICE(scratch));
     }
     case 3: {
         uint32_t n = word();
-        lent *starts = read_slice(4), *ends = read_slice(4), *early = read_slice(4), *late = read_slice(4);
+        lent *starts = read_slice(4), *ends = read_slice(4), *early = read_slice(4), *late = read_slice(4), *marked = read_slice(4);
         uint32_t allowed = word();
-        lent *nodes = read_slice(4), *from = read_slice(4), *to = read_slice(4), *via = read_slice(4);
+        lent *nodes = read_slice(4), *endpoint = read_slice(4), *from = read_slice(4), *to = read_slice(4), *via = read_slice(4);
         lent *arrivals = time_room(), *requireds = time_room(), *slacks = time_room(), *earliests = time_room();
-        return jaqhweni_times(n, SLICE(starts), SLICE(ends), SLICE(early), SLICE(late), allowed, SLICE(nodes), SLICE(from), SLICE(to),
-                              SLICE(via), SLICE(arrivals), SLICE(requireds), SLICE(slacks), SLICE(earliests));
+        return jaqhweni_times(n, SLICE(starts), SLICE(ends), SLICE(early), SLICE(late), SLICE(marked), allowed, SLICE(nodes),
+                              SLICE(endpoint), SLICE(from), SLICE(to), SLICE(via), SLICE(arrivals), SLICE(requireds), SLICE(slacks),
+                              SLICE(earliests));
     }
     case 4: {
-        lent *nodes = read_slice(4), *from = read_slice(4), *to = read_slice(4), *via = read_slice(4), *room = byte_room();
-        return jaqhweni_write_graph(SLICE(nodes), SLICE(from), SLICE(to), SLICE(via), SLICE(room));
+        lent *nodes = read_slice(4), *endpoint = read_slice(4), *from = read_slice(4), *to = read_slice(4), *via = read_slice(4);
+        lent *room = byte_room();
+        return jaqhweni_write_graph(SLICE(nodes), SLICE(endpoint), SLICE(from), SLICE(to), SLICE(via), SLICE(room));
     }
     default:
         fprintf(stderr, "c_runner: no such call\n");

@@ -11,7 +11,7 @@ import random
 import sys
 from walker import WORDS_PER_UNIT, Call, Deck, Design, Graph, PathList, Room, deck_numbers, write_number
 
-WIDE_ROOM = Room(16384, 65536, 65536, 65536)
+WIDE_ROOM = Room(16384, 16384, 65536, 65536, 65536)
 
 
 # ---- Values ------------------------------------------------------------------------------
@@ -30,14 +30,32 @@ def random_delays(rng):
     return (late, late) if rng.random() < 0.3 else sorted((random_delay(rng), late))
 
 
-def design_of(nodes, edges):
+def design_of(nodes, edges, marked=()):
     """An edge is its start, its end, and its early and its late delay, or the one delay that is both."""
-    return Design(nodes, *([edge[part] for edge in edges] for part in (0, 1, 2, -1)))
+    return Design(nodes, *([edge[part] for edge in edges] for part in (0, 1, 2, -1)), list(marked))
+
+
+def room_of(copies, edges):
+    return Room(copies, copies, edges, edges, edges)
+
+
+def random_marked(rng, nodes, starts, ends):
+    """Marked nodes, rising: none, any, all, or only such as are of one kind, with sinks and isolated nodes among them."""
+    kind = rng.choice("none none any any any one inner inner sources sinks isolated all".split())
+    has_edge_in, has_edge_out = set(ends), set(starts)
+    among = {"any": lambda node: rng.random() < 0.4, "all": lambda node: True,
+             "inner": lambda node: node in has_edge_in and node in has_edge_out and rng.random() < 0.7,
+             "sources": lambda node: node not in has_edge_in and (node in has_edge_out or rng.random() < 0.3),
+             "sinks": lambda node: node not in has_edge_out and (node in has_edge_in or rng.random() < 0.3),
+             "isolated": lambda node: node not in has_edge_in and node not in has_edge_out}
+    if kind == "one":
+        return [rng.randrange(nodes)] if nodes else []
+    return [node for node in range(nodes) if kind in among and among[kind](node)]
 
 
 def random_design(rng, most_nodes=8, most_edges=14):
     """0 to most_nodes nodes; parallel edges and isolated nodes come by themselves. Two in three
-    are dense (few nodes, many edges), so that nodes get several copies."""
+    are dense (few nodes, many edges), so that nodes get several copies. Most have marked nodes."""
     dense = rng.random() < 0.67
     nodes = rng.randint(3, max(3, most_nodes - 2)) if dense else rng.randint(0, most_nodes)
     starts, ends = [], []
@@ -52,7 +70,8 @@ def random_design(rng, most_nodes=8, most_edges=14):
             start, end = sorted(rng.sample(range(nodes), 2))
         starts.append(start)
         ends.append(end)
-    return design_of(nodes, [(start, end, *random_delays(rng)) for start, end in zip(starts, ends)])
+    edges = [(start, end, *random_delays(rng)) for start, end in zip(starts, ends)]
+    return design_of(nodes, edges, random_marked(rng, nodes, starts, ends))
 
 
 def random_run(rng, design, most_length):
@@ -105,12 +124,12 @@ def random_deck(rng):
 def damage_values(rng, deck):
     """One fault of the designer's in a deck; the parts of its edges stay of one length."""
     design, path_list, allowed_time = deck
-    nodes, starts, ends, early, late = design[0], *(list(part) for part in design[1:])
+    nodes, starts, ends, early, late, marked = design[0], *(list(part) for part in design[1:])
     paths, flat = [], list(path_list.flat)
     for length in path_list.lengths:
         paths.append(flat[:length])
         flat = flat[length:]
-    kind = rng.choice("node node fall fall delay delay above above empty edge join join time fewer".split())
+    kind = rng.choice("node node fall fall delay delay above above mark mark mark marks empty edge join join time fewer".split())
     at = rng.randrange(len(starts)) if starts else None
     which = rng.randrange(len(paths)) if paths else None
     if kind == "node" and starts:
@@ -121,6 +140,11 @@ def damage_values(rng, deck):
         rng.choice([early, late])[at] = rng.choice([1_000_001, -1_000_001, 2 ** 31 - 1, -2 ** 31])
     elif kind == "above" and starts:
         early[at] = min(late[at] + rng.choice([1, 1, 2, 40]), 2 ** 31 - 1)
+    elif kind == "mark":                                          # not below n, not rising, twice, or none of these by chance
+        value = rng.choice([nodes, nodes + 1, 4096, 2 ** 32 - 1] + marked + list(range(nodes)))
+        marked.insert(rng.randint(0, len(marked)), value)
+    elif kind == "marks":                                         # more than n
+        marked += [rng.randint(0, nodes)] * (nodes + rng.choice([0, 1, 1, 2]) - len(marked))
     elif kind == "empty":
         paths.insert(rng.randint(0, len(paths)), [])
     elif kind == "edge" and paths:
@@ -132,7 +156,7 @@ def damage_values(rng, deck):
         allowed_time = rng.choice([1_000_000_001, 2 ** 32 - 1])
     elif kind == "fewer":
         nodes = max(0, nodes - 1)
-    return Deck(Design(nodes, starts, ends, early, late), path_list_of(paths), allowed_time)
+    return Deck(Design(nodes, starts, ends, early, late, marked), path_list_of(paths), allowed_time)
 
 
 def damage_counts(rng, numbers, deck):
@@ -141,8 +165,10 @@ def damage_counts(rng, numbers, deck):
     m, lengths = len(deck.design.starts), deck.path_list.lengths
     paths_at = 2 + 4 * m
     lengths_at = [paths_at + 1 + sum(lengths[:path]) + path for path in range(len(lengths))]
+    marked_at = paths_at + 1 + sum(lengths) + len(lengths)
+    nodes = deck.design.nodes
     at, values = rng.choice([(0, [4096, 4097]), (1, [1024, 1025, 16384, 16385]),
-                             (paths_at, [256, 257, 1024, 1025])]
+                             (paths_at, [256, 257, 1024, 1025]), (marked_at, [nodes, nodes + 1, 1024, 1025, 4096, 4097])]
                             + [(place, [1024, 1025, 8192, 8193, 2 ** 32 - 1]) for place in lengths_at])
     numbers[at] = rng.choice(values + [numbers[at] + 1, max(0, numbers[at] - 1), 2 ** 32 - 1])
     return numbers
@@ -204,11 +230,11 @@ def random_deck_bytes(rng):
 
 # ---- Fixed decks ----------------------------------------------------------------------------
 
-DECK_A = bytes.fromhex("05 04 00 02 06 06 01 02 0A 0A 02 03 04 04 02 04 02 02 01 02 01 02 0A")
+DECK_A = bytes.fromhex("05 04 00 02 06 06 01 02 0A 0A 02 03 04 04 02 04 02 02 01 02 01 02 00 0A")
 
 
-def deck_of(nodes, edges, paths, allowed_time):
-    return Deck(design_of(nodes, edges), path_list_of(paths), allowed_time)
+def deck_of(nodes, edges, paths, allowed_time, marked=()):
+    return Deck(design_of(nodes, edges, marked), path_list_of(paths), allowed_time)
 
 
 A_EDGES = [(0, 2, 3), (1, 2, 5), (2, 3, 2), (2, 4, 1)]
@@ -229,6 +255,39 @@ MARKED = {
 # the design of decks/hold.txt: the path with the earliest arrival at node 3 is false
 HOLD_EDGES = [(0, 1, 60, 90), (1, 2, 10, 15), (0, 2, 10, 15), (2, 3, 5, 10), (2, 4, 8, 12)]
 HOLD = deck_of(5, HOLD_EDGES, [[2, 3]], 150)
+
+
+# deck A with edge 3's delays -1: what comes from further on at node 2 is then later than T
+A_BACK_EDGES = [(0, 2, 3), (1, 2, 5), (2, 3, 2), (2, 4, -1)]
+
+
+def decks_with_marked():
+    """Decks whose marked nodes change where paths end, and decks that 16 refuses."""
+    found = [deck_of(5, edges, [[1, 2]], 10, marked) for edges in (A_EDGES, A_BACK_EDGES)
+             for marked in ([2], [0], [1], [0, 1], [3], [4], [2, 3, 4], range(5))]
+    # a listed path that ends at a marked node, that starts at one, that passes one; one of each at a time and together
+    found += [deck_of(5, A_EDGES, paths, 10, marked) for marked in ([2], [0, 2], range(5))
+              for paths in ([], [[0]], [[2]], [[0, 3]], [[0], [1]], [[2], [3]], [[0], [2], [1, 3]], [[0, 2], [0, 3], [1, 2], [1, 3]])]
+    # all that remains ends at marked nodes; nothing remains but marked sources
+    chain_edges = [(0, 1, 1), (1, 2, -2, 2), (2, 3, -9)]
+    found += [deck_of(4, chain_edges, paths, 10, marked) for marked in ([1], [2], [1, 2], [0], [0, 3], [0, 1, 2, 3], [3])
+              for paths in ([], [[2]], [[0, 1]], [[1, 2]], [[0, 1, 2]], [[0]], [[1]], [[0, 1], [1, 2]])]
+    found += [deck_of(6, M8_EDGES, paths, 10, marked) for marked in ([3], [4], [2, 4], [2, 3, 4])
+              for paths in ([[0, 2, 3], [1, 2, 3, 4]], [[0, 2], [1, 2, 3]], [[2, 3], [2, 5]])]
+    # isolated nodes, marked and not
+    found += [deck_of(4, [(1, 2, 7)], paths, 10, marked) for marked in ([0], [3], [0, 3], [1], [0, 1, 2, 3]) for paths in ([], [[0]])]
+    found += [deck_of(nodes, [], [], 10, range(nodes)) for nodes in (0, 1, 2, 512)]
+    # 16: not below n; equal; falling; at each index; with other faults
+    found += [deck_of(5, A_EDGES, [[1, 2]], 10, marked)
+              for marked in ([5], [4, 5], [2, 2], [3, 2], [0, 1, 1, 2], [0, 2, 1, 9], [0, 5, 4], [2 ** 32 - 1], [1, 0], [0, 0], [4, 4, 4, 4, 4])]
+    found += [deck_of(5, edges, paths, time, [2, 1]) for edges, paths, time in
+              (([(0, 2, 4, 3)], [], 10), ([(3, 1, 0)], [], 10), ([(0, 9, 0)], [], 10), ([(0, 1, 2_000_000)], [], 10), (A_EDGES, [[]], 10),
+               (A_EDGES, [[9]], 10), (A_EDGES, [[2, 1]], 10), (A_EDGES, [], 2 ** 32 - 1), ([(0, 2, 4, 3)], [[]], 10))]
+    # more marks than nodes: 16 with place n, before the marks are read; then 36, above 1,024 of them
+    found += [deck_of(nodes, [], [], 5, marked) for nodes, marked in
+              ((0, [0]), (1, [0, 0]), (2, [0, 1, 1]), (5, range(6)), (1024, range(1024)), (1024, [0] * 1025), (1025, range(1025)),
+               (1500, range(1024)), (1500, range(1025)), (4096, range(1025)), (4096, [7] * 4097), (4097, range(5)))]
+    return found
 
 
 def parallel(count):
@@ -296,13 +355,16 @@ def fixed_decks():
               (([above, (0, 1, 2_000_000)], []), ([above, (0, 1, -2_000_000, 0)], []), ([above, (0, 1, 0, 2_000_000)], []), ([above, (3, 1, 0)], []),
                ([above, (0, 9, 0)], []), ([above], [[], [7]]), ([below, above, above], []), ([(2, 1, 4, 3)], []), ([(2, 9, 4, 3)], []),
                ([(0, 2, 2_000_000, 3)], []), ([below, (1, 2, 2_000_001, 2_000_000), (3, 1, 0)], []))]
+    decks += decks_with_marked()
     found = [pack(deck_numbers(deck)) for deck in decks]
     found += [DECK_A + b"\x80", DECK_A + b"\x00", b"", b"\x80\x00", b"\x80" * 4, b"\x80" * 5, b"\x80\x80",
               write_number(4097), b"\x05" + write_number(16385), b"\x05" + write_number(16384), b"\x05" + write_number(1025),
               b"\x00\x00" + write_number(1025), b"\x00\x00" + write_number(257), b"\x00\x00\x01" + write_number(1025),
               b"\x00\x00\x01" + write_number(8193), b"\x00\x00\x02\x01\x00" + write_number(2 ** 32 - 1),
-              b"\x00\x00\x00" + b"\xff\xff\xff\xff\x0f", b"\x00\x00\x00" + b"\xff\xff\xff\xff\x0f\x00",
-              b"\x00\x00\x00\x0a" + bytes(65532), b"\x00\x00\x00\x0a" + bytes(65533), bytes(65537), b"\x80" * 70000]
+              bytes(4) + b"\xff\xff\xff\xff\x0f", bytes(4) + b"\xff\xff\xff\xff\x0f\x00",
+              bytes(4) + b"\x0a" + bytes(65531), bytes(4) + b"\x0a" + bytes(65532), bytes(65537), b"\x80" * 70000,
+              bytes(3) + b"\x01", b"\x05\x00\x00\x06", b"\x05\x00\x00\x05", b"\x05\x00\x00" + b"\xff\xff\xff\xff\x0f", b"\x05\x00\x00\x80\x00",
+              b"\x05\x00\x00\x02\x01\x80\x00", *(write_number(2000) + b"\x00\x00" + write_number(count) for count in (1024, 1025, 2001))]
     found += [DECK_A[:length] for length in range(len(DECK_A))]
     return found
 
@@ -318,10 +380,16 @@ def deck_files(seed, count):
 
 def random_foreign_graph(rng, design):
     """A well-formed graph that need not come from a list: a few copies of each node, for each
-    end copy and design edge at most one start copy, then only what lies on a complete path."""
+    end copy and design edge at most one start copy, then only what lies on a complete path. Paths end at each sink copy, and at
+    one copy or none of a marked node, which then need not have an edge out."""
     has_edge_out = set(design.starts)
     copies = [(node, which) for node in range(design.nodes)
               for which in range(rng.randint(0, 3) if node in has_edge_out else rng.randint(0, 1))]
+    ending = {copy for copy in copies if copy[0] not in has_edge_out}
+    for node in sorted(set(design.marked) & has_edge_out):
+        of_node = [copy for copy in copies if copy[0] == node]
+        if of_node and rng.random() < 0.8:
+            ending.add(rng.choice(of_node))
     edges = []
     for end in copies:
         for design_edge, node in enumerate(design.ends):
@@ -331,27 +399,33 @@ def random_foreign_graph(rng, design):
     while True:
         kept = [copy for copy in copies
                 if (copy[0] not in set(design.ends) or any(edge[1] == copy for edge in edges))
-                and (copy[0] not in has_edge_out or any(edge[0] == copy for edge in edges))]
+                and (copy in ending or any(edge[0] == copy for edge in edges))]
         edges = [edge for edge in edges if edge[0] in kept and edge[1] in kept]
         if len(kept) == len(copies):
             break
         copies = kept
     edges = sorted((copies.index(start), copies.index(end), design_edge) for start, end, design_edge in edges)
     edges.sort(key=lambda edge: (edge[1], edge[2]))
-    return Graph([node for node, _ in copies], *([edge[part] for edge in edges] for part in range(3)))
+    return Graph([node for node, _ in copies], [1 if copy in ending else 0 for copy in copies],
+                 *([edge[part] for edge in edges] for part in range(3)))
 
 
 def damage_graph(rng, graph):
     """Change one number of a graph, drop or repeat an edge or copy, or swap two edges."""
-    copy_nodes, starts, ends, design_edges = (list(part) for part in graph)
+    copy_nodes, endpoints, starts, ends, design_edges = (list(part) for part in graph)
     edges = list(zip(starts, ends, design_edges))
-    kind = rng.choice("node copy drop swap repeat start end edge".split())
-    if kind in ("node", "copy") and copy_nodes:
+    kind = rng.choice("node copy endpoint endpoint ends drop swap repeat start end edge".split())
+    if kind in ("node", "copy", "endpoint", "ends") and copy_nodes:
         at = rng.randrange(len(copy_nodes))
         if kind == "node":
             copy_nodes[at] = rng.choice([0, copy_nodes[at] + 1, 4096, 2 ** 32 - 1])
+        elif kind == "endpoint":
+            endpoints[at] = rng.choice([1 - min(endpoints[at], 1)] * 4 + [2, 2 ** 32 - 1])
+        elif kind == "ends":                                      # at all copies of a node, or at none
+            endpoints = [1 - min(endpoints[at], 1) if node == copy_nodes[at] else number for node, number in zip(copy_nodes, endpoints)]
         else:
             copy_nodes.insert(at, copy_nodes[at])
+            endpoints.insert(at, rng.choice([0, 1, endpoints[at]]))
     elif edges:
         at = rng.randrange(len(edges))
         if kind == "drop":
@@ -366,7 +440,7 @@ def damage_graph(rng, graph):
             part = {"start": 0, "end": 1}.get(kind, 2)
             edge[part] = rng.choice([0, edge[part] + 1, max(0, edge[part] - 1), len(copy_nodes), 2 ** 32 - 1])
             edges[at] = tuple(edge)
-    return Graph(copy_nodes, *([edge[part] for edge in edges] for part in range(3)))
+    return Graph(copy_nodes, endpoints, *([edge[part] for edge in edges] for part in range(3)))
 
 
 def random_call(rng, design):
@@ -379,7 +453,7 @@ def random_call(rng, design):
     copies = rng.choice([16384] * 4 + [20000, rng.randint(0, 15)])
     edges = rng.choice([65536] * 4 + [70000, rng.randint(0, 20)])
     scratch = rng.choice([100_000] * 4 + [WORDS_PER_UNIT * rng.randint(0, 40), WORDS_PER_UNIT * rng.randint(10, 40) - 1])
-    room = Room(copies, edges, edges, edges + (1 if rng.random() < 0.03 else 0))
+    room = Room(copies, copies + (1 if rng.random() < 0.03 else 0), edges, edges, edges + (1 if rng.random() < 0.03 else 0))
     return Call(path_list, room, scratch)
 
 

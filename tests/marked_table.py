@@ -11,21 +11,21 @@ import pathlib
 import sys
 
 import walker as w
-from decks import HOLD_EDGES, design_of
+from decks import A_BACK_EDGES, A_EDGES, HOLD_EDGES, design_of, pack, room_of
 
 FILE = pathlib.Path(__file__).resolve().parent.parent / "crates" / "timing" / "proofs" / "Marked.antt"
 WIDTH = 120
 
 
-def design(nodes, *edges):
-    return design_of(nodes, edges)
+def design(nodes, *edges, marked=()):
+    return design_of(nodes, edges, marked)
 
 
 def listed(*paths):
     return w.PathList([len(p) for p in paths], [k for p in paths for k in p])
 
 
-A = design(5, (0, 2, 3), (1, 2, 5), (2, 3, 2), (2, 4, 1))
+A = design(5, *A_EDGES)
 NO_NODES = design(0)
 ONE_NODE = design(1)
 CHAIN = design(3, (0, 1, 1), (1, 2, 1))
@@ -47,10 +47,16 @@ LIST_A = listed((1, 2))
 NONE = listed()
 M8_LIST = listed((0, 2, 3), (1, 2, 3, 4))
 HOLD_LIST = listed((2, 3))
-SPLIT_SOURCE = w.Graph([0, 0, 1, 1, 2, 3], [0, 1, 2, 3], [2, 3, 4, 5], [0, 0, 1, 2])
-OUT_OF_ORDER = w.Graph([0, 0, 1, 1, 2, 3], [1, 0, 2, 3], [3, 2, 4, 5], [0, 0, 1, 2])
-AMPLE = w.Room(512, 2048, 2048, 2048)
+SPLIT_SOURCE = w.Graph([0, 0, 1, 1, 2, 3], [0, 0, 0, 0, 1, 1], [0, 1, 2, 3], [2, 3, 4, 5], [0, 0, 1, 2])
+OUT_OF_ORDER = w.Graph([0, 0, 1, 1, 2, 3], [0, 0, 0, 0, 1, 1], [1, 0, 2, 3], [3, 2, 4, 5], [0, 0, 1, 2])
+AMPLE = w.PROGRAM_ROOM
 GRAPH_A = w.run_series(A, [w.Call(LIST_A, AMPLE, 16384)])[1]
+OBSERVED = design(5, *A_EDGES, marked=[2])
+OBSERVED_BACK = design(5, *A_BACK_EDGES, marked=[2])
+OBSERVED_GRAPH = w.run_series(OBSERVED, [w.Call(LIST_A, AMPLE, 16384)])[1]
+OBSERVED_ALONE = w.run_series(OBSERVED, [w.Call(listed((2,), (3,)), AMPLE, 16384)])[1]
+OBSERVED_SOURCE = CHAIN._replace(marked=[0])
+MANY_EMPTY = w.PathList([0] * 1025, [])
 
 # What has a name in the table: the name, what it is, and the comment there.
 NAMES = [
@@ -81,7 +87,26 @@ NAMES = [
     ("earlyAboveAndFar", EARLY_ABOVE_AND_FAR, None),
     ("earlyAboveAndFalling", EARLY_ABOVE_AND_FALLING, None),
     ("ample", AMPLE, "the deck program's room"),
+    ("observed", OBSERVED, "deck A with node 2 marked, and its true graph; with edge 3's delays -1; and without the edges out of node 2"),
+    ("observedGraph", OBSERVED_GRAPH, None),
+    ("observedBack", OBSERVED_BACK, None),
+    ("observedAlone", OBSERVED_ALONE, None),
+    ("observedSource", OBSERVED_SOURCE, "chain with its source marked"),
 ]
+
+
+def observed_but(**changed):
+    """The true graph of deck A with node 2 marked, with some of its parts changed; the same nodes and edges as without the marked node."""
+    return OBSERVED_GRAPH._replace(**changed)
+
+
+def refused_with(design, marked):
+    return ("removal", design._replace(marked=marked), NONE, AMPLE, 999)
+
+
+def again(graph):
+    return ("again", OBSERVED, graph, NONE, AMPLE, 999)
+
 
 # One row: its comment, and the facts of it. "graph": the graph after removing each list in turn, in ample room;
 # "times" and "nodes": the times of its copies and the records of the nodes.
@@ -116,8 +141,8 @@ ROWS = [
     ("Scratch: 8 words for a node, and one word less; none for no nodes",
      [("removal", ONE_NODE, NONE, AMPLE, 8), ("removal", ONE_NODE, NONE, AMPLE, 7), ("removal", NO_NODES, NONE, AMPLE, 0)]),
     ("Room: 5 copies on A; 4 edges on A; rooms that differ in length come before a bad edge",
-     [("removal", A, LIST_A, w.Room(5, 9, 9, 9), 96), ("removal", A, LIST_A, w.Room(6, 4, 4, 4), 96),
-      ("removal", FALLING, NONE, w.Room(6, 4, 3, 4), 96)]),
+     [("removal", A, LIST_A, room_of(5, 9), 96), ("removal", A, LIST_A, room_of(6, 4), 96),
+      ("removal", FALLING, NONE, w.Room(6, 6, 4, 3, 4), 96)]),
     ("One number over everything before the next: 12 at edge 1 before 13 at edge 0; 23 at path 1 before 24 at path 0",
      [("removal", FALLING_AND_UNKNOWN, NONE, AMPLE, 96),
       ("removal", A, listed((2, 1), (9,)), AMPLE, 999), ("removal", A, listed((0, 2), (2, 1)), AMPLE, 999)]),
@@ -140,7 +165,8 @@ ROWS = [
     ("30: early delays of another length, and late ones; the edge falls, too",
      [("removal", FALLING._replace(early=[]), NONE, AMPLE, 96), ("removal", FALLING._replace(late=[]), NONE, AMPLE, 96)]),
     ("30: slices of the deck reader, of times and of records that have one place less or more, the last of each and another",
-     [("reader", A, LIST_A, 10, (4, 4, 4, 4, 2, 1)), ("reader", A, LIST_A, 10, (4, 4, 4, 5, 2, 1)), ("reader", A, LIST_A, 10, (4, 4, 3, 4, 2, 1)),
+     [("reader", A, LIST_A, 10, (4, 4, 4, 4, 2, 1, 0)), ("reader", A, LIST_A, 10, (4, 4, 4, 5, 2, 1, 0)),
+      ("reader", A, LIST_A, 10, (4, 4, 3, 4, 2, 1, 0)),
       ("times tests", A, GRAPH_A, 10, (6, 6, 6, 6)), ("times tests", A, GRAPH_A, 10, (6, 6, 6, 5)), ("times tests", A, GRAPH_A, 10, (6, 7, 6, 6)),
       ("records tests", 5, GRAPH_A, (6, 6, 6, 6), (5, 5, 5, 5, 5)), ("records tests", 5, GRAPH_A, (6, 6, 6, 5), (5, 5, 5, 5, 5)),
       ("records tests", 5, GRAPH_A, (6, 6, 6, 6), (5, 5, 5, 5, 6)), ("records tests", 5, GRAPH_A, (6, 6, 6, 6), (4, 5, 5, 5, 5))]),
@@ -154,6 +180,48 @@ ROWS = [
      [("again", FORKED, SPLIT_SOURCE, listed((0, 1)), AMPLE, 999)]),
     ("An earlier graph that is not well formed: two edges out of order",
      [("again", FORKED, OUT_OF_ORDER, listed((0, 1)), AMPLE, 999)]),
+    # 02, request 6
+    ("Deck A with node 2 marked: paths end at copy 2 too, and nothing else changes; shuts out marked nodes ignored, or never passed, and 1 at copy 3",
+     [("graph", OBSERVED, [LIST_A]), ("deck", OBSERVED, LIST_A, 10), ("c room", OBSERVED, LIST_A, 10, 64)]),
+    ("Required at copy 2 is 9, from further on, and not T alone; with edge 3's delays -1 it is 10, by T, where further on alone gives 11",
+     [("times", OBSERVED, 10, [LIST_A]), ("times", OBSERVED_BACK, 10, [LIST_A]), ("nodes", OBSERVED_BACK, 10, [LIST_A])]),
+    ("A marked source: the path without edges is there beside the one that goes on, and when that is false",
+     [("graph", OBSERVED_SOURCE, [NONE]), ("graph", OBSERVED_SOURCE, [listed((0, 1))]), ("times", OBSERVED_SOURCE, 10, [listed((0, 1))])]),
+    ("An isolated node marked; a sink marked; all nodes marked",
+     [("graph", ISOLATED._replace(marked=[1]), [listed((0,))]), ("graph", A._replace(marked=[3]), [LIST_A]),
+      ("graph", A._replace(marked=[0, 1, 2, 3, 4]), [LIST_A])]),
+    ("A listed path that ends at a marked node; that starts at one; two that pass one, so that its first copy has 1 and no edge out of it",
+     [("graph", OBSERVED, [listed((0,))]), ("graph", OBSERVED, [listed((2,))]), ("graph", OBSERVED, [listed((0, 2), (0, 3))])]),
+    ("All paths but those that end at a marked node removed: its copy stays, with 1 and no edge out, and is well formed; then removed by parts",
+     [("graph", OBSERVED, [listed((2,), (3,))]), again(OBSERVED_ALONE), ("graph", OBSERVED, [listed((2,), (3,)), listed((0,))]),
+      ("times", OBSERVED, 10, [listed((2,), (3,))])]),
+    ("16: not below n, at index 0 and at 1; not rising; equal; the first of two",
+     [refused_with(A, [5]), refused_with(A, [1, 5]), refused_with(A, [3, 2]), refused_with(A, [2, 2]), refused_with(A, [0, 3, 3, 9])]),
+    ("16 after 15; before 20 and before 24",
+     [refused_with(EARLY_ABOVE, [2]), ("removal", A._replace(marked=[2, 2]), MANY_EMPTY, AMPLE, 999),
+      ("removal", A._replace(marked=[2, 2]), listed((2, 1)), AMPLE, 999)]),
+    ("16 of the deck's reader: more marked nodes than n, with place n, before 36; 36 at one more than the table has; which nodes is not judged",
+     [("bytes", pack([5, 0, 0, 6]), (0, 0, 0, 0, 0, 0, 9)), ("bytes", pack([5, 0, 0, 6]), (0, 0, 0, 0, 0, 0, 2)),
+      ("bytes", pack([5, 0, 0, 3]), (0, 0, 0, 0, 0, 0, 2)), ("bytes", pack([5, 0, 0, 2, 9, 9, 10]), (0, 0, 0, 0, 0, 0, 2)),
+      ("program", pack([2000, 0, 0, 1025])), ("program", pack([2000, 0, 0, 2001])), ("program", pack([5, 0, 0, 2, 9, 9, 10]))]),
+    ("16 of the deck's writer: more marked nodes than n, with place n, after 20; which nodes is not judged; in the deck they stand before T",
+     [("deck tests", design(2, marked=[0, 1, 1]), NONE, 10), ("deck tests", design(0, marked=[0]), MANY_EMPTY, 10),
+      ("deck tests", design(2, marked=[9, 9]), NONE, 10), ("packed deck", OBSERVED, LIST_A, 10)]),
+    ("32: copy 3 has 2; copy 0, of no sink and no marked node, has 1; copies 2 and 3, both of node 2, have 1; sink copy 4 has 0",
+     [again(observed_but(endpoints=[0, 0, 1, 2, 1, 1])), again(observed_but(endpoints=[1, 0, 1, 0, 1, 1])),
+      again(observed_but(endpoints=[0, 0, 1, 1, 1, 1])), again(observed_but(endpoints=[0, 0, 1, 0, 0, 1]))]),
+    ("32: copy 3 has no edge in; copy 3 has 0 and no edge out; and well formed where paths end at copy 3 and not at copy 2",
+     [again(observed_but(starts=[0, 1, 3, 2], ends=[2, 2, 4, 5], design_edges=[0, 1, 2, 3])),
+      again(w.Graph([0, 1, 2, 2, 4], [0, 0, 1, 0, 1], [0, 1, 0, 2], [2, 2, 3, 4], [0, 1, 0, 3])),
+      again(observed_but(endpoints=[0, 0, 0, 1, 1, 1]))]),
+    ("32 of the graph's reader: an endpoint number above 1, as soon as it is met; node first; then 32 of the writer, after 30",
+     [("graph bytes", pack([1, 0, 2, 0]), room_of(1, 0)), ("graph bytes", pack([1, 0, 2]) + b"\x80\x00", room_of(1, 0)),
+      ("graph bytes", pack([2, 7, 1, 9, 0, 0]), room_of(2, 0)), ("graph tests", w.Graph([7, 9], [1, 2], [], [], [])),
+      ("graph tests", w.Graph([7, 9], [1, 1], [], [], [])), ("graph tests", w.Graph([7, 9], [1, 2], [5], [], []))]),
+    ("30: as many endpoint numbers as nodes, in the room, in the earlier graph, in times, in the graph's reader and in its writer",
+     [("removal", OBSERVED, LIST_A, w.Room(6, 7, 5, 5, 5), 999), again(observed_but(endpoints=[0, 0, 1, 0, 1])),
+      ("times tests", OBSERVED, observed_but(endpoints=[0, 0, 1, 0, 1, 1, 1]), 10, (6, 6, 6, 6)),
+      ("graph bytes", pack([1, 0, 2, 0]), w.Room(1, 2, 0, 0, 0)), ("graph tests", w.Graph([7, 9], [2], [], [], []))]),
 ]
 
 
@@ -180,14 +248,19 @@ def integer(z):
 
 def written_out(x):
     """What the walker's x is in the table, where it has no name."""
+    if isinstance(x, w.Design) and x.marked and x._replace(marked=A.marked) == A:
+        return applied("marking", numbers(x.marked))
+    if isinstance(x, w.Graph) and x.endpoints != GRAPH_A.endpoints and x._replace(endpoints=GRAPH_A.endpoints) == GRAPH_A:
+        return applied("ending", numbers(x.endpoints))
     if isinstance(x, w.Design):
         delays = (items(map(integer, part)) for part in (x.early, x.late))
-        return applied("design", str(x.nodes), numbers(x.starts), numbers(x.ends), *delays)
+        return applied("design", str(x.nodes), numbers(x.starts), numbers(x.ends), *delays, numbers(x.marked))
     if isinstance(x, w.PathList):
-        return applied("pathList", numbers(x.flat), numbers(x.lengths))
+        many_empty = len(x.lengths) > 100 and not any(x.lengths)
+        return applied("pathList", numbers(x.flat), "zeros %d" % len(x.lengths) if many_empty else numbers(x.lengths))
     if isinstance(x, w.Graph):
         edges = items("edge %d %d %d" % e for e in zip(x.starts, x.ends, x.design_edges))
-        return applied("graph", numbers(x.copy_nodes), edges)
+        return applied("graph", numbers(x.copy_nodes), numbers(x.endpoints), edges)
     if isinstance(x, w.Room):
         return applied("room", *map(str, x))
     if isinstance(x, bytes):
@@ -256,8 +329,8 @@ def fact(kind, *given):
             columns = [[x[i] for x in rows] for i in range(4)]
             rows = [w.node_record(d.nodes, held.copy_nodes, *columns, v) for v in range(d.nodes + 1)]
         return kind + "Are", named(d), str(t), items(map(named, lists)), items(map(named, rows))
-    if kind == "deck":
-        data = deck_bytes(*given)
+    if kind in ("deck", "program"):
+        data = deck_bytes(*given) if kind == "deck" else given[0]
         return "programIs", named(data), outcome_text(lambda: w.deck_and_graph(data)[1])
     if kind in ("c", "c room"):
         data, room = deck_bytes(*given[:3]), given[3]
@@ -277,9 +350,21 @@ def fact(kind, *given):
         d, g, l, room, words = given
         outcome = outcome_text(lambda: w.removal(d, l, g, words, room))
         return "againIs", named(d), named(g), removal_text(l, room, words), outcome
-    if kind == "reader":
-        data, lent = deck_bytes(*given[:3]), given[3]
+    if kind in ("reader", "bytes"):
+        data, lent = (deck_bytes(*given[:3]), given[3]) if kind == "reader" else given
         return "readerAnswers", named(data), numbers(lent), verdict_text(lambda: w.read_deck(data, w.Tables(*lent)))
+    if kind == "deck tests":
+        d, l, t = given
+        return "deckWriterAnswers", named(d), named(l), str(t), verdict_text(lambda: w.write_deck(w.Deck(d, l, t), 65536))
+    if kind == "packed deck":
+        d, l, t = given
+        return "packedDeckIs", named(d), named(l), str(t), numbers(deck_bytes(d, l, t))
+    if kind == "graph bytes":
+        data, room = given
+        return "graphReadIs", named(data), named(room), outcome_text(lambda: w.read_graph(data, room))
+    if kind == "graph tests":
+        g = given[0]
+        return "graphWriterAnswers", applied("graphSlices", *map(numbers, g)), verdict_text(lambda: w.write_graph(g, 65536))
     if kind == "times tests":
         d, g, t, lent = given
         return "timesAnswer", named(d), named(g), str(t), numbers(lent), verdict_text(lambda: w.times(d, g, t, lent))
@@ -313,7 +398,8 @@ def row(start, words):
 
 HEADER = """-- The marked cases of document 01, M1 to M10, and rows that shut out wrong definitions which M1 to M10 would let
 -- through: one table and one claim, shown by computing the definitions. Made by tests/marked_table.py: every result
--- is the walker's. "Deck A and the marked cases take early equal to late" (02, request 1).
+-- is the walker's. "Deck A and the marked cases take early equal to late" (02, request 1). *Marked* cases are document 01's word; marked nodes
+-- are those of 02, request 6.
 use Prim.Native.Nat.{ℕ, suc}
 use mathlib.Core.Path.{_≡_, refl}
 use mathlib.Core.List.{List, [], _∷_, map, flatMap}
@@ -329,17 +415,18 @@ use Rattle.timing.specs.Lists.{upto}
 use Rattle.timing.specs.Graphs.{Design, design, edge, Graph, graph, designGraph, edgesIn, edgesOut}
 use Rattle.timing.specs.Graphs.{runsTo, runsFrom, completeRuns}
 use Rattle.timing.specs.Marks.{PathList, pathList, pathsOf, permitted, tails, mark}
-use Rattle.timing.specs.TrueGraphs.{permittedRuns, copies, joins, trueGraph}
+use Rattle.timing.specs.TrueGraphs.{permittedRuns, copies, pathEnds, joins, trueGraph}
 use Rattle.timing.specs.WellFormed.{wellFormed}
 use Rattle.timing.specs.Times.{arrivalAt, requiredAt, slackAt, earliestAt, nodeTimes}
 use Rattle.timing.specs.Numbers.{packedIn, packed, groupsIn, readNumber, writeAnswer, writtenRoom}
-use Rattle.timing.specs.Decks.{Deck, readDeck}
-use Rattle.timing.specs.GraphBytes.{graphNumbers, packedGraph}
+use Rattle.timing.specs.Decks.{Deck, deckNumbers, packedDeck, readDeck}
+use Rattle.timing.specs.GraphBytes.{graphNumbers, packedGraph, readGraph}
 use Rattle.timing.specs.Refusals.{refusal, refusalWithin}
 use Rattle.timing.specs.Tests.{Room, designTests, listTests, candidates, scratchTest, roomTests}
-use Rattle.timing.specs.Calls.{Outcome, made, refused, Removal, removal, slicesOf, testDeck}
+use Rattle.timing.specs.Calls.{GraphSlices, graphSlices, slicesOf, Outcome, made, refused, Removal, removal, testDeck}
 use Rattle.timing.specs.Calls.{testTimes, arrivalsAfter, requiredsAfter, slacksAfter, earliestsAfter, testRecords, deckRead}
 use Rattle.timing.specs.Calls.{removeFromDesign, removeFromGraph, programRemoval, program, cCall, cRoom}
+use Rattle.timing.specs.Calls.{deckWriteTests, graphWriteTests, graphRead}
 
 -- the graph after some lists are removed in turn
 abbrev pub removed : Graph → List PathList → Graph
@@ -360,12 +447,20 @@ pub data Fact : Type 0 where
   readerAnswers : List ℕ → List ℕ → Verdict → Fact
   timesAnswer : Design → Graph → ℕ → List ℕ → Verdict → Fact
   recordsAnswer : ℕ → Graph → List ℕ → List ℕ → Verdict → Fact
+  packedDeckIs : Design → PathList → ℕ → List ℕ → Fact
+  deckWriterAnswers : Design → PathList → ℕ → Verdict → Fact
+  graphReadIs : List ℕ → Room → Outcome Graph → Fact
+  graphWriterAnswers : GraphSlices → Verdict → Fact
 
 abbrev pub zeros : ℕ → List ℕ
 zeros n = map (λ i. 0) (upto n 0)
 
-abbrev pub room : ℕ → ℕ → ℕ → ℕ → Room
-room nodes from to via = record { nodes = nodes; starts = from; ends = to; names = via }
+abbrev pub room : ℕ → ℕ → ℕ → ℕ → ℕ → Room
+room nodes endpoint from to via =
+    record { nodes = nodes; endpoints = endpoint; starts = from; ends = to; names = via }
+
+abbrev deck : Design → PathList → ℕ → Deck
+deck D L T = record { design = D; list = L; allowed = T }
 
 -- f of the four slices that `times` fills for the copies of R
 abbrev ofTimes : {A : Type 0} → Design → ℕ → Graph → (List ℤ → List ℤ → List ℤ → List ℤ → A) → A
@@ -406,11 +501,15 @@ Holds (cRoomIs s n bs) = cRoom s (zeros n) ≡ bs
 Holds (packedIs x bs) = packed x ≡ bs
 Holds (readIs bs r) = readNumber bs 0 ≡ r
 Holds (readerAnswers s ls v) =
-    verdictIn (deckRead s (lent ls 0) (lent ls 1) (lent ls 2) (lent ls 3) (lent ls 4) (lent ls 5)) ≡ v
+    verdictIn (deckRead s (lent ls 0) (lent ls 1) (lent ls 2) (lent ls 3) (lent ls 4) (lent ls 5) (lent ls 6)) ≡ v
 Holds (timesAnswer D G T ls v) = testTimes D (slicesOf G) T (lent ls 0) (lent ls 1) (lent ls 2) (lent ls 3) ≡ v
 Holds (recordsAnswer n G ls ps v) =
     testRecords n (G .nodes) (slice ls 0) (slice ls 1) (slice ls 2) (slice ls 3)
     (lent ps 0) (lent ps 1) (lent ps 2) (lent ps 3) (lent ps 4) ≡ v
+Holds (packedDeckIs D L T bs) = packedDeck (deck D L T) ≡ bs
+Holds (deckWriterAnswers D L T v) = deckWriteTests (deck D L T) ≡ v
+Holds (graphReadIs s R o) = graphRead s R ≡ o
+Holds (graphWriterAnswers S v) = graphWriteTests S ≡ v
 
 infixr 4 _also_
 pub data All : List Fact → Type 0 where
@@ -423,10 +522,11 @@ pub data All : List Fact → Type 0 where
 # What marked-hold computes through.
 UNFOLDING = [
     "flatMap designGraph edgesIn edgesOut runsTo runsFrom completeRuns permitted tails mark permittedRuns copies",
-    "joins trueGraph wellFormed arrivalAt requiredAt slackAt earliestAt nodeTimes arrivalsAfter requiredsAfter",
+    "pathEnds joins trueGraph wellFormed arrivalAt requiredAt slackAt earliestAt nodeTimes arrivalsAfter requiredsAfter",
     "slacksAfter earliestsAfter packedIn groupsIn readNumber writeAnswer writtenRoom readDeck graphNumbers packedGraph",
     "designTests listTests candidates scratchTest roomTests testDeck removeFromDesign removeFromGraph programRemoval",
-    "program cCall cRoom deckRead testTimes testRecords",
+    "program cCall cRoom deckRead testTimes testRecords deckNumbers packedDeck deckWriteTests readGraph graphRead",
+    "graphWriteTests",
 ]
 
 TYPES = {w.Design: "Design", w.PathList: "PathList", w.Graph: "Graph", w.Room: "Room", bytes: "List ℕ"}
@@ -441,10 +541,23 @@ def definition(name, x, comment):
     return lines + [name + " ="] + lines_of(written_out(x), " " * 4, ") ") + [""]
 
 
+# Behind deck A in the table.
+MARKING = """\
+-- Deck A with some nodes marked, and its true graph with other endpoint numbers.
+abbrev pub marking : List ℕ → Design
+marking marked = design (deckA .nodes) (deckA .starts) (deckA .ends) (deckA .early) (deckA .late) marked
+
+abbrev pub ending : List ℕ → Graph
+ending endpoints = graph (graphA .nodes) endpoints (graphA .edges)
+"""
+
+
 def table():
     lines, count = [], 0
     for name in NAMES:
         lines += definition(*name)
+        if name[0] == "bytesA":
+            lines += MARKING.splitlines() + [""]
     lines += ["abbrev pub marked : List Fact", "marked ="]
     for comment, facts in ROWS:
         lines.append("    -- " + comment)

@@ -9,37 +9,37 @@ Every expected answer is that of tests/walker.py, the separate program, which wa
 Input: up to two blocks of 65,536 bytes (the last may be shorter). A block is packed numbers: the count of its series, the series, and
 zeros. A series is one design and some removals, in order:
 
-    n; four slices: starts, ends, early and late delays (as packed numbers); the count of removals; the removals
+    n; five slices: starts, ends, early and late delays (as packed numbers), marked nodes; the count of removals; the removals
 
 A removal is
 
-    where: 0 drop the graph held, 1 keep it, 2 hold the graph that follows (four slices: nodes, from, to, via)
+    where: 0 drop the graph held, 1 keep it, 2 hold the graph that follows (five slices: nodes, endpoint, from, to, via)
     two slices: listed edges, lengths
-    the lengths of the room's four slices, and of the scratch
+    the lengths of the room's five slices, and of the scratch
 
 and works on the design while no graph is held, and on the graph held after that (document 01, "A series"). It starts with none.
 One that is not refused puts its result in place of the graph held. A slice is how many numbers follow, how often the last is
 then repeated, and the numbers; so slices need not belong together.
 
-Before each removal, place k of the room's slice j (nodes 0, from 1, to 2, via 3) and of the scratch (4) is set to
+Before each removal, place k of the room's slice j (nodes 0, endpoint 1, from 2, to 3, via 4) and of the scratch (5) is set to
 3,000,000,000 + 100,000,000 j + k mod 65,536. Output for each removal: a line `copies C edges E`, or the refusal as the deck
-program prints it, and a line for each of the four slices and the scratch with its name and a sum over all of it, as lent: from
-1, for each word w, h becomes (1,000,003 h + w) mod 4,294,967,291. Where C + E is at most 40, the lines of the four slices go on
+program prints it, and a line for each of the five slices and the scratch with its name and a sum over all of it, as lent: from
+1, for each word w, h becomes (1,000,003 h + w) mod 4,294,967,291. Where C + E is at most 40, the lines of the five slices go on
 with the words of the result.
 """
 import random
 
 import expected
 import walker
-from decks import (A_EDGES, M8_EDGES, MARKED, braid, chain, damage_graph, deck_of, design_of, path_list_of,
-                   random_design, random_foreign_graph, random_paths)
+from decks import (A_BACK_EDGES, A_EDGES, M8_EDGES, MARKED, braid, chain, damage_graph, deck_of, design_of, path_list_of,
+                   random_design, random_foreign_graph, random_paths, room_of)
 from walker import Design, Graph, PathList, Room
 
 # The program's tables, and its room and scratch.
-EDGE_TABLE, LISTED_TABLE, PATH_TABLE, COPY_TABLE, COPY_EDGE_TABLE = 16400, 8200, 1040, 16400, 2080
+EDGE_TABLE, MARKED_TABLE, LISTED_TABLE, PATH_TABLE, COPY_TABLE, COPY_EDGE_TABLE = 16400, 4200, 8200, 1040, 16400, 2080
 COPY_ROOM, EDGE_ROOM, SCRATCH = 2080, 2080, 32768
 BLOCKS = 2                  # that it reads
-NUMBERS = (30, 10, 11, 12, 13, 14, 15, 20, 21, 22, 23, 24, 31, 32, 33, 34)
+NUMBERS = (30, 10, 11, 12, 13, 14, 15, 16, 20, 21, 22, 23, 24, 31, 32, 33, 34)
 DESIGN, HELD, GIVEN = range(3)
 TOP = 4294967295
 PRINTED = 40
@@ -79,16 +79,16 @@ class Series:
     def add(self, where, path_list, room, scratch, given=None):
         """One removal; returns the refusal, or None."""
         assert len(path_list.flat) <= LISTED_TABLE and len(path_list.lengths) <= PATH_TABLE
-        assert room[0] <= COPY_ROOM and max(room[1:]) <= EDGE_ROOM and scratch <= SCRATCH
+        assert max(room[:2]) <= COPY_ROOM and max(room[2:]) <= EDGE_ROOM and scratch <= SCRATCH
         self.held = self.worked_on(where, given)
         numbers = [where]
         if where == GIVEN:
-            assert len(given.copy_nodes) <= COPY_TABLE and max(walker.graph_slices(given)) <= COPY_EDGE_TABLE
+            assert max(map(len, given[:2])) <= COPY_TABLE and max(map(len, given[2:])) <= COPY_EDGE_TABLE
             for part in given:
                 numbers += packed_slice(list(part))
         numbers += packed_slice(list(path_list.flat)) + packed_slice(list(path_list.lengths)) + [*room, scratch]
         self.removals.append(numbers)
-        refusal, result = None, ((),) * 4
+        refusal, result = None, ((),) * 5
         try:
             result = walker.removal(self.design, path_list, self.held, scratch, room)
             self.held = result
@@ -102,18 +102,18 @@ class Series:
             self.lines.append("copies %d edges %d" % (len(result.copy_nodes), len(result.starts)))
         else:
             self.lines.append(walker.printed_refusal(refusal))
-        small = sum(map(len, result[:2])) <= PRINTED
+        small = len(result[0]) + len(result[2]) <= PRINTED
         after = [walker.lent_after(pattern(which, length), part) for which, (length, part) in enumerate(zip(room, result))]
-        after.append(walker.scratch_after(pattern(4, scratch), refusal))
-        for name, words, part in zip(("nodes", "from", "to", "via", "scratch"), after, (*result, ())):
+        after.append(walker.scratch_after(pattern(5, scratch), refusal))
+        for name, words, part in zip(("nodes", "endpoint", "from", "to", "via", "scratch"), after, (*result, ())):
             self.lines.append("%s %d" % (name, checksum(words)) + "".join(" %d" % word for word in part if small))
         self.refusals.append(refusal)
 
     def packed(self):
-        nodes, starts, ends, *delays = self.design
+        nodes, starts, ends, *delays, marked = self.design
         numbers = [nodes]
-        for part in (starts, ends, *([walker.pack_delay(delay) for delay in part] for part in delays)):
-            assert len(part) <= EDGE_TABLE
+        for part in (starts, ends, *([walker.pack_delay(delay) for delay in part] for part in delays), marked):
+            assert len(part) <= (MARKED_TABLE if part is marked else EDGE_TABLE)
             numbers += packed_slice(list(part))
         numbers.append(len(self.removals))
         return b"".join(map(walker.write_number, numbers + [number for removal in self.removals for number in removal]))
@@ -133,15 +133,14 @@ def result_sizes(design, path_list, graph):
 
 def exact(design, path_list, graph):
     """Room and scratch, neither with a word to spare."""
-    copies, edges = result_sizes(design, path_list, graph)
-    return Room(copies, edges, edges, edges), words_needed(design, path_list, graph)
+    return room_of(*result_sizes(design, path_list, graph)), words_needed(design, path_list, graph)
 
 
 def thresholds(series, where, path_list, given=None):
     """The same removal with one word too few of each, then with just enough: 31, 33, 34, none."""
     graph = series.worked_on(where, given)
     room, words = exact(series.design, path_list, graph)
-    short_copies, short_edges = room._replace(copies=room.copies - 1), Room(room.copies, *[room.starts - 1] * 3)
+    short_copies, short_edges = room_of(room.copies - 1, room.starts), room_of(room.copies, room.starts - 1)
     if words > 0:
         assert series.add(where, path_list, room, words - 1, given) == (31, 0)
         where = HELD if where == GIVEN else where
@@ -157,7 +156,7 @@ def thresholds(series, where, path_list, given=None):
 def wide(series, where, path_list, given=None):
     """The same removal with some words to spare."""
     room, words = exact(series.design, path_list, series.worked_on(where, given))
-    assert series.add(where, path_list, Room(room.copies + 3, *[room.starts + 2] * 3), min(words + 5, SCRATCH), given) is None
+    assert series.add(where, path_list, room_of(room.copies + 3, room.starts + 2), min(words + 5, SCRATCH), given) is None
 
 
 # ---- Fixed cases ---------------------------------------------------------------------------
@@ -261,26 +260,26 @@ def adversarial():
     design = two_hubs(2, 2, 2)
     series = Series(design)
     wide(series, DESIGN, path_list_of([[0]] * 1000 + [[0, 2]] * 24))
-    series.add(DESIGN, path_list_of([[0]] * 1025), Room(9, 9, 9, 9), 99)
-    series.add(DESIGN, path_list_of([[0, 2, 4]] * 1023), Room(9, 9, 9, 9), SCRATCH)
-    series.add(DESIGN, PathList([8192], [0] * 8192), Room(9, 9, 9, 9), 99)
-    series.add(DESIGN, PathList([8193], [0] * 8193), Room(9, 9, 9, 9), 99)
-    series.add(DESIGN, PathList([1] * 1025, [0] * 8193), Room(9, 9, 9, 9), 99)
+    series.add(DESIGN, path_list_of([[0]] * 1025), room_of(9, 9), 99)
+    series.add(DESIGN, path_list_of([[0, 2, 4]] * 1023), room_of(9, 9), SCRATCH)
+    series.add(DESIGN, PathList([8192], [0] * 8192), room_of(9, 9), 99)
+    series.add(DESIGN, PathList([8193], [0] * 8193), room_of(9, 9), 99)
+    series.add(DESIGN, PathList([1] * 1025, [0] * 8193), room_of(9, 9), 99)
     yield series
 
 
 def widest_rooms():
     """All of the program's room. Rooms above 16,384 and 65,536 are run by tests/against_walker.py: such slices make a slow proof."""
     series = Series(MARKED["M6"].design)
-    assert series.add(DESIGN, MARKED["M6"].path_list, Room(COPY_ROOM, *[EDGE_ROOM] * 3), SCRATCH) is None
-    assert series.add(HELD, MARKED["M6"].path_list, Room(COPY_ROOM, *[EDGE_ROOM] * 3), 1024) is None
+    assert series.add(DESIGN, MARKED["M6"].path_list, room_of(COPY_ROOM, EDGE_ROOM), SCRATCH) is None
+    assert series.add(HELD, MARKED["M6"].path_list, room_of(COPY_ROOM, EDGE_ROOM), 1024) is None
     yield series
 
 
 def unfit_designs():
     good = deck_of(5, A_EDGES, [], 0).design
     paths = path_list_of([[1, 2]])
-    room = Room(6, 5, 5, 5)
+    room = room_of(6, 5)
     designs = [good._replace(nodes=nodes) for nodes in (0, 2, 4, 4096, 4097, TOP)]
     for place in range(4):
         for edge in ((0, 5, 0), (5, 6, 0), (TOP, 0, 0), (2, 2, 0), (3, 1, 0), (0, 1, 0, 1_000_001), (0, 4, -1_000_001, 0), (0, 4, 1, 0),
@@ -288,14 +287,17 @@ def unfit_designs():
             designs.append(design_of(5, A_EDGES[:place] + [edge] + A_EDGES[place + 1:]))
     for above in ([(0, 1, 0), (0, 1, 1, 0)], [(0, 1, 1, 0), (0, 1, 0, 1_000_001)], [(0, 1, 1, 0), (1, 1, 0)], [(0, 1, 2, 1), (0, 1, 2, 1)]):
         designs.append(design_of(5, above + A_EDGES[2:]))                   # 15; 14, 13 and 15 meet it at a later edge
-    designs += [good._replace(**{name: list(getattr(good, name))[:-1]}) for name in Design._fields[1:]]
-    designs += [good._replace(**{name: list(getattr(good, name)) + [0]}) for name in Design._fields[1:]]
+    designs += [good._replace(**{name: list(getattr(good, name))[:-1]}) for name in Design._fields[1:5]]
+    designs += [good._replace(**{name: list(getattr(good, name)) + [0]}) for name in Design._fields[1:5]]
+    designs += [good._replace(marked=marked) for marked in ([5], [0, 5], [2, 2], [3, 2], [0, 1, 1, 9], [4, TOP, 4], [0, 1, 2, 3, 4, 4], [7] * 4200)]
+    designs += [design_of(5, [(0, 1, 1, 0)], [5]), design_of(5, [(0, 1, 1_000_001)], [2, 2]), design_of(5, [(0, 5, 0)], [2, 2])]     # before 16
+    designs += [design_of(4096, [], [4095]), design_of(4096, [], [0, 4096])]
     designs += [design_of(5, [(0, 1, 7)] * count) for count in (16383, 16384, 16385)]
     designs += [design_of(4097, [(0, 1, 7)] * 16385), design_of(2, []), design_of(4096, [])]
     given = walker.true_graph(good, paths)
     for design in designs:
         series = Series(design)
-        for where, path_list, lent, scratch in ((DESIGN, paths, room, 1024), (HELD, paths, Room(6, 5, 4, 5), 1024),
+        for where, path_list, lent, scratch in ((DESIGN, paths, room, 1024), (HELD, paths, Room(6, 6, 5, 4, 5), 1024),
                                                 (HELD, path_list_of([[], [9]]), room, 3), (GIVEN, paths, room, 1024),
                                                 (HELD, path_list_of([]), room, 2)):
             series.add(where, path_list, lent, scratch, given if where == GIVEN else None)
@@ -304,7 +306,7 @@ def unfit_designs():
 
 def unfit_lists_and_graphs():
     good = deck_of(5, A_EDGES, [], 0).design
-    room = Room(6, 5, 5, 5)
+    room = room_of(6, 5)
     lists = [path_list_of(paths) for paths in ([[2, 1]], [[1, 2], [2, 1]], [[1, 2, 2]], [[4]], [[0], [1, TOP]], [[]], [[1, 2], []],
                                                [[2, 1], [4], []], [[2, 1], [4]], [[0, 3], [3, 0], [4]])]
     lists += [PathList(lengths, [1, 2]) for lengths in ([], [1], [3], [1, 2], [TOP, 3], [2 ** 31, 2 ** 31, 2], [0, 2], [2, 0], [1, 1])]
@@ -317,18 +319,72 @@ def unfit_lists_and_graphs():
         series.add(DESIGN, path_list, room, 1024)
         series.add(DESIGN, path_list_of([[1, 2]]), room, 1024)
         series.add(HELD, path_list, room, 0)
-        series.add(HELD, path_list, Room(6, 5, 5, 6), 0)
+        series.add(HELD, path_list, Room(6, 6, 5, 5, 6), 0)
         series.add(GIVEN, path_list, room, 0, bad_graph)
         series.add(HELD, path_list_of([[1, 2]]), room, 0)                    # 32 comes before 31
-        series.add(HELD, path_list_of([[1, 2]]), Room(6, 5, 6, 5), 0)
+        series.add(HELD, path_list_of([[1, 2]]), Room(6, 6, 5, 6, 5), 0)
+        series.add(HELD, path_list_of([[1, 2]]), Room(6, 5, 5, 5, 5), 0)
         yield series
     parts = [list(part) for part in good_graph]
-    unfit = [Graph(parts[0], *(part[:len(part) - (k == cut)] for k, part in enumerate(parts[1:]))) for cut in range(3)]
-    unfit += [Graph([0] * 16385, [], [], []), Graph([5], [], [], []), Graph([], [], [], [])]
+    unfit = [Graph(*(part[:len(part) - (k == cut)] for k, part in enumerate(parts))) for cut in range(5)]
+    unfit += [Graph([0] * 16385, [0] * 16385, [], [], []), Graph([5], [1], [], [], []), Graph([], [], [], [], []), Graph([], [1], [], [], [])]
     series = Series(good)
     for graph in unfit:
         series.add(GIVEN, path_list_of([[1, 2]]), room, 1024, graph)
         series.add(HELD, path_list_of([]), room, 1024)
+    yield series
+    # deck A with node 2 marked: each endpoint number of its graph by itself, and then clause by clause what is not well formed
+    observed = deck_of(5, A_EDGES, [], 0, [2]).design
+    graph = walker.true_graph(observed, path_list_of([[1, 2]]))
+    series = Series(observed)
+    changed = [[number if place == k else old for place, old in enumerate(graph.endpoints)] for k in range(6) for number in (0, 1, 2, TOP)]
+    given = [graph._replace(endpoints=endpoints) for endpoints in changed + [[0, 0, 0, 1, 1, 1], [0, 0, 0, 0, 1, 1], [0, 0, 1, 1, 1, 1]]]
+    given += [graph._replace(starts=[0, 1, 3, 2], ends=[2, 2, 4, 5], design_edges=[0, 1, 2, 3]),             # copy 3 without an edge in
+              Graph([0, 1, 2, 2, 4], [0, 0, 1, 0, 1], [0, 1, 0, 2], [2, 2, 3, 4], [0, 1, 0, 3]),              # and without one out, with 0
+              Graph([0, 1, 2, 2, 4], [0, 0, 0, 1, 1], [0, 1, 0, 2], [2, 2, 3, 4], [0, 1, 0, 3]),              # and with 1
+              Graph([0, 1, 2], [0, 0, 1], [0, 1], [2, 2], [0, 1]), Graph([2], [1], [], [], []), Graph([0, 2], [0, 1], [0], [1], [0])]
+    for graph in given:
+        series.add(GIVEN, path_list_of([[0, 3]]), room_of(9, 9), 1024, graph)
+    yield series
+
+
+MARKED_LISTS = ([[0]], [[2]], [[0, 3]], [[1, 2]], [[2], [3]], [[0], [1]], [[0, 2], [0, 3]], [[0, 2], [0, 3], [1, 2], [1, 3]], [[0], [2], [1, 3]])
+
+
+def with_marked():
+    """Marked nodes of every kind, lists that end at one, start at one and pass one; on the design and on what that leaves."""
+    for edges in (A_EDGES, A_BACK_EDGES):
+        for marked in ([2], [0], [0, 1], [3], [2, 4], range(5)):
+            series = Series(deck_of(5, edges, [], 0, marked).design)
+            for paths in MARKED_LISTS if edges is A_EDGES else MARKED_LISTS[3:5]:
+                thresholds(series, DESIGN, path_list_of(paths))
+                wide(series, HELD, path_list_of([[1, 2], [0]]))
+            yield series
+    for marked in ([3], [4], [2, 4], [1, 3, 5]):
+        series = Series(deck_of(6, M8_EDGES, [], 0, marked).design)
+        for paths in ([[0, 2, 3], [1, 2, 3, 4]], [[0, 2], [1, 2, 3]], [[2, 3]], [[2, 5], [3, 4]]):
+            wide(series, HELD, path_list_of(paths))
+        thresholds(series, DESIGN, path_list_of([[0, 2, 3], [1, 2, 3, 4]]))
+        yield series
+    for marked in ([0], [8], [0, 1, 8], range(9)):                    # isolated nodes and others
+        series = Series(deck_of(9, [(1, 3, 4), (3, 7, 1), (1, 7, -3), (3, 7, 1)], [], 0, marked).design)
+        for paths in ([[0, 1]], [[0, 3]], [[2]], [[0]]):
+            thresholds(series, HELD, path_list_of(paths))
+        yield series
+    # a chain with many marked nodes, cut in the middle and then at both ends; hubs that are marked
+    series = Series(braid(60, (10, 40), []).design._replace(marked=list(range(0, 61, 4))))
+    for paths in ([list(range(20, 45))], [[0, 1], [58, 59]], [list(range(5, 12)), [40, 41]], [[24]]):
+        wide(series, HELD, path_list_of(paths))
+    yield series
+    for into, out_of in ((2, 30), (12, 12)):
+        series = Series(hub(into, out_of, []).design._replace(marked=[1]))
+        wide(series, DESIGN, path_list_of([[0, into + j] for j in range(out_of)]))
+        thresholds(series, HELD, path_list_of([[1, into + j] for j in range(0, out_of, 3)]))
+        wide(series, HELD, path_list_of([[0]]))
+        yield series
+    series = Series(design_of(600, [], range(600)))
+    thresholds(series, DESIGN, path_list_of([]))
+    thresholds(series, HELD, path_list_of([]))
     yield series
 
 
@@ -355,13 +411,13 @@ def random_removal(rng, series, where, given=None):
     paths = random_paths(rng, design, rng.choice((1, 2, 3, 6)))
     path_list = path_list_of(paths)
     graph = series.worked_on(where, given)
-    if graph is not None and (walker.slices_refusal([walker.graph_slices(graph)]) or walker.graph_refusal(design, graph)):
-        series.add(where, path_list, Room(rng.randint(0, 9), *[rng.randint(0, 9)] * 3), rng.randint(0, 999), given)
+    if graph is not None and (walker.slices_refusal(walker.graph_groups(graph)) or walker.graph_refusal(design, graph)):
+        series.add(where, path_list, room_of(rng.randint(0, 9), rng.randint(0, 9)), rng.randint(0, 999), given)
         return
     room, words = exact(design, path_list, graph)
     edges = room.starts
     if rng.random() < 0.5:
-        room, words = Room(room.copies + rng.randint(0, 4), *[edges + rng.randint(0, 4)] * 3), words + rng.randint(0, 20)
+        room, words = room_of(room.copies + rng.randint(0, 4), edges + rng.randint(0, 4)), words + rng.randint(0, 20)
     for _ in range(rng.choice((0, 0, 0, 1, 1, 2))):
         kind = rng.choice(("list", "words", "copies", "copies", "edges", "edges", "edges", "30"))
         if kind == "list":
@@ -369,12 +425,12 @@ def random_removal(rng, series, where, given=None):
         elif kind == "words":
             words = max(0, words - rng.choice((1, 1, walker.WORDS_PER_UNIT, 30)))
         elif kind == "copies":
-            room = room._replace(copies=max(0, room.copies - rng.choice((1, 1, 2, 5))))
+            room = room_of(max(0, room.copies - rng.choice((1, 1, 2, 5))), room.starts)
         elif kind == "edges":
-            room = Room(room.copies, *[max(0, room.starts - rng.choice((1, 1, 2, 5)))] * 3)
+            room = room_of(room.copies, max(0, room.starts - rng.choice((1, 1, 2, 5))))
         else:
             lengths = list(room)
-            lengths[rng.randint(1, 3)] += rng.choice((1, 2))
+            lengths[rng.randint(0, 4)] += rng.choice((1, 2))
             room = Room(*lengths)
     series.add(where, path_list, room, min(words, SCRATCH), given)
 
@@ -391,7 +447,8 @@ def random_cases(rng, count):
                 if rng.random() < 0.35:
                     given = damage_graph(rng, given)
                 if rng.random() < 0.05:
-                    given = given._replace(ends=list(given.ends) + [0])
+                    name = rng.choice(("endpoints", "ends"))
+                    given = given._replace(**{name: list(getattr(given, name)) + [0]})
             elif rng.random() < 0.1:
                 where = DESIGN
             random_removal(rng, series, where, given)
@@ -401,9 +458,9 @@ def random_cases(rng, count):
 # ---- The files ------------------------------------------------------------------------------
 
 def main():
-    all_series = [series for cases in (marked, adversarial, widest_rooms, unfit_designs, unfit_lists_and_graphs)
+    all_series = [series for cases in (marked, with_marked, adversarial, widest_rooms, unfit_designs, unfit_lists_and_graphs)
                   for series in cases()]
-    all_series += random_cases(random.Random(7), 700)
+    all_series += random_cases(random.Random(7), 515)
     refusals = [refusal for series in all_series for refusal in series.refusals]
     assert set(NUMBERS) == {refusal[0] for refusal in refusals if refusal}, set(refusals)
     stdin = expected.in_blocks([series.packed() for series in all_series], BLOCKS)

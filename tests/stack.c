@@ -4,7 +4,8 @@
  *     stack [BYTES]          with BYTES, every call is held to so many instead: a try of the test itself
  *
  * A call is made on a thread whose stack was painted before. Afterwards the lowest byte that has lost the paint says how deep the call went
- * below the frame that made it. Inputs are as large as the limits allow, so that every pass is made; each must be answered as said here.
+ * below the frame that made it. Inputs are as large as the limits allow, and every node is marked, so that every pass is made; each must be
+ * answered as said here.
  * Prints a line for each, and ends with status 1 where a call took more than it may, or answered something else. */
 #define _POSIX_C_SOURCE 200112L
 #include "../bench/inputs.h"
@@ -34,30 +35,32 @@ static int64_t of_deck(void)
 
 static int64_t from_design(void)
 {
-    return jaqhweni_remove_from_design(d.n, d.starts, d.m, d.ends, d.m, d.early, d.m, d.late, d.m, list.edges, list.listed, list.lengths,
-                                       list.paths, room.nodes, ROOM_COPIES, room.from, ROOM_EDGES, room.to, ROOM_EDGES, room.via,
-                                       ROOM_EDGES, scratch, words);
+    return jaqhweni_remove_from_design(d.n, d.starts, d.m, d.ends, d.m, d.early, d.m, d.late, d.m, d.marked, d.marks, list.edges,
+                                       list.listed, list.lengths, list.paths, room.nodes, ROOM_COPIES, room.endpoint, ROOM_COPIES,
+                                       room.from, ROOM_EDGES, room.to, ROOM_EDGES, room.via, ROOM_EDGES, scratch, words);
 }
 
 static int64_t from_graph(void)
 {
-    return jaqhweni_remove_from_graph(d.n, d.starts, d.m, d.ends, d.m, d.early, d.m, d.late, d.m, list.edges, list.listed, list.lengths,
-                                      list.paths, earlier.nodes, earlier.copies, earlier.from, earlier.edges, earlier.to, earlier.edges,
-                                      earlier.via, earlier.edges, room.nodes, ROOM_COPIES, room.from, ROOM_EDGES, room.to, ROOM_EDGES,
+    return jaqhweni_remove_from_graph(d.n, d.starts, d.m, d.ends, d.m, d.early, d.m, d.late, d.m, d.marked, d.marks, list.edges,
+                                      list.listed, list.lengths, list.paths, earlier.nodes, earlier.copies, earlier.endpoint,
+                                      earlier.copies, earlier.from, earlier.edges, earlier.to, earlier.edges, earlier.via, earlier.edges,
+                                      room.nodes, ROOM_COPIES, room.endpoint, ROOM_COPIES, room.from, ROOM_EDGES, room.to, ROOM_EDGES,
                                       room.via, ROOM_EDGES, scratch, words);
 }
 
 static int64_t of_times(void)
 {
-    return jaqhweni_times(d.n, d.starts, d.m, d.ends, d.m, d.early, d.m, d.late, d.m, 1000000, earlier.nodes, earlier.copies, earlier.from,
-                          earlier.edges, earlier.to, earlier.edges, earlier.via, earlier.edges, times[0], earlier.copies, times[1],
-                          earlier.copies, times[2], earlier.copies, times[3], earlier.copies);
+    return jaqhweni_times(d.n, d.starts, d.m, d.ends, d.m, d.early, d.m, d.late, d.m, d.marked, d.marks, 1000000, earlier.nodes,
+                          earlier.copies, earlier.endpoint, earlier.copies, earlier.from, earlier.edges, earlier.to, earlier.edges,
+                          earlier.via, earlier.edges, times[0], earlier.copies, times[1], earlier.copies, times[2], earlier.copies,
+                          times[3], earlier.copies);
 }
 
 static int64_t of_writing(void)
 {
-    return jaqhweni_write_graph(earlier.nodes, earlier.copies, earlier.from, earlier.edges, earlier.to, earlier.edges, earlier.via,
-                                earlier.edges, packed, sizeof packed);
+    return jaqhweni_write_graph(earlier.nodes, earlier.copies, earlier.endpoint, earlier.copies, earlier.from, earlier.edges, earlier.to,
+                                earlier.edges, earlier.via, earlier.edges, packed, sizeof packed);
 }
 
 typedef struct {
@@ -126,10 +129,12 @@ static int64_t measure(const call *c, const char *input, int refused)
 static void decks(void)
 {
     random_design(&d, 180, 800, 12);
+    mark_every(&d, 1);
     random_paths(&list, &d, 60, 5);
     deck_length = pack_deck(deck, &d, &list);
     measure(&TRUE_GRAPH, "800 edges, 60 paths of 5", 0);
     random_design(&d, 1000, 1024, 12);
+    mark_every(&d, 1);
     random_paths(&list, &d, 256, 4);
     deck_length = pack_deck(deck, &d, &list);
     measure(&TRUE_GRAPH, "1,024 edges, 256 paths of 4", 31);
@@ -146,6 +151,7 @@ static void decks(void)
 static void removals(void)
 {
     random_design(&d, JAQHWENI_MAX_NODES, JAQHWENI_MAX_EDGES, 64);
+    mark_every(&d, 1);
     random_paths(&list, &d, 0, 8);
     words = words_needed(&d, &list, NULL);
     int64_t answer = measure(&REMOVE_FROM_DESIGN, "4,096 nodes, 16,384 edges, no path", 0);

@@ -8,7 +8,7 @@ import unittest
 from unittest import mock
 import decks
 import walker as w
-from decks import A_EDGES, DECK_A, HOLD, MARKED, WIDE_ROOM, deck_of, design_of, path_list_of
+from decks import A_BACK_EDGES, A_EDGES, DECK_A, HOLD, MARKED, WIDE_ROOM, deck_of, design_of, path_list_of, room_of
 
 SEED = 20000
 MANY_WORDS = 10 ** 7
@@ -20,8 +20,8 @@ copy 0 node 0 arrival 0 required 5 slack 5 earliest 0
 copy 1 node 1 arrival 0 required 4 slack 4 earliest 0
 copy 2 node 2 arrival 5 required 9 slack 4 earliest 3
 copy 3 node 2 arrival 3 required 8 slack 5 earliest 3
-copy 4 node 3 arrival 5 required 10 slack 5 earliest 5
-copy 5 node 4 arrival 6 required 10 slack 4 earliest 4
+copy 4 node 3 arrival 5 required 10 slack 5 earliest 5 end
+copy 5 node 4 arrival 6 required 10 slack 4 earliest 4 end
 edge 0 2 0
 edge 1 2 1
 edge 0 3 0
@@ -94,8 +94,8 @@ def times_by_edges(design, graph, allowed_time):
         arrival[copy] = max((arrival[s] + design.late[d] for s, e, d in edges if e == copy), default=0)
         earliest[copy] = min((earliest[s] + design.early[d] for s, e, d in edges if e == copy), default=0)
     for copy in reversed(range(len(graph.copy_nodes))):
-        required[copy] = min((required[e] - design.late[d] for s, e, d in edges if s == copy),
-                             default=allowed_time)
+        further = [required[e] - design.late[d] for s, e, d in edges if s == copy]
+        required[copy] = min(further + [allowed_time] * graph.endpoints[copy])
     return [w.Times(arrival[c], required[c], required[c] - arrival[c], earliest[c]) for c in range(len(graph.copy_nodes))]
 
 
@@ -105,10 +105,11 @@ def same_by_trying(first, second):
         return False
     groups = [[copy for copy, of in enumerate(first.copy_nodes) if of == node]
               for node in sorted(set(first.copy_nodes))]
-    wanted = set(zip(*second[1:]))
+    wanted = set(zip(*second[2:]))
     for orders in itertools.product(*(itertools.permutations(group) for group in groups)):
         renumber = [new for order in orders for new in order]
-        if {(renumber[s], renumber[e], d) for s, e, d in zip(*first[1:])} == wanted:
+        if {(renumber[s], renumber[e], d) for s, e, d in zip(*first[2:])} == wanted \
+                and all(second.endpoints[new] == first.endpoints[old] for old, new in enumerate(renumber)):
             return True
     return False
 
@@ -117,8 +118,8 @@ def renumbered(rng, graph):
     """The graph with its copies shuffled within nodes, edges put in order again."""
     order = sorted(range(len(graph.copy_nodes)), key=lambda copy: (graph.copy_nodes[copy], rng.random()))
     new = {old: number for number, old in enumerate(order)}
-    edges = sorted(((new[s], new[e], d) for s, e, d in zip(*graph[1:])), key=lambda edge: (edge[1], edge[2]))
-    return w.Graph(graph.copy_nodes, *([edge[part] for edge in edges] for part in range(3)))
+    edges = sorted(((new[s], new[e], d) for s, e, d in zip(*graph[2:])), key=lambda edge: (edge[1], edge[2]))
+    return w.Graph(graph.copy_nodes, [graph.endpoints[old] for old in order], *([edge[part] for edge in edges] for part in range(3)))
 
 
 class Marked(unittest.TestCase):
@@ -139,7 +140,7 @@ class Marked(unittest.TestCase):
     def test_M2_M3(self):
         self.check("M2", 0, 0)
         self.assertEqual(printed(MARKED["M2"]), "copies 0 edges 0\n")
-        self.assertEqual(w.c_call(bytes([0, 0, 0, 0]), 2), (2, b"\0\0"))
+        self.assertEqual(w.c_call(bytes([0, 0, 0, 0, 0]), 2), (2, b"\0\0"))
         graph = self.check("M3", 1, 0)
         self.assertEqual(w.copy_times(MARKED["M3"].design, graph, 7), [(0, 7, 7, 0)])
 
@@ -178,15 +179,15 @@ class Marked(unittest.TestCase):
         first, second = [1, 0], [1, 2]
         held = removed(design, path_list_of([second]), removed(design, path_list_of([first])))
         whole = w.true_graph(design, path_list_of([first, second]))
-        self.assertEqual(held, ([0, 1, 1, 2], [0, 0, 2, 1], [1, 2, 3, 3], [3, 3, 0, 2]))
-        self.assertEqual(whole, ([0, 1, 1, 2], [0, 0, 1, 2], [1, 2, 3, 3], [3, 3, 0, 2]))
+        self.assertEqual(held, ([0, 1, 1, 2], [0, 0, 0, 1], [0, 0, 2, 1], [1, 2, 3, 3], [3, 3, 0, 2]))
+        self.assertEqual(whole, ([0, 1, 1, 2], [0, 0, 0, 1], [0, 0, 1, 2], [1, 2, 3, 3], [3, 3, 0, 2]))
         self.assertTrue(w.same_within_nodes(design, held, whole))
 
     def test_marks_sort_by_length_first(self):
         """Tails 3 and 1,2 of node 1: the copy of 3 comes first, though 1 is below 3."""
         design = design_of(4, [(0, 1, 0), (1, 2, 0), (2, 3, 0), (1, 3, 0), (0, 1, 0)])
         graph = w.true_graph(design, path_list_of([[0, 1, 2], [0, 3]]))
-        self.assertEqual(graph, ([0, 1, 1, 2, 3], [0, 0, 2, 3, 1], [1, 2, 3, 4, 4], [4, 4, 1, 2, 3]))
+        self.assertEqual(graph, ([0, 1, 1, 2, 3], [0, 0, 0, 0, 1], [0, 0, 2, 3, 1], [1, 2, 3, 4, 4], [4, 4, 1, 2, 3]))
 
 
 class Ranges(unittest.TestCase):
@@ -201,9 +202,10 @@ class Ranges(unittest.TestCase):
         self.assertIsNone(w.allowed_time_refusal(1_000_000_000))
         self.assertEqual(printed(deck_of(5, A_EDGES, [[1, 2]], 1_000_000_001)), "refused 25 at 0\n")
         one_two = path_list_of([[1, 2]])
-        self.assertEqual(refusal(design, one_two, None, MANY_WORDS, w.Room(5, 5, 5, 5)), (33, 0))
-        self.assertEqual(refusal(design, one_two, None, MANY_WORDS, w.Room(6, 4, 4, 4)), (34, 0))
-        self.assertIsNone(refusal(design, one_two, None, MANY_WORDS, w.Room(6, 5, 5, 5)))
+        self.assertEqual(refusal(design, one_two, None, MANY_WORDS, room_of(5, 5)), (33, 0))
+        self.assertEqual(refusal(design, one_two, None, MANY_WORDS, room_of(6, 4)), (34, 0))
+        self.assertIsNone(refusal(design, one_two, None, MANY_WORDS, room_of(6, 5)))
+        self.assertEqual(refusal(design, one_two, None, MANY_WORDS, w.Room(6, 7, 5, 5, 5)), (30, 0))
         with mock.patch.object(w, "MOST_COPIES", 5):              # room counts as at most the limit
             self.assertEqual(refusal(design, one_two), (33, 0))
         with mock.patch.object(w, "MOST_GRAPH_EDGES", 4):
@@ -223,10 +225,12 @@ class Ranges(unittest.TestCase):
         self.assertEqual(refusal(design, path_list_of([[2, 1], [9], []])), (22, 2, 0))
         self.assertEqual(refusal(design, path_list_of([[2, 1], [9]])), (23, 1, 0))
         self.assertEqual(refusal(design, path_list_of([[0, 2], [1], [0, 1], [9]])), (23, 3, 0))
-        bad_graph = w.Graph([9], [], [], [])
+        bad_graph = w.Graph([9], [0], [], [], [])
         self.assertEqual(refusal(design, NO_LIST, bad_graph, 0), (32, 0))                  # 32 before 31
         self.assertEqual(refusal(design, path_list_of([[2, 1]]), bad_graph, 0), (24, 0, 1))
-        self.assertEqual(refusal(design, NO_LIST, w.Graph([9], [1], [], []), 0), (30, 0))
+        self.assertEqual(refusal(design, NO_LIST, w.Graph([9], [0], [1], [], []), 0), (30, 0))
+        self.assertEqual(refusal(design, NO_LIST, w.Graph([9], [], [], [], []), 0), (30, 0))
+        self.assertEqual(w.refusal_of(w.times, design, w.Graph([9], [], [], [], []), 10, [1] * 4), (30, 0))
         # on A with 1,2: 5 nodes + 1 tail, 2 listed edges, 4 edges
         self.assertEqual(refusal(design, path_list_of([[1, 2]]), None, 12 * 8 - 1), (31, 0))
         self.assertIsNone(refusal(design, path_list_of([[1, 2]]), None, 12 * 8))
@@ -260,10 +264,10 @@ class Ranges(unittest.TestCase):
         for part in ("starts", "ends", "early", "late"):
             unequal = design._replace(**{part: getattr(design, part)[:-1]})
             self.assertEqual(refusal(unequal, NO_LIST), (30, 0))
-            self.assertEqual(w.refusal_of(w.times, unequal, w.Graph([], [], [], []), 5, [0] * 4), (30, 0))
+            self.assertEqual(w.refusal_of(w.times, unequal, w.Graph([], [], [], [], []), 5, [0] * 4), (30, 0))
             self.assertEqual(w.refusal_of(w.write_deck, w.Deck(unequal, NO_LIST, 5), 99), (30, 0))
             self.assertEqual(w.refusal_of(w.read_deck, DECK_A, w.PROGRAM_TABLES._replace(**{part: 1023})), (30, 0))
-        self.assertEqual(w.write_deck(deck_of(2, [(0, 1, -1, 2)], [], 10), 99), bytes([2, 1, 0, 1, 1, 4, 0, 10]))
+        self.assertEqual(w.write_deck(deck_of(2, [(0, 1, -1, 2)], [], 10), 99), bytes([2, 1, 0, 1, 1, 4, 0, 0, 10]))
         # the earliest arrival is on neither the latest path nor the shortest by late delays, and below 0
         joined = design_of(5, [(0, 3, 2, 9), (1, 3, 1, 3), (2, 3, -5, 6), (3, 4, 1, 2)])
         self.assertEqual(w.copy_times(joined, w.design_as_graph(joined), 0),
@@ -271,6 +275,41 @@ class Ranges(unittest.TestCase):
         # what decks/hold.txt says
         self.assertEqual([record.earliest for record in records(HOLD, graph_of(HOLD))], [0, 60, 10, 75, 18])
         self.assertEqual([record.earliest for record in records(HOLD, w.design_as_graph(HOLD.design))], [0, 60, 10, 15, 18])
+
+    def test_marked_nodes_that_are_refused(self):
+        """Document 02, request 6: 16, and where it stands among the others."""
+        def of_marked(*marked, nodes=5, edges=A_EDGES):
+            return w.design_refusal(design_of(nodes, edges, marked))
+        for marked, wanted in [
+                ((), None), ((2,), None), ((0, 1, 2, 3, 4), None), ((5,), (16, 0)), ((4, 5), (16, 1)), ((2, 2), (16, 1)), ((2, 1), (16, 1)),
+                ((0, 1, 1, 9), (16, 2)), ((9, 0), (16, 0)), ((0, 1, 2, 3, 4, 4), (16, 5)), ((2 ** 32 - 1,), (16, 0))]:
+            self.assertEqual(of_marked(*marked), wanted)
+        self.assertEqual(of_marked(5, edges=[(0, 1, 1, 0)]), (15, 0))                       # 15 before 16
+        self.assertEqual(of_marked(5, edges=[(0, 1, 0), (0, 9, 0)]), (12, 1))
+        self.assertEqual(of_marked(9, nodes=4097), (10, 0))
+        design = design_of(5, A_EDGES, [2, 2])
+        for path_list in (w.PathList([1] * 1025, [0] * 1025), w.PathList([8193], [0] * 8193), *(path_list_of([path]) for path in ([], [9], [2, 1]))):
+            self.assertEqual(refusal(design, path_list), (16, 1))                           # 16 before 20 to 24
+        self.assertEqual(w.refusal_of(w.times, design, w.Graph([9], [7], [], [], []), 2 ** 31, [1] * 4), (16, 1))   # and before 25 and 32
+        self.assertEqual(printed(deck_of(5, A_EDGES, [[2, 1]], 2 ** 31, [2, 2])), "refused 16 at 1\n")
+        # the deck's writer: after 20 and 21, with place n, before 35; it does not look at the marks themselves
+        self.assertEqual(w.refusal_of(w.write_deck, deck_of(2, [], [], 0, [0, 1, 1]), 0), (16, 2))
+        self.assertEqual(w.refusal_of(w.write_deck, deck_of(0, [], [[0]] * 1025, 0, [0]), 0), (20, 0))
+        self.assertEqual(w.write_deck(deck_of(2, [], [], 7, [9, 9]), 99), bytes([2, 0, 0, 2, 9, 9, 7]))
+        self.assertEqual(w.refusal_of(w.write_deck, deck_of(2, [], [], 7, [9, 9]), 6), (35, 0))
+
+    def test_well_formed_clause_by_clause(self):
+        """Document 02, request 6: deck A with node 2 marked, and its graph with one clause broken at a time."""
+        design = design_of(5, A_EDGES, [2])
+        graph = w.true_graph(design, path_list_of([[1, 2]]))
+        self.assertEqual(graph, ([0, 1, 2, 2, 3, 4], [0, 0, 1, 0, 1, 1], [0, 1, 0, 3, 2], [2, 2, 3, 4, 5], [0, 1, 0, 2, 3]))
+        for endpoints, wanted in [([0, 0, 1, 0, 1, 1], True), ([0, 0, 0, 1, 1, 1], True), ([0, 0, 0, 0, 1, 1], True), ([0, 0, 1, 1, 1, 1], False),
+                                  ([1, 0, 1, 0, 1, 1], False), ([0, 0, 1, 0, 0, 1], False), ([0, 0, 1, 2, 1, 1], False), ([0, 0, 2, 0, 1, 1], False)]:
+            self.assertEqual(w.is_well_formed(design, graph._replace(endpoints=endpoints)), wanted)
+            self.assertFalse(w.is_well_formed(design._replace(marked=[]), graph._replace(endpoints=endpoints)) and 1 in endpoints[:4])
+        for endpoints, wanted in [([0, 0, 1, 0, 1], False), ([0, 0, 0, 1, 1], True)]:          # copy 3 has no edge out
+            self.assertEqual(w.is_well_formed(design, w.Graph([0, 1, 2, 2, 4], endpoints, [0, 1, 0, 2], [2, 2, 3, 4], [0, 1, 0, 3])), wanted)
+        self.assertFalse(w.is_well_formed(design, graph._replace(starts=[0, 1, 3, 2], ends=[2, 2, 4, 5], design_edges=[0, 1, 2, 3])))
 
     def test_which_edge_of_the_path(self):
         """Document 02, request 4."""
@@ -287,18 +326,22 @@ class Ranges(unittest.TestCase):
     def test_deck_reader_and_program(self):
         number = w.write_number
         for data, wanted in [
-                (b"", (1, 0)), (DECK_A + b"\x80", (3, 23)), (number(4097), (10, 0)), (b"\x80" * 5, (2, 0)),
+                (b"", (1, 0)), (DECK_A + b"\x80", (3, 24)), (number(4097), (10, 0)), (b"\x80" * 5, (2, 0)),
                 (b"\x80" * 4, (1, 4)), (b"\x80\x80", (1, 2)), (b"\x05" + number(16385), (11, 0)),
                 (b"\x05" + number(1025), (36, 0)), (b"\x05" + number(1024), (1, 3)),
                 (b"\0\0" + number(257), (36, 0)), (b"\0\0" + number(1025), (20, 0)),
                 (b"\0\0\x01" + number(1025), (36, 0)), (b"\0\0\x01" + number(8193), (21, 0)),
                 (b"\0\0\x02\x01\x00" + number(1024), (36, 0)), (b"\0\0\x02\x01\x00" + number(8192), (21, 0)),
                 (b"\0\0\x02\x01\x80\x00" + number(2 ** 32 - 1), (2, 4)),
-                (b"\0\0\0" + number(2 ** 32 - 1), (25, 0)), (b"\0\0\0" + number(2 ** 32 - 1) + b"\0", (3, 8)),
-                (bytes(65536), (3, 4)), (bytes(65537), (4, 65536))]:
+                (bytes(4) + number(2 ** 32 - 1), (25, 0)), (bytes(4) + number(2 ** 32 - 1) + b"\0", (3, 9)),
+                (bytes(65536), (3, 5)), (bytes(65537), (4, 65536)), (bytes(4), (1, 4)), (bytes(3) + b"\x01", (16, 0)),
+                (b"\x05\0\0\x06", (16, 5)), (b"\x05\0\0\x05", (1, 4)), (b"\x05\0\0" + number(2 ** 32 - 1), (16, 5)),
+                (number(2000) + b"\0\0" + number(1025), (36, 0)), (number(2000) + b"\0\0" + number(2001), (16, 2000)),
+                (number(2000) + b"\0\0" + number(1024), (1, 6)), (b"\x05\0\0\x01\x05\x80\x00", (2, 5)),
+                (b"\x05\0\0\x01\x05\x00", (16, 0)), (b"\x05\0\0\x02\x01\x01\x00\x00", (3, 7))]:
             self.assertEqual(w.deck_program(data), "refused %d at %d\n" % wanted, data[:8])
             self.assertEqual(w.c_call(data, 0), (-(wanted[0] + 256 * wanted[1]), b""))
-        self.assertEqual(w.refusal_of(w.read_deck, b"", w.Tables(1, 1, 1, 2, 0, 0)), (30, 0))
+        self.assertEqual(w.refusal_of(w.read_deck, b"", w.Tables(1, 1, 1, 2, 0, 0, 0)), (30, 0))
         # 16,384 words are 2,048 units
         self.assertEqual([printed(decks.full(extra)).split()[:2] for extra in (0, 1)], [["copies", "73"], ["refused", "31"]])
         self.assertEqual([printed(deck_of(n, [], [], 5)).split()[:2] for n in (512, 513, 2048, 2049)],
@@ -315,14 +358,80 @@ class Ranges(unittest.TestCase):
         length = len(w.write_deck(odd, 99))
         self.assertEqual(w.refusal_of(w.write_deck, odd, length - 1), (35, 0))
         self.assertEqual(w.refusal_of(w.write_deck, odd._replace(path_list=w.PathList([1], [])), 0), (30, 0))
-        self.assertEqual(w.refusal_of(w.write_graph, w.Graph([0] * 16385, [], [], []), 0), (32, 0))
-        self.assertEqual(w.refusal_of(w.write_graph, w.Graph([0], [1], [], []), 0), (30, 0))
-        room = w.Room(2, 1, 1, 1)
+        self.assertEqual(w.refusal_of(w.write_graph, w.Graph([0] * 16385, [2] * 16385, [], [], []), 0), (32, 0))
+        self.assertEqual(w.refusal_of(w.write_graph, w.Graph([0], [0], [1], [], []), 0), (30, 0))
+        self.assertEqual(w.refusal_of(w.write_graph, w.Graph([0], [], [], [], []), 0), (30, 0))
+        self.assertEqual(w.refusal_of(w.write_graph, w.Graph([0, 0], [1, 2], [], [], []), 0), (32, 0))
+        self.assertEqual(w.refusal_of(w.write_graph, w.Graph([0, 0], [1, 1], [], [], []), 0), (35, 0))
+        self.assertEqual(w.write_graph(w.Graph([7, 9], [0, 1], [4], [5], [6]), 99), bytes([2, 7, 0, 9, 1, 1, 4, 5, 6]))
+        room = room_of(2, 1)
         for data, wanted in [(w.write_number(16385), (32, 0)), (b"\x03", (33, 0)), (b"\x02\x00", (1, 2)),
                              (b"\x00\x02", (34, 0)), (b"\x00" + w.write_number(65537), (32, 0)),
-                             (b"\x00\x00\x80", (3, 2)), (b"\x02\x09\x80\x00", (2, 2)), (b"", (1, 0))]:
+                             (b"\x00\x00\x80", (3, 2)), (b"\x02\x09\x80\x00", (2, 2)), (b"", (1, 0)), (b"\x02\x09\x02", (32, 0)),
+                             (b"\x02\x09\x02\x80\x00", (32, 0)), (b"\x02\x09\x01\x80\x00", (2, 3)), (b"\x02\x09\x80\x01", (32, 0)),
+                             (b"\x02\x09\x01\x08\x02\x02", (32, 0)), (b"\x02\x09\x01\x08\x01\x02", (34, 0))]:
             self.assertEqual(w.refusal_of(w.read_graph, data, room), wanted)
-        self.assertEqual(w.refusal_of(w.read_graph, b"", w.Room(2, 1, 1, 2)), (30, 0))
+        self.assertEqual(w.refusal_of(w.read_graph, b"", w.Room(2, 2, 1, 1, 2)), (30, 0))
+        self.assertEqual(w.refusal_of(w.read_graph, b"", w.Room(2, 3, 1, 1, 1)), (30, 0))
+
+
+class Ends(unittest.TestCase):
+    """Document 02, request 6, on decks that can be followed by hand."""
+    def of(self, edges, paths, marked, nodes=5):
+        deck = deck_of(nodes, edges, paths, 10, marked)
+        return deck, graph_of(deck)
+
+    def test_deck_A_with_node_2_marked(self):
+        deck, graph = self.of(A_EDGES, [[1, 2]], [2])
+        self.assertEqual(graph, graph_of(MARKED["M1"])._replace(endpoints=[0, 0, 1, 0, 1, 1]))
+        changed = "copy 2 node 2 arrival 5 required 9 slack 4 earliest 3"
+        self.assertEqual(printed(deck), DECK_A_PRINTED.replace(changed, changed + " end"))
+        self.assertEqual(sorted(taken_back(deck.design, graph)), [(0, (0,)), (0, (0, 2)), (0, (0, 3)), (1, (1,)), (1, (1, 3))])
+        deck, graph = self.of(A_BACK_EDGES, [[1, 2]], [2])
+        self.assertEqual([times.required for times in w.copy_times(deck.design, graph, 10)], [5, 5, 10, 8, 10, 10])     # 11 from further on alone
+        unmarked, graph = self.of(A_BACK_EDGES, [[1, 2]], [])
+        self.assertEqual([times.required for times in w.copy_times(unmarked.design, graph, 10)], [5, 6, 11, 8, 10, 10])
+
+    def test_sources_sinks_and_isolated_nodes(self):
+        chain = [(0, 1, 1), (1, 2, 1)]
+        self.assertEqual(self.of(chain, [], [0], 3)[1], ([0, 1, 2], [1, 0, 1], [0, 1], [1, 2], [0, 1]))
+        self.assertEqual(self.of(chain, [[0, 1]], [0], 3)[1], ([0], [1], [], [], []))
+        self.assertEqual(self.of(chain, [[0, 1]], [1], 3)[1], ([0, 1], [0, 1], [0], [1], [0]))
+        for marked in ([2], [3], [2, 3]):                                     # a sink, and an isolated node
+            self.assertEqual(self.of(chain, [[1]], marked, 4), (deck_of(4, chain, [[1]], 10, marked), graph_of(deck_of(4, chain, [[1]], 10))))
+        self.assertEqual(self.of(A_EDGES, [], range(5))[1].endpoints, [1] * 5)
+
+    def test_listed_paths_and_marked_nodes(self):
+        """A listed path that ends at a marked node, starts at one, passes one; all edges out of one removed."""
+        self.assertEqual(self.of(A_EDGES, [[0]], [2])[1], ([1, 2, 3, 4], [0, 1, 1, 1], [0, 1, 1], [1, 2, 3], [1, 2, 3]))
+        self.assertEqual(self.of(A_EDGES, [[2]], [2])[1], ([0, 1, 2, 4], [0, 0, 1, 1], [0, 1, 2], [2, 2, 3], [0, 1, 3]))
+        self.assertEqual(self.of(A_EDGES, [[0, 2], [0, 3]], [2])[1],
+                         ([0, 1, 2, 2, 2, 3, 4], [0, 0, 1, 0, 0, 1, 1], [0, 1, 1, 1, 3, 4], [2, 2, 3, 4, 5, 6], [0, 1, 1, 1, 2, 3]))
+        deck, alone = self.of(A_EDGES, [[2], [3]], [2])
+        self.assertEqual(alone, ([0, 1, 2], [0, 0, 1], [0, 1], [2, 2], [0, 1]))
+        self.assertEqual(removed(deck.design, NO_LIST, alone), alone)
+        self.assertEqual(records(deck, alone)[2:], [(5, 10, 5, 3), None, None])
+
+    def test_random_decks_have_what_request_6_is_about(self):
+        """So that comparisons on random decks say something: how often each kind comes."""
+        rng, seen = random.Random(SEED + 6), dict.fromkeys("ends starts passes two_copies no_edge_out by_T source".split(), 0)
+        for _ in range(1000):
+            deck = decks.random_deck(rng)
+            design, graph = deck.design, graph_of(deck)
+            inner = set(design.marked) & set(design.starts)
+            listed = w.listed_paths(deck.path_list)
+            seen["ends"] += any(design.ends[path[-1]] in inner for path in listed)
+            seen["starts"] += any(design.starts[path[0]] in inner for path in listed)
+            seen["passes"] += any(design.ends[edge] in inner for path in listed for edge in path[:-1])
+            seen["two_copies"] += any(graph.copy_nodes.count(node) > 1 and 1 in
+                                      [number for of, number in zip(graph.copy_nodes, graph.endpoints) if of == node] for node in inner)
+            seen["no_edge_out"] += any(number and node in inner and copy not in graph.starts
+                                       for copy, (node, number) in enumerate(zip(graph.copy_nodes, graph.endpoints)))
+            seen["source"] += bool(inner - set(design.ends))
+            times = w.copy_times(design, graph, deck.allowed_time)
+            seen["by_T"] += any(graph.endpoints[start] and times[start].required < min(
+                times[e].required - design.late[d] for s, e, d in zip(*graph[2:]) if s == start) for start in set(graph.starts))
+        self.assertGreater(min(seen.values()), 30, seen)
 
 
 class Packing(unittest.TestCase):
@@ -415,7 +524,8 @@ class Claims(unittest.TestCase):
         for _, deck, worked_on in self.decks(200, SEED + 2):
             uncut = w.true_graph(deck.design, NO_LIST)
             self.assertEqual(uncut.copy_nodes, worked_on.copy_nodes)
-            self.assertEqual(sorted(zip(*uncut[1:])), sorted(zip(*worked_on[1:])))
+            self.assertEqual(uncut.endpoints, worked_on.endpoints)
+            self.assertEqual(sorted(zip(*uncut[2:])), sorted(zip(*worked_on[2:])))
             once = graph_of(deck)
             self.assertEqual(removed(deck.design, NO_LIST, once), once)
             twice = removed(deck.design, deck.path_list, once)
@@ -470,6 +580,17 @@ class Claims(unittest.TestCase):
         self.assertGreater(held_series, 300)
         self.assertGreater(differently_numbered, 0)       # so only a renumbering can be claimed
         self.assertTrue({22, 23, 24, 30, 31, 33, 34} <= seen, seen)
+
+    def test_marked_nodes_by_an_edge_to_a_sink(self):
+        """Paths that end at a marked node are those of the design with a further edge from it to a sink of its own, of delay 0."""
+        for _, deck, _ in self.decks(300, SEED + 7):
+            design = deck.design
+            inner = [node for node in design.marked if node in design.starts]
+            edges = list(zip(*design[1:5])) + [(node, design.nodes + number, 0) for number, node in enumerate(inner)]
+            other = deck_of(design.nodes + len(inner), edges, w.listed_paths(deck.path_list), deck.allowed_time)
+            back = [(first, tuple(edge for edge in run if edge < len(design.starts))) for first, run in taken_back(other.design, graph_of(other))]
+            self.assertEqual(sorted(taken_back(design, graph_of(deck))), sorted(back))
+            self.assertEqual(records(deck, graph_of(deck)), records(other, graph_of(other))[:design.nodes])
 
 
 if __name__ == "__main__":

@@ -12,14 +12,14 @@ import random
 
 import expected
 import walker
-from decks import A_EDGES, HOLD, MARKED, deck_of, random_design, random_foreign_graph, random_paths
+from decks import A_BACK_EDGES, A_EDGES, HOLD, HOLD_EDGES, MARKED, deck_of, decks_with_marked, random_design, random_foreign_graph, random_paths
 
 TABLE = 4200                # the program's
 BLOCKS = 2                  # the program's
-NUMBERS = (30, 10, 12, 13, 14, 15, 25, 32)     # 11 takes longer slices: unfit_cases has it
+NUMBERS = (30, 10, 12, 13, 14, 15, 16, 25, 32)     # 11 takes longer slices: unfit_cases has it
 DELAYS = ("early", "late")
 GRAPH_EDGES = ("copy_starts", "copy_ends", "names")
-SLICES = ("starts", "ends", *DELAYS, "copy_nodes", *GRAPH_EDGES)
+SLICES = ("starts", "ends", *DELAYS, "marked", "copy_nodes", "endpoints", *GRAPH_EDGES)
 
 
 def printed(k):
@@ -43,11 +43,17 @@ class Given:
 
     def __init__(self, design, graph, allowed, node):
         self.nodes, self.allowed, self.node = design.nodes, allowed, node
-        self.starts, self.ends, self.early, self.late = (list(part) for part in design[1:])
-        self.copy_nodes, self.names = list(graph.copy_nodes), list(graph.design_edges)
+        self.starts, self.ends, self.early, self.late, self.marked = (list(part) for part in design[1:])
+        self.copy_nodes, self.endpoints, self.names = list(graph.copy_nodes), list(graph.endpoints), list(graph.design_edges)
         self.copy_starts, self.copy_ends = list(graph.starts), list(graph.ends)
         self.rooms = [len(self.copy_nodes)] * 4
         self.places = [self.nodes] * 5
+
+    def design(self):
+        return walker.Design(self.nodes, self.starts, self.ends, self.early, self.late, self.marked)
+
+    def graph(self):
+        return walker.Graph(self.copy_nodes, self.endpoints, self.copy_starts, self.copy_ends, self.names)
 
     def packed(self):
         numbers = [self.nodes, self.allowed, self.node, *self.rooms, *self.places]
@@ -75,6 +81,7 @@ class Seen:
         self.times, self.record, self.records = set(), set(), set()
         self.passed = self.none = self.past = self.own_slack = self.large = 0
         self.not_by_late = self.below_zero = self.not_first = self.not_last = 0     # earliest arrivals
+        self.by_T = self.from_further_on = 0                                        # required where paths end and go on
 
 
 def see_earliests(seen, design, graph, found):
@@ -91,10 +98,19 @@ def see_earliests(seen, design, graph, found):
     seen.not_last += any(min(earliests) != earliests[-1] for earliests in of_node.values())
 
 
+def see_requireds(seen, design, graph, found, allowed):
+    """Whether a wrong required time would show where paths end and go on: T alone, or T left out."""
+    for copy, times in enumerate(found):
+        if graph.endpoints[copy] == 1 and copy in graph.starts:
+            further = min(found[end].required - design.late[edge]
+                          for start, end, edge in zip(graph.starts, graph.ends, graph.design_edges) if start == copy)
+            seen.by_T += further > allowed
+            seen.from_further_on += further < allowed
+
+
 def lines(given, seen):
     """What the program prints of a case, by the separate program."""
-    design = walker.Design(given.nodes, given.starts, given.ends, given.early, given.late)
-    graph = walker.Graph(given.copy_nodes, given.copy_starts, given.copy_ends, given.names)
+    design, graph = given.design(), given.graph()
     columns = [[0] * length for length in given.rooms]      # what the program lends, and a refusal leaves
     try:
         found = walker.times(design, graph, given.allowed, given.rooms)
@@ -103,6 +119,7 @@ def lines(given, seen):
         seen.passed += 1
         seen.large += any(abs(time) > 2 ** 32 for times in found for time in times)
         see_earliests(seen, design, graph, found)
+        see_requireds(seen, design, graph, found, given.allowed)
     except walker.Refused as refused:
         text = refused_line(refused.refusal)
         seen.times.add(refused.refusal[0])
@@ -131,9 +148,9 @@ def of_deck(deck, node):
     return Given(deck.design, walker.true_graph(deck.design, deck.path_list), deck.allowed_time, node)
 
 
-def chain(early, late, allowed, node):
+def chain(early, late, allowed, node, marked=()):
     """4,096 nodes, one after the other."""
-    design = walker.Design(4096, list(range(4095)), list(range(1, 4096)), [early] * 4095, [late] * 4095)
+    design = walker.Design(4096, list(range(4095)), list(range(1, 4096)), [early] * 4095, [late] * 4095, list(marked))
     return Given(design, walker.design_as_graph(design), allowed, node)
 
 
@@ -149,15 +166,29 @@ def fixed():
     yield of_deck(deck_of(5, [(start, end, -old) for start, end, old in A_EDGES], [[1, 2]], 0), 2)
     for node in range(HOLD.design.nodes):
         yield of_deck(HOLD, node)
+    yield of_deck(deck_of(5, HOLD_EDGES, [[2, 3], [1, 4]], 150), 2)           # a node whose second copy is the earlier one
     for below in (1, 4, 900_000):
         yield of_deck(deck_of(5, [(start, end, old - below, old) for start, end, old in A_EDGES], [[1, 2]], 10), 2)
     for early, late, allowed, node in ((1_000_000, 1_000_000, 0, 4095), (-1_000_000, -1_000_000, 1_000_000_000, 4095),
                                        (-1_000_000, -1_000_000, 0, 4096), (-1_000_000, 1_000_000, 0, 4095)):
         yield chain(early, late, allowed, node)
+    yield chain(-1_000_000, -1_000_000, 5, 2000, [2000])
+    yield from with_marked()
+
+
+def with_marked():
+    """Deck A with node 2 marked, and with its edge to node 4 short or below 0; then every fixed deck with marked nodes that is right."""
+    for edges in (A_EDGES, A_BACK_EDGES):
+        for marked in ([2], [0], [0, 1, 2], [3], [0, 1, 2, 3, 4]):
+            for paths in ([[1, 2]], [], [[2], [3]], [[0, 2], [0, 3]]):
+                yield of_deck(deck_of(5, edges, paths, 10, marked), 2)
+    for number, deck in enumerate(decks_with_marked()):
+        if deck.design.nodes <= 6 and not walker.design_refusal(deck.design) and not walker.list_refusal(deck.design, deck.path_list):
+            yield of_deck(deck, number % 6)
 
 
 def change_a_number(given, chance):
-    part = getattr(given, chance.choice(("copy_nodes", *GRAPH_EDGES)))
+    part = getattr(given, chance.choice(("copy_nodes", "endpoints", *GRAPH_EDGES)))
     if part:
         k = chance.randrange(len(part))
         part[k] = max(0, chance.choice((part[k] - 1, part[k] + 1, part[k] + 2, chance.randrange(6))))
@@ -186,20 +217,39 @@ def swap_or_repeat_an_edge(given, chance):
 
 def one_more_copy(given, chance):
     given.copy_nodes.append(chance.choice((given.nodes - 1 if given.nodes else 0, given.nodes)))
+    given.endpoints.append(chance.choice((0, 1)))
     given.rooms = [len(given.copy_nodes)] * 4
 
 
 def one_copy_less(given, chance):
-    if given.copy_nodes:
+    if given.copy_nodes and given.endpoints:
         given.copy_nodes.pop()
+        given.endpoints.pop()
         given.rooms = [len(given.copy_nodes)] * 4
+
+
+def change_an_end(given, chance):
+    """Paths end at a copy where they did not, or no more where they did; or it has a number that is neither."""
+    if given.endpoints:
+        k = chance.randrange(len(given.endpoints))
+        given.endpoints[k] = chance.choice((1 - min(given.endpoints[k], 1),) * 5 + (2,))
+
+
+def other_marked(given, chance):
+    """Other marked nodes for the same graph: right ones, more often than not."""
+    if chance.random() < 0.5 and given.marked:
+        given.marked.pop(chance.randrange(len(given.marked)))
+    else:
+        given.marked.append(chance.choice((given.nodes - 1 if given.nodes else 0, given.nodes, chance.randrange(8))))
+        if chance.random() < 0.6:
+            given.marked = sorted(set(given.marked))
 
 
 def other_sizes(given, chance):
     if chance.random() < 0.5:
         given.rooms[chance.randrange(4)] += chance.choice((1, 2))
     else:
-        getattr(given, chance.choice(GRAPH_EDGES)).append(0)
+        getattr(given, chance.choice(("endpoints", *GRAPH_EDGES))).append(0)
 
 
 def other_places(given, chance):
@@ -228,8 +278,8 @@ def damage_the_design(given, chance):
             given.early[k] = given.late[k] + 1
 
 
-DAMAGES = (change_a_number, change_a_number, drop_an_edge, swap_or_repeat_an_edge, one_more_copy, one_copy_less, other_sizes,
-           other_places, damage_the_design)
+DAMAGES = (change_a_number, change_a_number, drop_an_edge, swap_or_repeat_an_edge, one_more_copy, one_copy_less, change_an_end,
+           change_an_end, other_marked, other_sizes, other_places, damage_the_design)
 
 
 def random_given(chance):
@@ -246,9 +296,9 @@ def random_given(chance):
 def cases():
     yield from fixed()
     chance = random.Random(32)
-    for _ in range(270):
+    for _ in range(250):
         yield random_given(chance)
-    for _ in range(840):
+    for _ in range(780):
         given = random_given(chance)
         for _ in range(chance.choice((1, 1, 1, 2, 3))):
             chance.choice(DAMAGES)(given, chance)
@@ -261,7 +311,7 @@ def main():
     text = "".join(lines(given, seen) for given in all_cases)
     assert set(NUMBERS) <= seen.times and {30, 10} <= seen.record and {30, 10} <= seen.records
     assert min(seen.none, seen.past, seen.own_slack, seen.large) > 0
-    assert min(seen.not_by_late, seen.below_zero, seen.not_first, seen.not_last) > 0
+    assert min(seen.not_by_late, seen.below_zero, seen.not_first, seen.not_last, seen.by_T, seen.from_further_on) > 0
     expected.keep("times_cases", expected.in_blocks([given.packed() for given in all_cases], BLOCKS), text.encode())
     print("times_cases: %d graphs, %d of them pass" % (len(all_cases), seen.passed))
 

@@ -5,7 +5,7 @@ python3 tests/unfit_cases.py           writes crates/unfit_cases/stdin and stdou
 python3 tests/unfit_cases.py --check   says whether the two files are what it would write
 
 Every expected answer is what tests/walker.py, the separate program, refuses the deck with. A deck goes in as packed
-numbers, its six slices each by itself, so that they need not belong together (crates/unfit_cases/src/main.rt).
+numbers, its seven slices each by itself, so that they need not belong together (crates/unfit_cases/src/main.rt).
 """
 import copy
 import itertools
@@ -18,16 +18,16 @@ from decks import WIDE_ROOM, design_of, random_design, random_paths
 TOP = 4294967295
 MANY_WORDS = 10 ** 9
 BLOCKS = 2              # the program's
-TABLES = (16400, 16400, 16400, 16400, 8200, 1040)
-NUMBERS = (30, 10, 11, 12, 13, 14, 15, 20, 21, 22, 23, 24, 25)
+TABLES = (16400, 16400, 16400, 16400, 4200, 8200, 1040)
+NUMBERS = (30, 10, 11, 12, 13, 14, 15, 16, 20, 21, 22, 23, 24, 25)
 
 
 class Deck:
-    """n, T and the six slices, to be damaged."""
+    """n, T and the seven slices, to be damaged."""
 
-    def __init__(self, nodes, edges, paths, allowed):
+    def __init__(self, nodes, edges, paths, allowed, marked=()):
         self.allowed = allowed
-        self.nodes, self.starts, self.ends, self.early, self.late = design_of(nodes, edges)
+        self.nodes, self.starts, self.ends, self.early, self.late, self.marked = design_of(nodes, edges, marked)
         self.listed = [edge for path in paths for edge in path]
         self.lengths = [len(path) for path in paths]
 
@@ -40,7 +40,7 @@ class Deck:
 
 def answer(deck):
     """None or the refusal, by the separate program."""
-    design = walker.Design(deck.nodes, deck.starts, deck.ends, deck.early, deck.late)
+    design = walker.Design(deck.nodes, deck.starts, deck.ends, deck.early, deck.late, deck.marked)
     paths = walker.PathList(deck.lengths, deck.listed)
     refusal = walker.refusal_of(walker.removal, design, paths, None, MANY_WORDS, WIDE_ROOM, deck.allowed)
     assert refusal is None or refusal[0] in NUMBERS, refusal
@@ -58,7 +58,7 @@ def packed_slice(numbers):
 def packed(deck):
     numbers = [deck.nodes, deck.allowed]
     early, late = ([walker.pack_delay(delay) for delay in part] for part in (deck.early, deck.late))
-    for part, table in zip((deck.starts, deck.ends, early, late, deck.listed, deck.lengths), TABLES):
+    for part, table in zip((deck.starts, deck.ends, early, late, deck.marked, deck.listed, deck.lengths), TABLES):
         assert len(part) <= table
         numbers += packed_slice(part)
     return b"".join(walker.write_number(number) for number in numbers)
@@ -68,7 +68,8 @@ def packed(deck):
 
 DECK_A = Deck(5, [(0, 2, 3), (1, 2, 5), (2, 3, 2), (2, 4, 1)], [[1, 2]], 10)
 # a chain with a shortcut; three of its paths have two edges or more, and can be broken
-BASE = Deck(6, [(0, 1, 0, 1), (1, 2, -2), (2, 3, -3, 3), (1, 3, 4), (3, 4, 1, 5), (4, 5, -9, -6)], [[0, 1, 2], [4], [0, 3, 4], [4, 5]], 9)
+BASE = Deck(6, [(0, 1, 0, 1), (1, 2, -2), (2, 3, -3, 3), (1, 3, 4), (3, 4, 1, 5), (4, 5, -9, -6)], [[0, 1, 2], [4], [0, 3, 4], [4, 5]], 9,
+            [1, 3, 4])
 
 # Faults: each damages a deck so that its number is due; k says where.
 
@@ -109,6 +110,18 @@ def parted(deck, k):
     deck.listed[k + 1] = deck.listed[k]
 
 
+def equal_marks(deck, k):
+    """A marked node once more."""
+    k %= max(1, len(deck.marked))
+    deck.marked.insert(k, deck.marked[k])
+
+
+def falling_marks(deck, k):
+    """A marked node moves in front of the one before it."""
+    k %= len(deck.marked) - 1
+    deck.marked[k], deck.marked[k + 1] = deck.marked[k + 1], deck.marked[k]
+
+
 FAULTS = {
     "30, a start": lambda deck, k: deck.starts.append(0),
     "30, an end": lambda deck, k: deck.ends.pop(),
@@ -124,6 +137,9 @@ FAULTS = {
     "14, early": lambda deck, k: put(deck.early, k, 1_000_001 if k % 2 else -1_000_001),
     "14, late": lambda deck, k: put(deck.late, k, 1_000_001 if k % 2 else -1_000_001),
     "15": lambda deck, k: put(deck.early, k, deck.late[k % len(deck.late)] + 1),
+    "16, not below n": lambda deck, k: put(deck.marked, k, deck.nodes + k // 4),
+    "16, equal": equal_marks,
+    "16, falling": falling_marks,
     "20": lambda deck, k: more_paths(deck, 1025),
     "21": lambda deck, k: more_listed(deck, 8193),
     "22": emptied,
@@ -181,6 +197,17 @@ def edges_of_the_ranges():
         deck = copy.deepcopy(DECK_A)
         more_listed(deck, count)
         yield deck
+    # marked nodes: any of deck A, then 16 at every index
+    for marked in ([], [0], [2], [4], [0, 1, 2, 3, 4], [5], [TOP], [4, 5], [0, 0], [1, 0], [4, 4], [0, 1, 1], [0, 2, 1], [0, 1, 2, 3, 3],
+                   [0, 1, 2, 3, 5], [0, 1, 2, 3, 4, 5], [0, 1, 2, 3, 4, 4], [5, 5], [2, 5, 1], [3, 2, 5], [TOP, TOP], [0, TOP, 1]):
+        yield DECK_A.but(marked=marked)
+    yield none.but(nodes=4096, marked=list(range(4096)))
+    for nodes in (0, 1, 130):
+        yield none.but(nodes=nodes, marked=list(range(nodes)))
+        yield none.but(nodes=nodes, marked=list(range(nodes + 1)))
+        yield none.but(nodes=nodes, marked=list(range(nodes)) + [0])
+    yield none.but(nodes=4096, marked=[7] * 4200)
+    yield none.but(nodes=4097, marked=[7] * 4200)
     # lengths that add up only where a sum wraps, or never
     yield DECK_A.but(lengths=[TOP, 3])
     yield DECK_A.but(lengths=[3, TOP])
@@ -213,7 +240,7 @@ def faults_along_a_path():
 def random_deck(chance):
     design = random_design(chance, most_nodes=6, most_edges=8)
     paths = random_paths(chance, design, 3) if design.starts else []
-    deck = Deck(design.nodes, list(zip(*design[1:])), paths, chance.choice((0, 5, 1_000_000_000)))
+    deck = Deck(design.nodes, list(zip(*design[1:5])), paths, chance.choice((0, 5, 1_000_000_000)), design.marked)
     for _ in range(chance.randrange(4)):
         name = chance.choice(list(FAULTS))
         if name in ("11", "20", "21"):
@@ -236,10 +263,10 @@ def cases():
         yield damaged(faults, (3, 1))
         yield damaged(faults, (1, 5))
     for faults in itertools.combinations(FAULTS, 3):
-        # 30 comes before all: one triple in ten with it is enough
-        if not faults[0].startswith("30") or chance.random() < 0.1:
+        # 30 comes before all, and two of one number say little more than one: one triple in ten of these is enough
+        if len({fault[:2] for fault in faults} - {"30"}) == 3 or chance.random() < 0.1:
             yield damaged(faults, [chance.randrange(9) for _ in faults])
-    for _ in range(400):
+    for _ in range(320):
         yield random_deck(chance)
 
 

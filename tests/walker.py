@@ -1,7 +1,7 @@
 #!/usr/bin/env python3
 """Reference program: true timing graphs by walking all paths.
 
-Written from document 01, the specification, with requests 1, 4 and 9 of document 02, and from no code
+Written from document 01, the specification, with requests 1, 4, 6 and 9 of document 02, and from no code
 or definition of this repository; points that they leave open are read as docs/DECISIONS.md
 says ("How document 01 is read"). Naive on purpose: every complete path is written out, the false ones are struck
 out, and copies, edges and times are read off the paths that remain. Text in double quotes in
@@ -21,18 +21,18 @@ MOST_DECK_BYTES = 65536
 WORDS_PER_UNIT = 8         # "8 words per candidate, listed edge and graph edge, where it was 16"
 MOST_WALKED = 200_000      # no limit of the document: more paths than this are not walked
 
-Design = namedtuple("Design", "nodes starts ends early late")         # "Every edge is to carry an early and a late delay"
+Design = namedtuple("Design", "nodes starts ends early late marked")  # "an early and a late delay"; "A deck may now mark nodes as ends"
 PathList = namedtuple("PathList", "lengths flat")                     # "flat, with a length for each path"
-Graph = namedtuple("Graph", "copy_nodes starts ends design_edges")    # start copy, end copy, design edge
+Graph = namedtuple("Graph", "copy_nodes endpoints starts ends design_edges")    # 1 where paths end, else 0; start copy, end copy, design edge
 Deck = namedtuple("Deck", "design path_list allowed_time")
 Path = namedtuple("Path", "first edges")                              # edges: (start copy, end copy, design edge)
 Times = namedtuple("Times", "arrival required slack earliest")
-Tables = namedtuple("Tables", "starts ends early late listed paths")  # lent lengths
-Room = namedtuple("Room", "copies starts ends design_edges")          # lent lengths
+Tables = namedtuple("Tables", "starts ends early late listed paths marked")     # lent lengths
+Room = namedtuple("Room", "copies endpoints starts ends design_edges")          # lent lengths
 Call = namedtuple("Call", "path_list room scratch_words")             # one removal of a series
 
-PROGRAM_TABLES = Tables(1024, 1024, 1024, 1024, 1024, 256)
-PROGRAM_ROOM = Room(512, 2048, 2048, 2048)
+PROGRAM_TABLES = Tables(1024, 1024, 1024, 1024, 1024, 256, 1024)
+PROGRAM_ROOM = Room(512, 512, 2048, 2048, 2048)
 PROGRAM_SCRATCH = 16384
 
 class WalkTooLong(Exception):
@@ -73,15 +73,17 @@ def listed_paths(path_list):
 # ---- Paths -------------------------------------------------------------------------------
 
 def design_as_graph(design):
-    """The design seen as a graph: every node its own copy, every edge naming itself."""
-    return Graph(list(range(design.nodes)), list(design.starts), list(design.ends),
-                 list(range(len(design.starts))))
+    """The design seen as a graph: every node its own copy, every edge naming itself. Paths end at a node that is a sink or marked."""
+    ends = (set(range(design.nodes)) - set(design.starts)) | set(design.marked)
+    return Graph(list(range(design.nodes)), [1 if node in ends else 0 for node in range(design.nodes)],
+                 list(design.starts), list(design.ends), list(range(len(design.starts))))
 
 def complete_paths(design, graph):
-    """"A complete path is the run of edges from a source to a sink, or none at an isolated
-    node"; on an earlier graph "its paths" stand "for the complete paths". "A source has no
-    edge in, a sink no edge out; an isolated node is both." """
-    not_source, not_sink = set(design.ends), set(design.starts)
+    """"Complete paths run from a source to a sink or to a marked node, with no edges at a marked
+    source, and may pass through marked nodes"; on an earlier graph "its paths" stand "for the complete
+    paths", and each copy "says whether paths end at it". "A source has no edge in, a sink no edge out;
+    an isolated node is both." """
+    not_source = set(design.ends)
     leaving = {copy: [] for copy in range(len(graph.copy_nodes))}
     for edge in zip(graph.starts, graph.ends, graph.design_edges):
         leaving[edge[0]].append(edge)
@@ -91,7 +93,7 @@ def complete_paths(design, graph):
     while unfinished:
         path = unfinished.pop()
         last_copy = copies_along(path)[-1]
-        if graph.copy_nodes[last_copy] not in not_sink:
+        if graph.endpoints[last_copy] == 1:
             complete.append(path)
         for edge in leaving[last_copy]:
             unfinished.append(Path(path.first, path.edges + (edge,)))
@@ -139,7 +141,7 @@ def true_graph(design, path_list, earlier=None):
     listed = listed_paths(path_list)
     tails = tails_of(listed)
     lengths = sorted({len(tail) for tail in tails}, reverse=True)
-    copies, joins = set(), set()
+    copies, joins, ended_at = set(), set(), set()
     for path in permitted_paths(design, worked_on, listed):
         run = design_edges_along(path)
         # "a copy for each pair (node, mark) that some permitted path shows, and no others"
@@ -149,6 +151,8 @@ def true_graph(design, path_list, earlier=None):
         # "Along each design edge of a permitted path, the copy at its start is joined to
         # the copy at its end by an edge that names the design edge."
         joins.update(zip(shown, shown[1:], run))
+        # "Each copy in the true graph says whether paths end at it"
+        ended_at.add(shown[-1])
     # "numbered by node; within a node by the mark's length, then by its edge numbers" and
     # "Result copies are then ordered by earlier copy, then by mark as above."
     ordered = sorted(copies, key=lambda copy: (copy[0], len(copy[1]), copy[1]))
@@ -157,6 +161,7 @@ def true_graph(design, path_list, earlier=None):
     edges = sorted(((number[start], number[end], design_edge) for start, end, design_edge in joins),
                    key=lambda edge: (edge[1], edge[2], edge[0]))
     return Graph([worked_on.copy_nodes[node_or_copy] for node_or_copy, _ in ordered],
+                 [1 if copy in ended_at else 0 for copy in ordered],
                  [edge[0] for edge in edges], [edge[1] for edge in edges], [edge[2] for edge in edges])
 
 # ---- Tests: each returns None or a refusal ---------------------------------------------------
@@ -174,11 +179,16 @@ def design_slices(design):
     """"30 now covers four edge slices of a design." """
     return len(design.starts), len(design.ends), len(design.early), len(design.late)
 
-def graph_slices(graph):
-    return len(graph.starts), len(graph.ends), len(graph.design_edges)
+def graph_groups(graph):
+    """The lengths of a graph's slices, in groups that belong together: two of copies, three of edges."""
+    return [(len(graph.copy_nodes), len(graph.endpoints)), (len(graph.starts), len(graph.ends), len(graph.design_edges))]
+
+def room_groups(room):
+    """The same of a room."""
+    return [(room.copies, room.endpoints), (room.starts, room.ends, room.design_edges)]
 
 def design_refusal(design):
-    """10 to 15, "one number over everything before the next"."""
+    """10 to 16, "one number over everything before the next"."""
     edges = list(zip(design.starts, design.ends, design.early, design.late))
     if design.nodes > MOST_NODES:
         return 10, 0
@@ -196,6 +206,10 @@ def design_refusal(design):
     for number, (_, _, early, late) in enumerate(edges):
         if early > late:                                    # "new 15, early above late, tested after 14, place the edge number"
             return 15, number
+    # "New 16, a marked node not below n or not rising, place its index in the marks, after 15 wherever 15 is tested"
+    for index, node in enumerate(design.marked):
+        if node >= design.nodes or index > 0 and node <= design.marked[index - 1]:
+            return 16, index
     return None
 
 def list_refusal(design, path_list):
@@ -243,15 +257,26 @@ def is_well_formed(design, graph):
     order = [(end, design_edge) for _, end, design_edge in edges]
     if any(earlier >= later for earlier, later in zip(order, order[1:])):
         return False
-    # "a sink has at most one copy"
-    has_edge_in, has_edge_out = set(design.ends), set(design.starts)
-    sink_copies = [node for node in nodes if node not in has_edge_out]
-    if len(sink_copies) != len(set(sink_copies)):
+    # "0 or 1 after each copy's node"
+    if any(number not in (0, 1) for number in graph.endpoints):
         return False
-    # "a copy of a node that is no source has an edge in, and of a node that is no sink an edge out"
+    has_edge_in, has_edge_out, marked = set(design.ends), set(design.starts), set(design.marked)
+    ending = {copy for copy in copies if graph.endpoints[copy] == 1}
+    # "lets paths end only at sinks and marked nodes"
+    if any(nodes[copy] in has_edge_out and nodes[copy] not in marked for copy in ending):
+        return False
+    # "at most one copy of a node does"
+    if len({nodes[copy] for copy in ending}) != len(ending):
+        return False
+    # "and every copy of a sink does"
+    if any(nodes[copy] not in has_edge_out and copy not in ending for copy in copies):
+        return False
+    # "a copy of a node that is no source has an edge in"
     entered, left = set(graph.ends), set(graph.starts)
-    return all((nodes[copy] not in has_edge_in or copy in entered) and
-               (nodes[copy] not in has_edge_out or copy in left) for copy in copies)
+    if any(nodes[copy] in has_edge_in and copy not in entered for copy in copies):
+        return False
+    # "asks for an edge out only where no path ends"
+    return all(copy in left for copy in copies if copy not in ending)
 
 def graph_refusal(design, graph):
     return None if is_well_formed(design, graph) else (32, 0)
@@ -283,10 +308,10 @@ def room_refusal(graph, room):
 def removal(design, path_list, earlier, scratch_words, room, allowed_time=None):
     """One call: from the design (earlier None) or from an earlier true graph. T is None for
     the slice calls, which do not take it; the deck program and the C call give it ("25
-    included"). "Slice calls test 30, then 10 to 14" and the new 15, then "20 to 25, 32, 31, 33, 34" """
-    groups = [design_slices(design), room[1:]]
+    included"). "Slice calls test 30, then 10 to 14" and the new 15 and 16, then "20 to 25, 32, 31, 33, 34" """
+    groups = [design_slices(design), *room_groups(room)]
     if earlier is not None:
-        groups.append(graph_slices(earlier))
+        groups += graph_groups(earlier)
     refuse(slices_refusal(groups, path_list))
     refuse(design_refusal(design))
     refuse(list_refusal(design, path_list))
@@ -341,8 +366,8 @@ def series_from_calls_alone(design, calls):
 
 def rests_from(design, graph):
     """For each copy the set of all that paths of the graph follow from it on. In a well-formed
-    graph two copies of one node never share a rest (a sink has one copy, and end copy and
-    design edge settle the edge), so the set names the copy, whatever its number."""
+    graph two copies of one node never share a rest (paths end at one copy of a node at most, and end copy
+    and design edge settle the edge), so the set names the copy, whatever its number."""
     rests = [set() for _ in graph.copy_nodes]
     for path in complete_paths(design, graph):
         for position, copy in enumerate(copies_along(path)):
@@ -352,12 +377,14 @@ def rests_from(design, graph):
 def same_within_nodes(design, first, second):
     """Demand 3: same "count of copies, the node of each copy number and the count of edges",
     and "copies can be renumbered within each node so that the edges, as start copy, end copy
-    and design edge, are the same set". Both graphs well formed: the renumbering is forced."""
+    and design edge, are the same set"; it "keeps" the ends. Both graphs well formed: the renumbering is forced."""
     if list(first.copy_nodes) != list(second.copy_nodes) or len(first.starts) != len(second.starts):
         return False
     number_in_second = {name: number for number, name in enumerate(rests_from(design, second))}
     renumber = [number_in_second.get(name) for name in rests_from(design, first)]
     if None in renumber or sorted(renumber) != list(range(len(renumber))):
+        return False
+    if any(first.endpoints[copy] != second.endpoints[number] for copy, number in enumerate(renumber)):
         return False
     return ({(renumber[start], renumber[end], design_edge)
              for start, end, design_edge in zip(first.starts, first.ends, first.design_edges)}
@@ -367,9 +394,9 @@ def same_within_nodes(design, first, second):
 
 def copy_times(design, graph, allowed_time):
     """"arrival is the largest delay of a path from a source copy (0 at a source copy);
-    required is the smallest of T less the delay of a path to a sink copy (T at a sink copy);
-    slack is required less arrival": these "go on using the late delay". The earliest arrival is
-    "the smallest early delay of a path from a source copy, 0 at a source copy". In a well-formed
+    required is the smallest of T less the delay of a path to" a copy where paths end, and at such a copy
+    "T or the smaller figure from further on"; "slack is required less arrival": these "go on using the late
+    delay". The earliest arrival is "the smallest early delay of a path from a source copy, 0 at a source copy". In a well-formed
     graph every copy is on a complete path."""
     reached, to_go, soonest = ([[] for _ in graph.copy_nodes] for _ in range(3))
     for path in complete_paths(design, graph):
@@ -382,7 +409,7 @@ def copy_times(design, graph, allowed_time):
 
 def times(design, graph, allowed_time, times_lengths):
     """The call for the times at copies; times_lengths are those of its four result slices: "times, one place for each copy"."""
-    refuse(slices_refusal([design_slices(design), graph_slices(graph),
+    refuse(slices_refusal([design_slices(design), *graph_groups(graph),
                            (len(graph.copy_nodes),) + tuple(times_lengths)]))
     refuse(design_refusal(design))
     refuse(allowed_time_refusal(allowed_time))
@@ -455,11 +482,11 @@ class Reader:
         return value
 
     def count(self, *limits):
-        """A count, tested as it is met: limits are (most, refusal number), in order."""
+        """A count, tested as it is met: limits are (most, refusal number), in order, or with a place (most, number, place)."""
         value = self.number()
-        for most, number in limits:
+        for most, *refusal in limits:
             if value > most:
-                raise Refused(number)
+                raise Refused(*refusal)
         return value
 
     def end(self):
@@ -474,7 +501,8 @@ def packed(numbers, room):
 
 def read_deck(data, tables):
     """"After 30 the deck reader meets 1, 2, the counts (10, 11, 20, 21, and after 11, 20 and
-    21 the 36 of that count) in file order, then 3" """
+    21 the 36 of that count) in file order, then 3"; "the reader gives" 16 "at a count of marks above n,
+    place n, then 36 above a table" """
     refuse(slices_refusal([tables[:4]]))
     reader = Reader(data)
     nodes = reader.count((MOST_NODES, 10))
@@ -489,14 +517,16 @@ def read_deck(data, tables):
         total += lengths[-1]
         refuse((21, 0) if total > MOST_LISTED_EDGES else (36, 0) if total > tables.listed else None)
         flat.extend(reader.number() for _ in range(lengths[-1]))
+    marked = [reader.number() for _ in range(reader.count((nodes, 16, nodes), (tables.marked, 36)))]
     allowed_time = reader.number()
     reader.end()
     slices = ([edge[part] for edge in edges] for part in range(4))
-    return Deck(Design(nodes, *slices), PathList(lengths, flat), allowed_time)
+    return Deck(Design(nodes, *slices, marked), PathList(lengths, flat), allowed_time)
 
 def deck_numbers(deck):
     """"Deck: n, m, then start, end, delay for each edge; the count of paths, then for each its
-    length and edges; T." Of each edge both delays, "in the deck early first". """
+    length and edges; T." Of each edge both delays, "in the deck early first"; "a count of marked nodes and
+    their numbers, strictly rising, before T". """
     design, path_list, allowed_time = deck
     numbers = [design.nodes, len(design.starts)]
     for start, end, early, late in zip(design.starts, design.ends, design.early, design.late):
@@ -504,10 +534,10 @@ def deck_numbers(deck):
     numbers.append(len(path_list.lengths))
     for path in listed_paths(path_list):
         numbers += [len(path), *path]
-    return numbers + [allowed_time]
+    return numbers + [len(design.marked), *design.marked, allowed_time]
 
 def write_deck(deck, room):
-    """"Writers test only 30, the counts (10, 11, 20, 21; 32 for a graph) and 35." """
+    """"Writers test only 30, the counts (10, 11, 20, 21; 32 for a graph) and 35", and 16 at more marks than n "after the counts"."""
     design, path_list, _ = deck
     refuse(slices_refusal([design_slices(design)], path_list))
     for count, most, number in ((design.nodes, MOST_NODES, 10), (len(design.starts), MOST_EDGES, 11),
@@ -515,30 +545,37 @@ def write_deck(deck, room):
                                 (len(path_list.flat), MOST_LISTED_EDGES, 21)):
         if count > most:
             raise Refused(number)
+    if len(design.marked) > design.nodes:
+        raise Refused(16, design.nodes)
     return packed(deck_numbers(deck), room)
 
 def write_graph(graph, room):
     """"Packed true graph: count of copies, the node of each; count of edges, then start copy,
-    end copy, design edge of each." """
-    refuse(slices_refusal([graph_slices(graph)]))
+    end copy, design edge of each"; it "gains 0 or 1 after each copy's node", and 32 "at an end number above 1 ... after the counts"."""
+    refuse(slices_refusal(graph_groups(graph)))
     if len(graph.copy_nodes) > MOST_COPIES or len(graph.starts) > MOST_GRAPH_EDGES:
         raise Refused(32)
-    numbers = [len(graph.copy_nodes), *graph.copy_nodes, len(graph.starts)]
+    if any(number > 1 for number in graph.endpoints):
+        raise Refused(32)
+    numbers = [len(graph.copy_nodes)]
+    for copy in zip(graph.copy_nodes, graph.endpoints):
+        numbers += copy
+    numbers.append(len(graph.starts))
     for edge in zip(graph.starts, graph.ends, graph.design_edges):
         numbers += edge
     return packed(numbers, room)
 
 def read_graph(data, room):
     """"at each count as it is met, 32 above 16,384 copies or 65,536 edges, then 33 or 34 for
-    its lent room; 3 comes after them" """
-    refuse(slices_refusal([room[1:]]))
+    its lent room; 3 comes after them"; "32 at an end number above 1", as it is met too"""
+    refuse(slices_refusal(room_groups(room)))
     reader = Reader(data)
     copy_count = reader.count((MOST_COPIES, 32), (room.copies, 33))
-    copy_nodes = [reader.number() for _ in range(copy_count)]
+    copies = [(reader.number(), reader.count((1, 32))) for _ in range(copy_count)]
     edge_count = reader.count((MOST_GRAPH_EDGES, 32), (room.starts, 34))
     edges = [(reader.number(), reader.number(), reader.number()) for _ in range(edge_count)]
     reader.end()
-    return Graph(copy_nodes, *([edge[part] for edge in edges] for part in range(3)))
+    return Graph(*([copy[part] for copy in copies] for part in range(2)), *([edge[part] for edge in edges] for part in range(3)))
 
 # ---- The deck program and the C call -------------------------------------------------------
 
@@ -552,7 +589,7 @@ def deck_and_graph(data):
 
 def deck_program(data):
     """All that the deck program prints. The earliest arrival "is printed last, after the word `earliest` on each copy line and bare
-    on each node line with times"."""
+    on each node line with times"; "Copy lines where paths end gain the word `end` last"."""
     try:
         deck, graph = deck_and_graph(data)
     except Refused as refused:
@@ -560,7 +597,8 @@ def deck_program(data):
     at_copies = copy_times(deck.design, graph, deck.allowed_time)
     lines = ["copies %d edges %d" % (len(graph.copy_nodes), len(graph.starts))]
     for copy, (node, at_copy) in enumerate(zip(graph.copy_nodes, at_copies)):
-        lines.append("copy %d node %d arrival %d required %d slack %d earliest %d" % (copy, node, *at_copy))
+        lines.append("copy %d node %d arrival %d required %d slack %d earliest %d" % (copy, node, *at_copy)
+                     + (" end" if graph.endpoints[copy] == 1 else ""))
     for edge in zip(graph.starts, graph.ends, graph.design_edges):
         lines.append("edge %d %d %d" % edge)
     columns = [[at_copy[part] for at_copy in at_copies] for part in range(4)]

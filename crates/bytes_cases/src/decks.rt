@@ -17,6 +17,7 @@ struct Counts {
     edges: usize,
     listed: usize,
     paths: usize,
+    marked: usize,
 }
 
 fn pack(delays: &[i32], codes: &mut [u32]) {
@@ -36,17 +37,20 @@ fn say_tables(
     late: &[u32],
     listed: &[u32],
     lengths: &[u32],
+    marked: &[u32],
 ) {
     let k = say::three_kept(starts, ends, early, c.edges);
     let k = say::words_kept(k, late, c.edges);
     let k = say::words_kept(k, listed, c.listed);
     let k = say::words_kept(k, lengths, c.paths);
+    let k = say::words_kept(k, marked, c.marked);
     say::table(starts, c.edges);
     say::table(ends, c.edges);
     say::table(early, c.edges);
     say::table(late, c.edges);
     say::table(listed, c.listed);
     say::table(lengths, c.paths);
+    say::table(marked, c.marked);
     say::kept(k);
 }
 
@@ -59,6 +63,7 @@ fn say_deck(
     late: &[i32],
     listed: &[u32],
     lengths: &[u32],
+    marked: &[u32],
 ) {
     let mut early_codes = [0u32; 16400];
     let mut late_codes = [0u32; 16400];
@@ -72,6 +77,7 @@ fn say_deck(
         front(&late_codes, late.len()),
         listed,
         lengths,
+        marked,
     );
 }
 
@@ -83,6 +89,7 @@ fn say_answer(answer: DeckRead) -> Counts {
             edges,
             listed,
             paths,
+            marked,
             allowed,
         } => {
             text(b"deck");
@@ -90,11 +97,13 @@ fn say_answer(answer: DeckRead) -> Counts {
             print::spaced(edges as u64);
             print::spaced(listed as u64);
             print::spaced(paths as u64);
+            print::spaced(marked as u64);
             print::spaced(allowed as u64);
             Counts {
                 edges,
                 listed,
                 paths,
+                marked,
             }
         }
         DeckRead::Refused(r) => {
@@ -103,6 +112,7 @@ fn say_answer(answer: DeckRead) -> Counts {
                 edges: 0,
                 listed: 0,
                 paths: 0,
+                marked: 0,
             }
         }
     }
@@ -118,9 +128,21 @@ fn write(
     late: &[i32],
     listed: &[u32],
     lengths: &[u32],
+    marked: &[u32],
     room: &mut [u8],
 ) -> Written {
-    let w = deck_writer::write_deck(n, starts, ends, early, late, listed, lengths, allowed, room);
+    let w = deck_writer::write_deck(
+        n,
+        starts,
+        ends,
+        early,
+        late,
+        marked,
+        listed,
+        lengths,
+        allowed,
+        room,
+    );
     text(b"write ");
     say::written(w, room);
     w
@@ -136,6 +158,7 @@ fn write_again(
     late: &[i32],
     listed: &[u32],
     lengths: &[u32],
+    marked: &[u32],
     size: usize,
 ) {
     let mut room = say::byte_room();
@@ -149,6 +172,7 @@ fn write_again(
         late,
         listed,
         lengths,
+        marked,
         &mut room[..len],
     );
 }
@@ -161,6 +185,7 @@ fn write_answer(
     late: &[i32],
     listed: &[u32],
     lengths: &[u32],
+    marked: &[u32],
     size: usize,
 ) {
     match r {
@@ -169,6 +194,7 @@ fn write_answer(
             edges,
             listed: count,
             paths,
+            marked: marked_count,
             allowed,
         } => {
             write_again(
@@ -180,6 +206,7 @@ fn write_answer(
                 front_delays(late, edges),
                 front(listed, count),
                 front(lengths, paths),
+                front(marked, marked_count),
                 size,
             );
         }
@@ -198,11 +225,12 @@ fn say_read(
     late: &[i32],
     listed: &[u32],
     lengths: &[u32],
+    marked: &[u32],
 ) {
     let c = say_answer(r);
-    say_deck(c, starts, ends, early, late, listed, lengths);
+    say_deck(c, starts, ends, early, late, listed, lengths, marked);
     if again {
-        write_answer(r, starts, ends, early, late, listed, lengths, size);
+        write_answer(r, starts, ends, early, late, listed, lengths, marked, size);
     }
 }
 
@@ -215,8 +243,9 @@ fn read(
     late: &mut [i32],
     listed: &mut [u32],
     lengths: &mut [u32],
+    marked: &mut [u32],
 ) {
-    let r = deck_reader::read_deck(s, starts, ends, early, late, listed, lengths);
+    let r = deck_reader::read_deck(s, starts, ends, early, late, listed, lengths, marked);
     say_read(
         r,
         again,
@@ -227,6 +256,7 @@ fn read(
         late,
         listed,
         lengths,
+        marked,
     );
 }
 
@@ -238,6 +268,7 @@ struct Sizes {
     late: usize,
     listed: usize,
     lengths: usize,
+    marked: usize,
     bytes: usize,
     next: usize,
 }
@@ -250,6 +281,7 @@ fn read_sizes(s: &[u8], at: usize) -> Sizes {
     let e = take_number(s, d.next);
     let f = take_number(s, e.next);
     let g = take_number(s, f.next);
+    let h = take_number(s, g.next);
     Sizes {
         starts: a.value as usize,
         ends: b.value as usize,
@@ -257,8 +289,9 @@ fn read_sizes(s: &[u8], at: usize) -> Sizes {
         late: d.value as usize,
         listed: e.value as usize,
         lengths: f.value as usize,
-        bytes: g.value as usize,
-        next: g.next,
+        marked: g.value as usize,
+        bytes: h.value as usize,
+        next: h.next,
     }
 }
 
@@ -270,12 +303,14 @@ fn read_sized(s: &[u8], again: bool, q: Sizes) {
     let mut late = [say::DELAY; 16400];
     let mut listed = [say::WORD; 8200];
     let mut lengths = [say::WORD; 1040];
+    let mut marked = [say::WORD; 4200];
     let a = least(q.starts, 16400);
     let b = least(q.ends, 16400);
     let c = least(q.early, 16400);
     let d = least(q.late, 16400);
     let e = least(q.listed, 8200);
     let f = least(q.lengths, 1040);
+    let g = least(q.marked, 4200);
     read(
         s,
         again,
@@ -285,6 +320,7 @@ fn read_sized(s: &[u8], again: bool, q: Sizes) {
         &mut late[..d],
         &mut listed[..e],
         &mut lengths[..f],
+        &mut marked[..g],
     );
 }
 
@@ -298,7 +334,7 @@ pub(crate) fn read_case(s: &[u8], at: usize) -> usize {
 }
 
 // Reads what was written, into tables as long as the deck.
-fn read_back(s: &[u8], edges: usize, listed: usize, paths: usize) {
+fn read_back(s: &[u8], edges: usize, listed: usize, paths: usize, marked: usize) {
     let q = Sizes {
         starts: edges,
         ends: edges,
@@ -306,6 +342,7 @@ fn read_back(s: &[u8], edges: usize, listed: usize, paths: usize) {
         late: edges,
         listed,
         lengths: paths,
+        marked,
         bytes: s.len(),
         next: 0,
     };
@@ -321,13 +358,31 @@ fn write_and_read(
     late: &[i32],
     listed: &[u32],
     lengths: &[u32],
+    marked: &[u32],
     room: &mut [u8],
 ) {
-    let w = write(n, allowed, starts, ends, early, late, listed, lengths, room);
+    let w = write(
+        n,
+        allowed,
+        starts,
+        ends,
+        early,
+        late,
+        listed,
+        lengths,
+        marked,
+        room,
+    );
     match w {
         Written::End(end) => {
             let len = least(end, room.len());
-            read_back(&room[..len], starts.len(), listed.len(), lengths.len());
+            read_back(
+                &room[..len],
+                starts.len(),
+                listed.len(),
+                lengths.len(),
+                marked.len(),
+            );
         }
         Written::Refused(_) => {}
     }
@@ -361,6 +416,7 @@ fn write_sized(
     late: &[i32],
     listed: &[u32],
     lengths: &[u32],
+    marked: &[u32],
 ) {
     let mut room = say::deck_room();
     let len = least(q.room as usize, 131072);
@@ -373,6 +429,7 @@ fn write_sized(
         late,
         listed,
         lengths,
+        marked,
         &mut room[..len],
     );
 }
@@ -385,28 +442,52 @@ fn fill_delays(s: &[u8], at: usize, delays: &mut [i32]) -> Slice {
     c
 }
 
+// Writes the deck whose list and marked nodes stand at a place, and answers the place behind them.
+fn write_at(
+    s: &[u8],
+    at: usize,
+    q: Asked,
+    starts: &[u32],
+    ends: &[u32],
+    early: &[i32],
+    late: &[i32],
+) -> usize {
+    let mut listed = [0u32; 8200];
+    let mut lengths = [0u32; 1040];
+    let mut marked = [0u32; 4200];
+    let a = fill(s, at, &mut listed);
+    let b = fill(s, a.next, &mut lengths);
+    let c = fill(s, b.next, &mut marked);
+    write_sized(
+        q,
+        starts,
+        ends,
+        early,
+        late,
+        front(&listed, a.len),
+        front(&lengths, b.len),
+        front(&marked, c.len),
+    );
+    c.next
+}
+
 pub(crate) fn write_case(s: &[u8], at: usize) -> usize {
     let q = read_asked(s, at);
     let mut starts = [0u32; 16400];
     let mut ends = [0u32; 16400];
     let mut early = [0i32; 16400];
     let mut late = [0i32; 16400];
-    let mut listed = [0u32; 8200];
-    let mut lengths = [0u32; 1040];
     let a = fill(s, q.next, &mut starts);
     let b = fill(s, a.next, &mut ends);
     let c = fill_delays(s, b.next, &mut early);
     let d = fill_delays(s, c.next, &mut late);
-    let e = fill(s, d.next, &mut listed);
-    let f = fill(s, e.next, &mut lengths);
-    write_sized(
+    write_at(
+        s,
+        d.next,
         q,
         front(&starts, a.len),
         front(&ends, b.len),
         front_delays(&early, c.len),
         front_delays(&late, d.len),
-        front(&listed, e.len),
-        front(&lengths, f.len),
-    );
-    f.next
+    )
 }

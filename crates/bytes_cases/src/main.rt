@@ -1,10 +1,11 @@
 // Reads and writes the decks and the graphs on standard input, and prints each answer and what stands
 // in the lent slices afterwards. The input comes in blocks of 65,536 bytes, each with its cases: their
 // count, and for each its kind and what that kind takes, all packed numbers but for the bytes to read.
-// 0 reads a deck: the lengths of the six tables, how many bytes follow, the bytes.
-// 1 writes a deck: n, T, the length of the room, and the deck's six slices.
-// 2 reads a graph: the lengths of the four slices of the room, how many bytes follow, the bytes.
-// 3 writes a graph: the length of the room, and the graph's four slices.
+// 0 reads a deck: the lengths of the seven tables, how many bytes follow, the bytes.
+// 1 writes a deck: n, T, the length of the room, and the deck's seven slices.
+// 2 reads a graph: the lengths of the five slices of the room, how many bytes follow, the bytes.
+// 3 writes a graph: the length of the room, and the graph's five slices.
+// A deck's tables and slices: starts, ends, early and late delays, listed edges, lengths, marked nodes.
 // What was read is then written, and what was written is then read.
 // Crate `cases` says how a slice is packed.
 use libc::STDIN_FILENO;

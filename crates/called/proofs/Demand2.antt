@@ -15,7 +15,7 @@ use Rattle.timing.specs.Series.{heldAfter, wholeAfter}
 use Rattle.timing.specs.Called.{removalOf, Meets, removeOn, front, heldSlices, lastHeld, slicesHeld, graphOn}
 use Rattle.timing.specs.Demands.{Demand2}
 use Rattle.theorems.proofs.Series.{graph-slices}
-use Rattle.theorems.proofs.Records.{removed-demand2, further-demand2}
+use Rattle.theorems.proofs.Records.{from-design-removed, from-graph-removed, removed-demand2, further-demand2}
 use Rattle.theorems.proofs.Records.{series-demand2 as held-demand2}
 use Rattle.theorems.proofs.Called.{front-held, ran-beside}
 use Rattle.called.specs.Removals.{Call, designOf, earlierOf, calledOf, workedOn, pathsIn, Follows}
@@ -41,6 +41,10 @@ abbrev copiesIn : GraphMade → ℕ
 copiesIn (Counts k e) = k
 copiesIn (NoGraph r) = 0
 
+made-sized : (D : Design) (held : Option GraphSlices) (r : Removal) (H : Graph) → removeOn D held r ≡ made H → length (H .endpoints) ≡ length (H .nodes)
+made-sized D none r H q = from-design-removed D r H q .stands .sizes
+made-sized D (some S) r H q = from-graph-removed D S r H q .stands .sizes
+
 -- what a call made: a graph whose slices are the front of the room
 pub record MadeBy (c : Call) (k e : ℕ) : Type 0 where
   pub graph : Graph
@@ -52,7 +56,7 @@ pub made-by : (c : Call) (k e : ℕ) → calledOf c .answer ≡ Counts k e → M
 made-by c k e a =
     let m = meets c in
     let h = made-of (outcomeOf c) k e (sym (m .answer) ∙ a) in
-    let held = front-held none (calledOf c) (made (h .0)) (subst (λ (o : Outcome Graph). Meets o (calledOf c)) (h .1) m) in
+    let held = front-held none (calledOf c) (made (h .0)) (made-sized (designOf c) (earlierOf c) (removalOf (calledOf c)) (h .0) (h .1)) (subst (λ (o : Outcome Graph). Meets o (calledOf c)) (h .1) m) in
     record {
       graph = h .0;
       made = h .1;

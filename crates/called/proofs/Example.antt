@@ -20,11 +20,11 @@ callOn : (D : Design) (held : Option GraphSlices) (c : Called) → Meets (remove
     → (k : Call) × (designOf k ≡ D) × (earlierOf k ≡ held) × (calledOf k ≡ c)
 callOn D none c m = (
   onDesign record {
-    lifetimes = ([], ([], ([], ([], ([], ([], ([], ([], ([], ([], ([], tt)))))))))));
-    passed = (D .nodes, (lent (D .starts), (lent (D .ends), (lent (D .early), (lent (D .late), (lent (c .listed), (lent (c .lengths), (lent (c .room .nodes), (lent (c .room .starts), (lent (c .room .ends), (lent (c .room .names), (lent (c .scratch), tt))))))))))));
+    lifetimes = ([], ([], ([], ([], ([], ([], ([], ([], ([], ([], ([], ([], ([], tt)))))))))))));
+    passed = (D .nodes, (lent (D .starts), (lent (D .ends), (lent (D .early), (lent (D .late), (lent (D .marked), (lent (c .listed), (lent (c .lengths), (lent (c .room .nodes), (lent (c .room .endpoints), (lent (c .room .starts), (lent (c .room .ends), (lent (c .room .names), (lent (c .scratch), tt))))))))))))));
     answer = c .answer;
-    left = (D .nodes, (lent (D .starts), (lent (D .ends), (lent (D .early), (lent (D .late), (lent (c .listed), (lent (c .lengths), (lent (c .after .nodes), (lent (c .after .starts), (lent (c .after .ends), (lent (c .after .names), (lent (c .scratchAt), tt))))))))))));
-    learnt = (m .answer, m .nodes, m .starts, m .ends, m .names, m .scratch);
+    left = (D .nodes, (lent (D .starts), (lent (D .ends), (lent (D .early), (lent (D .late), (lent (D .marked), (lent (c .listed), (lent (c .lengths), (lent (c .after .nodes), (lent (c .after .endpoints), (lent (c .after .starts), (lent (c .after .ends), (lent (c .after .names), (lent (c .scratchAt), tt))))))))))))));
+    learnt = (m .answer, m .nodes, m .endpoints, m .starts, m .ends, m .names, m .scratch);
   },
   refl,
   refl,
@@ -32,11 +32,11 @@ callOn D none c m = (
 )
 callOn D (some S) c m = (
   onGraph record {
-    lifetimes = ([], ([], ([], ([], ([], ([], ([], ([], ([], ([], ([], ([], ([], ([], ([], tt)))))))))))))));
-    passed = (D .nodes, (lent (D .starts), (lent (D .ends), (lent (D .early), (lent (D .late), (lent (c .listed), (lent (c .lengths), (lent (S .nodes), (lent (S .starts), (lent (S .ends), (lent (S .names), (lent (c .room .nodes), (lent (c .room .starts), (lent (c .room .ends), (lent (c .room .names), (lent (c .scratch), tt))))))))))))))));
+    lifetimes = ([], ([], ([], ([], ([], ([], ([], ([], ([], ([], ([], ([], ([], ([], ([], ([], ([], ([], tt))))))))))))))))));
+    passed = (D .nodes, (lent (D .starts), (lent (D .ends), (lent (D .early), (lent (D .late), (lent (D .marked), (lent (c .listed), (lent (c .lengths), (lent (S .nodes), (lent (S .endpoints), (lent (S .starts), (lent (S .ends), (lent (S .names), (lent (c .room .nodes), (lent (c .room .endpoints), (lent (c .room .starts), (lent (c .room .ends), (lent (c .room .names), (lent (c .scratch), tt)))))))))))))))))));
     answer = c .answer;
-    left = (D .nodes, (lent (D .starts), (lent (D .ends), (lent (D .early), (lent (D .late), (lent (c .listed), (lent (c .lengths), (lent (S .nodes), (lent (S .starts), (lent (S .ends), (lent (S .names), (lent (c .after .nodes), (lent (c .after .starts), (lent (c .after .ends), (lent (c .after .names), (lent (c .scratchAt), tt))))))))))))))));
-    learnt = (m .answer, m .nodes, m .starts, m .ends, m .names, m .scratch);
+    left = (D .nodes, (lent (D .starts), (lent (D .ends), (lent (D .early), (lent (D .late), (lent (D .marked), (lent (c .listed), (lent (c .lengths), (lent (S .nodes), (lent (S .endpoints), (lent (S .starts), (lent (S .ends), (lent (S .names), (lent (c .after .nodes), (lent (c .after .endpoints), (lent (c .after .starts), (lent (c .after .ends), (lent (c .after .names), (lent (c .scratchAt), tt)))))))))))))))))));
+    learnt = (m .answer, m .nodes, m .endpoints, m .starts, m .ends, m .names, m .scratch);
   },
   refl,
   refl,

@@ -29,4 +29,4 @@ pub list-test-placed : (c : ListTest) (x : Refusal) → c .answer ≡ Refused x 
 list-test-placed c x e = list-placed (listDesign c) (listTested c) x (sym (c .learnt) ∙ e)
 
 pub deck-test-placed : (c : DeckTest) (x : Refusal) → c .answer ≡ Refused x → Placed (deckDesign c) (pathsOf (deckTested c)) x
-deck-test-placed c x e = deck-placed (deckDesign c) (deckTested c) (c .passed .1 .1 .1 .1 .1 .1 .1 .0) x (sym (c .learnt) ∙ e)
+deck-test-placed c x e = deck-placed (deckDesign c) (deckTested c) (c .passed .1 .1 .1 .1 .1 .1 .1 .1 .0) x (sym (c .learnt) ∙ e)

@@ -12,10 +12,10 @@ use Rattle.called.specs.Removals.{Call, onDesign, onGraph, designOf, ear
 pub meets : (c : Call) → Meets (removeOn (designOf c) (earlierOf c) (removalOf (calledOf c))) (calledOf c)
 meets (onDesign c) =
     let e = c .learnt in
-    record { answer = e .0; nodes = e .1; starts = e .2; ends = e .3; names = e .4; scratch = e .5 }
+    record { answer = e .0; nodes = e .1; endpoints = e .2; starts = e .3; ends = e .4; names = e .5; scratch = e .6 }
 meets (onGraph c) =
     let e = c .learnt in
-    record { answer = e .0; nodes = e .1; starts = e .2; ends = e .3; names = e .4; scratch = e .5 }
+    record { answer = e .0; nodes = e .1; endpoints = e .2; starts = e .3; ends = e .4; names = e .5; scratch = e .6 }
 
 -- the same of a call on design D and what is held
 pub meets-on : (D : Design) (held : Option GraphSlices) (c : Call) → designOf c ≡ D → earlierOf c ≡ held → Meets (removeOn D held (removalOf (calledOf c))) (calledOf c)

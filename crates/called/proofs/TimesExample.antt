@@ -29,10 +29,10 @@ abbrev timesOn : Design → ℕ → GraphSlices → List ℤ → List ℤ → Li
 timesOn D T S ats rts sts ets =
     let v : Verdict = testTimes D S T (length ats) (length rts) (length sts) (length ets) in
     record {
-      lifetimes = ([], ([], ([], ([], ([], ([], ([], ([], ([], ([], ([], ([], tt))))))))))));
-      passed = (D .nodes, (lent (D .starts), (lent (D .ends), (lent (D .early), (lent (D .late), (T, (lent (S .nodes), (lent (S .starts), (lent (S .ends), (lent (S .names), (lent ats, (lent rts, (lent sts, (lent ets, tt))))))))))))));
+      lifetimes = ([], ([], ([], ([], ([], ([], ([], ([], ([], ([], ([], ([], ([], ([], tt))))))))))))));
+      passed = (D .nodes, (lent (D .starts), (lent (D .ends), (lent (D .early), (lent (D .late), (lent (D .marked), (T, (lent (S .nodes), (lent (S .endpoints), (lent (S .starts), (lent (S .ends), (lent (S .names), (lent ats, (lent rts, (lent sts, (lent ets, tt))))))))))))))));
       answer = v;
-      left = (D .nodes, (lent (D .starts), (lent (D .ends), (lent (D .early), (lent (D .late), (T, (lent (S .nodes), (lent (S .starts), (lent (S .ends), (lent (S .names), (lent (arrivalsAfter D S T v ats), (lent (requiredsAfter D S T v rts), (lent (slacksAfter D S T v sts), (lent (earliestsAfter D S v ets), tt))))))))))))));
+      left = (D .nodes, (lent (D .starts), (lent (D .ends), (lent (D .early), (lent (D .late), (lent (D .marked), (T, (lent (S .nodes), (lent (S .endpoints), (lent (S .starts), (lent (S .ends), (lent (S .names), (lent (arrivalsAfter D S T v ats), (lent (requiredsAfter D S T v rts), (lent (slacksAfter D S T v sts), (lent (earliestsAfter D S v ets), tt))))))))))))))));
       learnt = (refl, refl, refl, refl, refl);
     }
 
@@ -50,7 +50,7 @@ record-on t v = record { nodes = refl; copies = refl; arrivals = refl; requireds
 
 -- what the example series holds
 abbrev held : GraphSlices
-held = graphSlices (0 ∷ 1 ∷ 2 ∷ 2 ∷ 3 ∷ 4 ∷ []) (1 ∷ 0 ∷ 3 ∷ 2 ∷ []) (2 ∷ 3 ∷ 4 ∷ 5 ∷ []) (1 ∷ 0 ∷ 2 ∷ 3 ∷ [])
+held = graphSlices (0 ∷ 1 ∷ 2 ∷ 2 ∷ 3 ∷ 4 ∷ []) (0 ∷ 0 ∷ 0 ∷ 0 ∷ 1 ∷ 1 ∷ []) (1 ∷ 0 ∷ 3 ∷ 2 ∷ []) (2 ∷ 3 ∷ 4 ∷ 5 ∷ []) (1 ∷ 0 ∷ 2 ∷ 3 ∷ [])
 
 is-held : lastHeld none (map calledOf (example .0)) ≡ some held
 is-held = ap (λ (cs : List Called). lastHeld none cs) (example .2)

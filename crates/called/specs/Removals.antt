@@ -18,7 +18,7 @@ use Rattle.removal.proofs.remove_from_graph.Reads.{Learnt as GraphLearnt}
 
 -- a call of `remove_from_design`
 pub record DesignCall : Type 0 where
-  pub lifetimes : Lfts 11
+  pub lifetimes : Lfts 13
   pub passed : ArgsD designSignature lifetimes
   pub answer : ResD designSignature lifetimes
   pub left : AtExit designEnded lifetimes
@@ -26,7 +26,7 @@ pub record DesignCall : Type 0 where
 
 -- a call of `remove_from_graph`
 pub record GraphCall : Type 0 where
-  pub lifetimes : Lfts 15
+  pub lifetimes : Lfts 18
   pub passed : ArgsD graphSignature lifetimes
   pub answer : ResD graphSignature lifetimes
   pub left : AtExit graphEnded lifetimes
@@ -36,45 +36,45 @@ pub data Call : Type 0 where
   onDesign : DesignCall → Call
   onGraph : GraphCall → Call
 
--- What stands in a call's slices, parameter by parameter: n, starts, ends, early, late; listed, lengths; the earlier graph's four; the
--- room's four; the scratch.
+-- What stands in a call's slices, parameter by parameter: n, starts, ends, early, late, marked; listed, lengths; the earlier graph's
+-- five; the room's five; the scratch.
 abbrev pub designOf : Call → Design
-designOf (onDesign c) = let a = c .passed in design (a .0) (a .1 .0 .now) (a .1 .1 .0 .now) (a .1 .1 .1 .0 .now) (a .1 .1 .1 .1 .0 .now)
-designOf (onGraph c) = let a = c .passed in design (a .0) (a .1 .0 .now) (a .1 .1 .0 .now) (a .1 .1 .1 .0 .now) (a .1 .1 .1 .1 .0 .now)
+designOf (onDesign c) = let a = c .passed in design (a .0) (a .1 .0 .now) (a .1 .1 .0 .now) (a .1 .1 .1 .0 .now) (a .1 .1 .1 .1 .0 .now) (a .1 .1 .1 .1 .1 .0 .now)
+designOf (onGraph c) = let a = c .passed in design (a .0) (a .1 .0 .now) (a .1 .1 .0 .now) (a .1 .1 .1 .0 .now) (a .1 .1 .1 .1 .0 .now) (a .1 .1 .1 .1 .1 .0 .now)
 
 -- the earlier graph that a call was lent
 abbrev pub earlierOf : Call → Option GraphSlices
 earlierOf (onDesign c) = none
 earlierOf (onGraph c) =
-    let a = c .passed .1 .1 .1 .1 .1 .1 .1 in
-    some (graphSlices (a .0 .now) (a .1 .0 .now) (a .1 .1 .0 .now) (a .1 .1 .1 .0 .now))
+    let a = c .passed .1 .1 .1 .1 .1 .1 .1 .1 in
+    some (graphSlices (a .0 .now) (a .1 .0 .now) (a .1 .1 .0 .now) (a .1 .1 .1 .0 .now) (a .1 .1 .1 .1 .0 .now))
 
 abbrev pub calledOf : Call → Called
 calledOf (onDesign c) =
-    let list = c .passed .1 .1 .1 .1 .1 in
+    let list = c .passed .1 .1 .1 .1 .1 .1 in
     let lent = list .1 .1 in
-    let left = c .left .1 .1 .1 .1 .1 .1 .1 in
+    let left = c .left .1 .1 .1 .1 .1 .1 .1 .1 in
     record {
       listed = list .0 .now;
       lengths = list .1 .0 .now;
-      room = graphSlices (lent .0 .now) (lent .1 .0 .now) (lent .1 .1 .0 .now) (lent .1 .1 .1 .0 .now);
-      scratch = lent .1 .1 .1 .1 .0 .now;
+      room = graphSlices (lent .0 .now) (lent .1 .0 .now) (lent .1 .1 .0 .now) (lent .1 .1 .1 .0 .now) (lent .1 .1 .1 .1 .0 .now);
+      scratch = lent .1 .1 .1 .1 .1 .0 .now;
       answer = c .answer;
-      after = graphSlices (left .0 .now) (left .1 .0 .now) (left .1 .1 .0 .now) (left .1 .1 .1 .0 .now);
-      scratchAt = left .1 .1 .1 .1 .0 .now;
+      after = graphSlices (left .0 .now) (left .1 .0 .now) (left .1 .1 .0 .now) (left .1 .1 .1 .0 .now) (left .1 .1 .1 .1 .0 .now);
+      scratchAt = left .1 .1 .1 .1 .1 .0 .now;
     }
 calledOf (onGraph c) =
-    let list = c .passed .1 .1 .1 .1 .1 in
-    let lent = list .1 .1 .1 .1 .1 .1 in
-    let left = c .left .1 .1 .1 .1 .1 .1 .1 .1 .1 .1 .1 in
+    let list = c .passed .1 .1 .1 .1 .1 .1 in
+    let lent = list .1 .1 .1 .1 .1 .1 .1 in
+    let left = c .left .1 .1 .1 .1 .1 .1 .1 .1 .1 .1 .1 .1 .1 in
     record {
       listed = list .0 .now;
       lengths = list .1 .0 .now;
-      room = graphSlices (lent .0 .now) (lent .1 .0 .now) (lent .1 .1 .0 .now) (lent .1 .1 .1 .0 .now);
-      scratch = lent .1 .1 .1 .1 .0 .now;
+      room = graphSlices (lent .0 .now) (lent .1 .0 .now) (lent .1 .1 .0 .now) (lent .1 .1 .1 .0 .now) (lent .1 .1 .1 .1 .0 .now);
+      scratch = lent .1 .1 .1 .1 .1 .0 .now;
       answer = c .answer;
-      after = graphSlices (left .0 .now) (left .1 .0 .now) (left .1 .1 .0 .now) (left .1 .1 .1 .0 .now);
-      scratchAt = left .1 .1 .1 .1 .0 .now;
+      after = graphSlices (left .0 .now) (left .1 .0 .now) (left .1 .1 .0 .now) (left .1 .1 .1 .0 .now) (left .1 .1 .1 .1 .0 .now);
+      scratchAt = left .1 .1 .1 .1 .1 .0 .now;
     }
 
 -- the graph that a call works on, and its listed paths

@@ -12,7 +12,7 @@ use Rattle.unfit.proofs.test_deck.Reads.{Learnt as DeckLearnt}
 
 -- a call of `test_list`
 pub record ListTest : Type 0 where
-  pub lifetimes : Lfts 6
+  pub lifetimes : Lfts 7
   pub passed : ArgsD listSignature lifetimes
   pub answer : ResD listSignature lifetimes
   pub left : AtExit listEnded lifetimes
@@ -20,21 +20,21 @@ pub record ListTest : Type 0 where
 
 -- a call of `test_deck`
 pub record DeckTest : Type 0 where
-  pub lifetimes : Lfts 6
+  pub lifetimes : Lfts 7
   pub passed : ArgsD deckSignature lifetimes
   pub answer : ResD deckSignature lifetimes
   pub left : AtExit deckEnded lifetimes
   pub learnt : DeckLearnt lifetimes passed answer left
 
--- What stands in their slices, parameter by parameter: n, starts, ends, early, late; listed, lengths; of the second T.
+-- What stands in their slices, parameter by parameter: n, starts, ends, early, late, marked; listed, lengths; of the second T.
 abbrev pub listDesign : ListTest → Design
-listDesign c = let a = c .passed in design (a .0) (a .1 .0 .now) (a .1 .1 .0 .now) (a .1 .1 .1 .0 .now) (a .1 .1 .1 .1 .0 .now)
+listDesign c = let a = c .passed in design (a .0) (a .1 .0 .now) (a .1 .1 .0 .now) (a .1 .1 .1 .0 .now) (a .1 .1 .1 .1 .0 .now) (a .1 .1 .1 .1 .1 .0 .now)
 
 abbrev pub listTested : ListTest → PathList
-listTested c = let a = c .passed .1 .1 .1 .1 .1 in pathList (a .0 .now) (a .1 .0 .now)
+listTested c = let a = c .passed .1 .1 .1 .1 .1 .1 in pathList (a .0 .now) (a .1 .0 .now)
 
 abbrev pub deckDesign : DeckTest → Design
-deckDesign c = let a = c .passed in design (a .0) (a .1 .0 .now) (a .1 .1 .0 .now) (a .1 .1 .1 .0 .now) (a .1 .1 .1 .1 .0 .now)
+deckDesign c = let a = c .passed in design (a .0) (a .1 .0 .now) (a .1 .1 .0 .now) (a .1 .1 .1 .0 .now) (a .1 .1 .1 .1 .0 .now) (a .1 .1 .1 .1 .1 .0 .now)
 
 abbrev pub deckTested : DeckTest → PathList
-deckTested c = let a = c .passed .1 .1 .1 .1 .1 in pathList (a .0 .now) (a .1 .0 .now)
+deckTested c = let a = c .passed .1 .1 .1 .1 .1 .1 in pathList (a .0 .now) (a .1 .0 .now)

@@ -18,46 +18,46 @@ use Rattle.times.proofs.node_record.Reads.{Learnt as RecordLearnt}
 
 -- a call of `times`
 pub record TimesCall : Type 0 where
-  pub lifetimes : Lfts 12
+  pub lifetimes : Lfts 14
   pub passed : ArgsD timesSignature lifetimes
   pub answer : ResD timesSignature lifetimes
   pub left : AtExit timesEnded lifetimes
   pub learnt : TimesLearnt lifetimes passed answer left
 
--- what stands in its slices: n, starts, ends, early, late; T; the graph's four; the times' four
+-- what stands in its slices: n, starts, ends, early, late, marked; T; the graph's five; the times' four
 abbrev pub timedDesign : TimesCall → Design
-timedDesign c = let a = c .passed in design (a .0) (a .1 .0 .now) (a .1 .1 .0 .now) (a .1 .1 .1 .0 .now) (a .1 .1 .1 .1 .0 .now)
+timedDesign c = let a = c .passed in design (a .0) (a .1 .0 .now) (a .1 .1 .0 .now) (a .1 .1 .1 .0 .now) (a .1 .1 .1 .1 .0 .now) (a .1 .1 .1 .1 .1 .0 .now)
 
 abbrev pub allowedTime : TimesCall → ℕ
-allowedTime c = c .passed .1 .1 .1 .1 .1 .0
+allowedTime c = c .passed .1 .1 .1 .1 .1 .1 .0
 
 abbrev pub timedGraph : TimesCall → GraphSlices
-timedGraph c = let a = c .passed .1 .1 .1 .1 .1 .1 in graphSlices (a .0 .now) (a .1 .0 .now) (a .1 .1 .0 .now) (a .1 .1 .1 .0 .now)
+timedGraph c = let a = c .passed .1 .1 .1 .1 .1 .1 .1 in graphSlices (a .0 .now) (a .1 .0 .now) (a .1 .1 .0 .now) (a .1 .1 .1 .0 .now) (a .1 .1 .1 .1 .0 .now)
 
 -- the slices of times, as they were lent and as they are left
 abbrev pub arrivalsLent : TimesCall → List ℤ
-arrivalsLent c = c .passed .1 .1 .1 .1 .1 .1 .1 .1 .1 .1 .0 .now
+arrivalsLent c = c .passed .1 .1 .1 .1 .1 .1 .1 .1 .1 .1 .1 .1 .0 .now
 
 abbrev pub requiredsLent : TimesCall → List ℤ
-requiredsLent c = c .passed .1 .1 .1 .1 .1 .1 .1 .1 .1 .1 .1 .0 .now
+requiredsLent c = c .passed .1 .1 .1 .1 .1 .1 .1 .1 .1 .1 .1 .1 .1 .0 .now
 
 abbrev pub slacksLent : TimesCall → List ℤ
-slacksLent c = c .passed .1 .1 .1 .1 .1 .1 .1 .1 .1 .1 .1 .1 .0 .now
+slacksLent c = c .passed .1 .1 .1 .1 .1 .1 .1 .1 .1 .1 .1 .1 .1 .1 .0 .now
 
 abbrev pub earliestsLent : TimesCall → List ℤ
-earliestsLent c = c .passed .1 .1 .1 .1 .1 .1 .1 .1 .1 .1 .1 .1 .1 .0 .now
+earliestsLent c = c .passed .1 .1 .1 .1 .1 .1 .1 .1 .1 .1 .1 .1 .1 .1 .1 .0 .now
 
 abbrev pub arrivalsLeft : TimesCall → List ℤ
-arrivalsLeft c = c .left .1 .1 .1 .1 .1 .1 .1 .1 .1 .1 .0 .now
+arrivalsLeft c = c .left .1 .1 .1 .1 .1 .1 .1 .1 .1 .1 .1 .1 .0 .now
 
 abbrev pub requiredsLeft : TimesCall → List ℤ
-requiredsLeft c = c .left .1 .1 .1 .1 .1 .1 .1 .1 .1 .1 .1 .0 .now
+requiredsLeft c = c .left .1 .1 .1 .1 .1 .1 .1 .1 .1 .1 .1 .1 .1 .0 .now
 
 abbrev pub slacksLeft : TimesCall → List ℤ
-slacksLeft c = c .left .1 .1 .1 .1 .1 .1 .1 .1 .1 .1 .1 .1 .0 .now
+slacksLeft c = c .left .1 .1 .1 .1 .1 .1 .1 .1 .1 .1 .1 .1 .1 .1 .0 .now
 
 abbrev pub earliestsLeft : TimesCall → List ℤ
-earliestsLeft c = c .left .1 .1 .1 .1 .1 .1 .1 .1 .1 .1 .1 .1 .1 .0 .now
+earliestsLeft c = c .left .1 .1 .1 .1 .1 .1 .1 .1 .1 .1 .1 .1 .1 .1 .1 .0 .now
 
 -- the times left at copy h are those of the paths P, each cut into two parts
 abbrev pub TimesLeft : TimesCall → ℕ → (List Edge → List Edge → Type 0) → Type 0

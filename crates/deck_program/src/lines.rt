@@ -40,7 +40,7 @@ fn put_named_time(buf: &mut Text, at: usize, word: &[u8], t: i64) -> usize {
     put_time(buf, next, t)
 }
 
-// Four times, each behind a word, and the end of the line.
+// Four times, each behind a word.
 fn put_times(
     buf: &mut Text,
     at: usize,
@@ -56,8 +56,15 @@ fn put_times(
     let x = put_named_time(buf, at, before_arrival, arrival);
     let y = put_named_time(buf, x, before_required, required);
     let z = put_named_time(buf, y, before_slack, slack);
-    let e = put_named_time(buf, z, before_earliest, earliest);
-    end_line(buf, e)
+    put_named_time(buf, z, before_earliest, earliest)
+}
+
+// A last word where paths end.
+fn put_end(buf: &mut Text, at: usize, endpoint: u32) -> usize {
+    if endpoint == 1 {
+        return put_text(buf, at, b" end");
+    }
+    at
 }
 
 fn put_copy(
@@ -65,13 +72,14 @@ fn put_copy(
     at: usize,
     copy: usize,
     node: u32,
+    endpoint: u32,
     arrival: i64,
     required: i64,
     slack: i64,
     earliest: i64,
 ) -> usize {
     let next = put_two(buf, at, b"copy ", copy as u64, b" node ", node as u64);
-    put_times(
+    let next = put_times(
         buf,
         next,
         b" arrival ",
@@ -82,13 +90,16 @@ fn put_copy(
         slack,
         b" earliest ",
         earliest,
-    )
+    );
+    let next = put_end(buf, next, endpoint);
+    end_line(buf, next)
 }
 
 fn put_copies(
     buf: &mut Text,
     at: usize,
     nodes: &[u32],
+    endpoint: &[u32],
     arrivals: &[i64],
     requireds: &[i64],
     slacks: &[i64],
@@ -102,6 +113,7 @@ fn put_copies(
             next,
             c,
             number_at(nodes, c),
+            number_at(endpoint, c),
             time_at(arrivals, c),
             time_at(requireds, c),
             time_at(slacks, c),
@@ -138,6 +150,7 @@ fn put_edges(buf: &mut Text, at: usize, from: &[u32], to: &[u32], via: &[u32]) -
 pub(crate) fn put_graph(
     buf: &mut Text,
     nodes: &[u32],
+    endpoint: &[u32],
     arrivals: &[i64],
     requireds: &[i64],
     slacks: &[i64],
@@ -147,7 +160,16 @@ pub(crate) fn put_graph(
     via: &[u32],
 ) -> usize {
     let a = put_counts(buf, 0, nodes.len(), from.len());
-    let b = put_copies(buf, a, nodes, arrivals, requireds, slacks, earliests);
+    let b = put_copies(
+        buf,
+        a,
+        nodes,
+        endpoint,
+        arrivals,
+        requireds,
+        slacks,
+        earliests,
+    );
     put_edges(buf, b, from, to, via)
 }
 
@@ -166,7 +188,7 @@ fn put_node(
         let next = put_text(buf, next, b" none");
         return end_line(buf, next);
     }
-    put_times(
+    let next = put_times(
         buf,
         next,
         b" ",
@@ -177,7 +199,8 @@ fn put_node(
         slack,
         b" ",
         earliest,
-    )
+    );
+    end_line(buf, next)
 }
 
 pub(crate) fn put_nodes(

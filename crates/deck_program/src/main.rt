@@ -1,5 +1,5 @@
 // The deck program: reads a deck on standard input, and prints its true graph with all times, or the
-// refusal. Every number printed is from a proved call; the sizes are document 01's.
+// refusal. Every number printed is from a proved call; the sizes are those of documents 01 and 02.
 mod lines;
 mod text;
 
@@ -105,6 +105,7 @@ fn say_found(
     v: Verdict,
     n: u32,
     nodes: &[u32],
+    endpoint: &[u32],
     from: &[u32],
     to: &[u32],
     via: &[u32],
@@ -118,6 +119,7 @@ fn say_found(
             let at = put_graph(
                 buf,
                 nodes,
+                endpoint,
                 arrivals,
                 requireds,
                 slacks,
@@ -140,8 +142,10 @@ fn say_times(
     ends: &[u32],
     early: &[i32],
     late: &[i32],
+    marked: &[u32],
     allowed: u32,
     nodes: &[u32],
+    endpoint: &[u32],
     from: &[u32],
     to: &[u32],
     via: &[u32],
@@ -156,8 +160,10 @@ fn say_times(
         ends,
         early,
         late,
+        marked,
         allowed,
         nodes,
+        endpoint,
         from,
         to,
         via,
@@ -171,6 +177,7 @@ fn say_times(
         v,
         n,
         nodes,
+        endpoint,
         from,
         to,
         via,
@@ -188,8 +195,10 @@ fn say_graph(
     ends: &[u32],
     early: &[i32],
     late: &[i32],
+    marked: &[u32],
     allowed: u32,
     nodes: &[u32],
+    endpoint: &[u32],
     from: &[u32],
     to: &[u32],
     via: &[u32],
@@ -206,8 +215,10 @@ fn say_graph(
         ends,
         early,
         late,
+        marked,
         allowed,
         nodes,
+        endpoint,
         from,
         to,
         via,
@@ -226,8 +237,10 @@ fn say_made(
     ends: &[u32],
     early: &[i32],
     late: &[i32],
+    marked: &[u32],
     allowed: u32,
     room_nodes: &[u32],
+    room_endpoint: &[u32],
     room_from: &[u32],
     room_to: &[u32],
     room_via: &[u32],
@@ -241,8 +254,10 @@ fn say_made(
             ends,
             early,
             late,
+            marked,
             allowed,
             front(room_nodes, copies),
+            front(room_endpoint, copies),
             front(room_from, edges),
             front(room_to, edges),
             front(room_via, edges),
@@ -258,11 +273,13 @@ fn say_removal(
     ends: &[u32],
     early: &[i32],
     late: &[i32],
+    marked: &[u32],
     listed: &[u32],
     lengths: &[u32],
     allowed: u32,
 ) -> usize {
     let mut room_nodes = [0; 512];
+    let mut room_endpoint = [0; 512];
     let mut room_from = [0; 2048];
     let mut room_to = [0; 2048];
     let mut room_via = [0; 2048];
@@ -273,9 +290,11 @@ fn say_removal(
         ends,
         early,
         late,
+        marked,
         listed,
         lengths,
         &mut room_nodes,
+        &mut room_endpoint,
         &mut room_from,
         &mut room_to,
         &mut room_via,
@@ -289,8 +308,10 @@ fn say_removal(
         ends,
         early,
         late,
+        marked,
         allowed,
         &room_nodes,
+        &room_endpoint,
         &room_from,
         &room_to,
         &room_via,
@@ -305,15 +326,37 @@ fn say_deck(
     ends: &[u32],
     early: &[i32],
     late: &[i32],
+    marked: &[u32],
     listed: &[u32],
     lengths: &[u32],
     allowed: u32,
 ) -> usize {
-    let verdict = unfit::test_deck(n, starts, ends, early, late, listed, lengths, allowed);
+    let verdict = unfit::test_deck(
+        n,
+        starts,
+        ends,
+        early,
+        late,
+        marked,
+        listed,
+        lengths,
+        allowed,
+    );
     if let Verdict::Refused(r) = verdict {
         return put_refused(buf, 0, r);
     }
-    say_removal(buf, n, starts, ends, early, late, listed, lengths, allowed)
+    say_removal(
+        buf,
+        n,
+        starts,
+        ends,
+        early,
+        late,
+        marked,
+        listed,
+        lengths,
+        allowed,
+    )
 }
 
 fn say_read(
@@ -325,6 +368,7 @@ fn say_read(
     late: &[i32],
     listed: &[u32],
     lengths: &[u32],
+    marked: &[u32],
 ) -> usize {
     match read {
         DeckRead::Refused(r) => put_refused(buf, 0, r),
@@ -333,6 +377,7 @@ fn say_read(
             edges,
             listed: count,
             paths,
+            marked: marked_count,
             allowed,
         } => say_deck(
             buf,
@@ -341,6 +386,7 @@ fn say_read(
             front(ends, edges),
             front_delays(early, edges),
             front_delays(late, edges),
+            front(marked, marked_count),
             front(listed, count),
             front(lengths, paths),
             allowed,
@@ -356,6 +402,7 @@ fn say(buf: &mut Text, deck: &[u8]) -> usize {
     let mut late = [0; 1024];
     let mut listed = [0; 1024];
     let mut lengths = [0; 256];
+    let mut marked = [0; 1024];
     let read = deck_reader::read_deck(
         deck,
         &mut starts,
@@ -364,8 +411,19 @@ fn say(buf: &mut Text, deck: &[u8]) -> usize {
         &mut late,
         &mut listed,
         &mut lengths,
+        &mut marked,
     );
-    say_read(buf, read, &starts, &ends, &early, &late, &listed, &lengths)
+    say_read(
+        buf,
+        read,
+        &starts,
+        &ends,
+        &early,
+        &late,
+        &listed,
+        &lengths,
+        &marked,
+    )
 }
 
 // Whether a further byte stands on standard input.

@@ -17,11 +17,12 @@ use Rattle.timing.specs.Marks.{PathList, pathList}
 use Rattle.timing.specs.Numbers.{readNumber}
 use Rattle.timing.specs.Refusals.{refusal, unless, _then_}
 use Rattle.timing.specs.Parsing.{Parsed, found, stopped, Reader, onward, _>>=_, _>>_, return, tested, parsedNumber, number, repeated, ended}
-use Rattle.timing.specs.Decks.{Tables, edgeRow, paths, readDeck}
+use Rattle.timing.specs.Tests.{markedCount}
+use Rattle.timing.specs.Decks.{Deck, Tables, edgeRow, designOf, paths, readDeck}
 use Rattle.timing.specs.declared.Looked.{Looked}
 use Rattle.timing.specs.declared.Looked.the-variants.{At, Refused}
-use Rattle.timing.specs.Looks.{looked, numberOf}
-use Rattle.deck_reader.specs.Reading.{verdictOf, nodesIn, countIn, pathIn, edgesIn, designIn, listIn, tailIn, placeOf, behind, verdictBehind}
+use Rattle.timing.specs.Looks.{looked, numberOf, valueOf, valueAt}
+use Rattle.deck_reader.specs.Reading.{verdictOf, nodesIn, countIn, pathIn, edgesIn, designIn, listIn, markedCountIn, markedIn, listsIn, tailIn, placeOf, behind, verdictBehind}
 use Rattle.timing.proofs.Verdicts.{then-passed, unless-passed}
 use Rattle.packed_lists.proofs.Looking.{looked-made, Spans, spans-number, spans-rows}
 
@@ -180,6 +181,32 @@ nodes-is s at v next w e f = rw (f, e)
 pub nodes-none : (s : List ℕ) (at : ℕ) (r : Refusal) → readNumber s at ≡ NotRead r → NotRead r ≡ numberOf (nodesIn s at)
 nodes-none s at r e = rw e
 
+-- the count of marked nodes, by what was read
+pub marked-is : (s : List ℕ) (n table at v next count : ℕ) (u w : Verdict) → readNumber s at ≡ Value v next → count ≡ v
+    → u ≡ markedCount n count → w ≡ (u then unless 36 (leb count table)) → numberOf (onward (tested w next) (λ x. return v)) ≡ numberOf (markedCountIn s n table at)
+marked-is s n table at v next count u w e f g h = rw (h, g, f, e)
+
+pub marked-none : (s : List ℕ) (n table at : ℕ) (r : Refusal) → readNumber s at ≡ NotRead r → NotRead r ≡ numberOf (markedCountIn s n table at)
+marked-none s n table at r e = rw e
+
+-- what stands behind a part, by what the look at the part answered
+module _ {A B : Type 0} (p : Parsed A) (f : Reader B) where
+  pub part-at : (at : ℕ) (l : Looked) → looked p ≡ At at → l ≡ looked (f at) → l ≡ looked (onward p (λ x. f))
+  part-at at l e g = by p e
+    where
+      by : (p : Parsed A) → looked p ≡ At at → l ≡ looked (onward p (λ x. f))
+      by (found x a) q =
+          let b : at ≡ a = cc in
+          rw (← b) g
+      by (stopped r) q = absurd (let z : _≡_ {A = ℕ} 0 1 = cc in omega arith)
+
+  pub part-stop : (r : Refusal) → looked p ≡ Refused r → Refused r ≡ looked (onward p (λ x. f))
+  part-stop r e = by p e
+    where
+      by : (p : Parsed A) → looked p ≡ Refused r → Refused r ≡ looked (onward p (λ x. f))
+      by (found x a) q = absurd (let z : _≡_ {A = ℕ} 0 1 = cc in omega arith)
+      by (stopped r') q = let d : r ≡ r' = cc in rw d
+
 -- The look at the whole is the reader's verdict.
 -- part by part, each from the place that the one before it got to
 steps : {A B C : Type 0} (p : Parsed A) (f : Reader B) (g : Reader C)
@@ -206,18 +233,19 @@ counted {A} {B} s test limit table at f g h = one (readNumber s at)
         rw d (two n a (unless test (leb n limit) then unless 36 (leb n table)))
     one (NotRead r) = refl
 
--- a limit and no table
-limited : {A B : Type 0} (s : List ℕ) (at : ℕ) (f : ℕ → Reader A) (g : ℕ → Reader B) → ((n a : ℕ) → verdictOf (f n a) ≡ verdictOf (g n a))
-    → verdictOf (onward (nodesIn s at) f) ≡ verdictOf (onward (number s at) (λ n. tested (unless 10 (leb n 4096)) >> g n))
-limited {A} {B} s at f g h = one (readNumber s at)
+-- a number with a test of its own, which is the number that stands there
+judged : {A B : Type 0} (s : List ℕ) (at : ℕ) (test : ℕ → Verdict) (f : ℕ → Reader A) (g : ℕ → Reader B) → ((n a : ℕ) → valueAt s at ≡ n → verdictOf (f n a) ≡ verdictOf (g n a))
+    → verdictOf (onward (onward (number s at) (λ n. tested (test n) >> return n)) f) ≡ verdictOf (onward (number s at) (λ n. tested (test n) >> g n))
+unfolding valueAt
+judged {A} {B} s at test f g h = one (readNumber s at) refl
   where
-    two : (n a : ℕ) (w : Verdict) → verdictOf (onward (onward (tested w a) (λ u. return n)) f) ≡ verdictOf (onward (tested w a) (λ u. g n))
-    two n a Passed = h n a
-    two n a (NotPassed r) = refl
+    two : (n a : ℕ) (w : Verdict) → valueOf (readNumber s at) ≡ n → verdictOf (onward (onward (tested w a) (λ u. return n)) f) ≡ verdictOf (onward (tested w a) (λ u. g n))
+    two n a Passed e = h n a e
+    two n a (NotPassed r) e = refl
 
-    one : (r : NumberRead) → verdictOf (onward (onward (parsedNumber r) (λ n. tested (unless 10 (leb n 4096)) >> return n)) f) ≡ verdictOf (onward (parsedNumber r) (λ n. tested (unless 10 (leb n 4096)) >> g n))
-    one (Value n a) = two n a (unless 10 (leb n 4096))
-    one (NotRead r) = refl
+    one : (r : NumberRead) → readNumber s at ≡ r → verdictOf (onward (onward (parsedNumber r) (λ n. tested (test n) >> return n)) f) ≡ verdictOf (onward (parsedNumber r) (λ n. tested (test n) >> g n))
+    one (Value n a) q = two n a (test n) (ap valueOf q)
+    one (NotRead r) q = refl
 
 tail-made : {A : Type 0} (s : List ℕ) (at : ℕ) (f : ℕ → A) → verdictOf (tailIn s at) ≡ verdictOf ((number s >>= (λ t. ended s >> return (f t))) at)
 tail-made {A} s at f = verdict-onward (number s at) (λ t. ended s) (λ t. ended s >> return (f t)) (λ t a. by t (ended s a))
@@ -226,19 +254,44 @@ tail-made {A} s at f = verdict-onward (number s at) (λ t. ended s) (λ t. ended
     by t (found u a) = refl
     by t (stopped r) = refl
 
+-- the reader's rest behind the edges, for the deck that it makes with these
+abbrev restReader : List ℕ → Tables → ℕ → (PathList → List ℕ → ℕ → Deck) → Reader Deck
+restReader s tables n f = do
+  count ← number s
+  tested (unless 20 (leb count 1024) then unless 36 (leb count (tables .paths)))
+  list ← paths s (tables .listed) count 0
+  k ← number s
+  tested (markedCount n k then unless 36 (leb k (tables .marked)))
+  marked ← repeated k (number s)
+  allowed ← number s
+  ended s
+  return (f list marked allowed)
+
+rest-made : (s : List ℕ) (tables : Tables) (n : ℕ) (f : PathList → List ℕ → ℕ → Deck) (at : ℕ)
+    → verdictOf ((listsIn s n (tables .listed) (tables .paths) (tables .marked) >>= (λ marked. tailIn s)) at) ≡ verdictOf (restReader s tables n f at)
+rest-made s tables n f at =
+    ap verdictOf (onward-assoc (listIn s (tables .listed) (tables .paths) at) (λ list. markedIn s n (tables .marked)) (λ marked. tailIn s))
+    ∙ ap verdictOf (onward-assoc (countIn s 0 20 1024 (tables .paths) at) (λ count. paths s (tables .listed) count 0) (λ list. markedIn s n (tables .marked) >>= (λ marked. tailIn s)))
+    ∙ counted s 20 1024 (tables .paths) at _ _
+    (λ count b. verdict-onward (paths s (tables .listed) count 0 b) _ _
+    (λ list c. ap verdictOf (onward-assoc (markedCountIn s n (tables .marked) c) (λ k. repeated k (number s)) (λ marked. tailIn s))
+    ∙ judged s c (λ k. markedCount n k then unless 36 (leb k (tables .marked))) _ _
+    (λ k d e. verdict-onward (repeated k (number s) d) _ _ (λ marked g. tail-made s g (f list marked)))))
+
 pub look-is : (s : List ℕ) (tables : Tables)
-    → (let d = looked (designIn s (tables .edges) 0) in let l = behind d (looked (listIn s (tables .listed) (tables .paths) (placeOf d))) in verdictBehind l (verdictOf (tailIn s (placeOf l)))) ≡ verdictOf (readDeck s tables)
+    → (let d = looked (designIn s (tables .edges) 0) in let l = behind d (looked (listsIn s (valueAt s 0) (tables .listed) (tables .paths) (tables .marked) (placeOf d))) in verdictBehind l (verdictOf (tailIn s (placeOf l))))
+    ≡ verdictOf (readDeck s tables)
 unfolding readDeck
 look-is s tables =
-    let rest : Reader (Unit {0}) = listIn s (tables .listed) (tables .paths) >>= (λ l. tailIn s) in
-    steps (designIn s (tables .edges) 0) (listIn s (tables .listed) (tables .paths)) (tailIn s)
+    let lists : ℕ → Reader (List ℕ) = λ n. listsIn s n (tables .listed) (tables .paths) (tables .marked) in
+    let rest : Reader (Unit {0}) = lists (valueAt s 0) >>= (λ l. tailIn s) in
+    steps (designIn s (tables .edges) 0) (lists (valueAt s 0)) (tailIn s)
     ∙ ap verdictOf (onward-assoc (nodesIn s 0) (λ n. edgesIn s (tables .edges)) (λ rows. rest))
-    ∙ limited s 0 _ _
-    (λ n a. ap verdictOf (onward-assoc (countIn s 0 11 16384 (tables .edges) a) (λ m. repeated m (edgeRow s)) (λ rows. rest)) ∙ counted s 11 16384 (tables .edges) a _ _
+    ∙ judged s 0 (λ n. unless 10 (leb n 4096)) _ _
+    (λ n a e. ap verdictOf (onward-assoc (countIn s 0 11 16384 (tables .edges) a) (λ m. repeated m (edgeRow s)) (λ rows. rest)) ∙ counted s 11 16384 (tables .edges) a _ _
     (λ m b. verdict-onward (repeated m (edgeRow s) b) _ _
-    (λ edges c. ap verdictOf (onward-assoc (countIn s 0 20 1024 (tables .paths) c) (λ count. paths s (tables .listed) count 0) (λ list. tailIn s)) ∙ counted s 20 1024 (tables .paths) c _ _
-    (λ count d. verdict-onward (paths s (tables .listed) count 0 d) _ _
-    (λ list e. tail-made s e _)))))
+    (λ rows c. ap (λ (k : ℕ). verdictOf ((lists k >>= (λ l. tailIn s)) c)) e
+    ∙ rest-made s tables n (λ list marked allowed. record { design = designOf n rows marked; list = list; allowed = allowed }) c)))
 
 -- T and the end, by what was read.
 pub tail-end : (s : List ℕ) (at v next : ℕ) → readNumber s at ≡ Value v next → length s ≤ next → Passed ≡ verdictOf (tailIn s at)

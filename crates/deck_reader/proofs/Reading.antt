@@ -24,10 +24,10 @@ use Rattle.timing.specs.Refusals.{unless, _then_}
 use Rattle.timing.specs.Parsing.{Parsed, found, stopped, Reader, onward, _>>=_, _>>_, return, tested, parsedNumber, number, repeated, ended}
 use Rattle.timing.specs.Decks.{Deck, Tables, EdgeRow, edgeRow, designOf, paths, readDeck}
 use Rattle.timing.specs.declared.DeckRead.the-variants.{Refused as NoDeck}
-use Rattle.timing.specs.Tests.{edgeSizes}
+use Rattle.timing.specs.Tests.{edgeSizes, markedCount}
 use Rattle.timing.specs.Calls.{Outcome, made, refused, parsed, filled, deckRead, deckAnswer}
 use Rattle.timing.specs.Looks.{valueOf, nextOf, valueAt, nextAt}
-use Rattle.deck_reader.specs.Reading.{verdictOf, numbersFrom, numbersEnd, behindTwo, edgeRowAt, edgeRowEnd, rowsFrom, rowsEnd, startsFrom, pathEnd, edgesFrom, lengthsFrom, pathsEnd, edgesPlace, edgeCount, designFrom, countPlace, listFrom, listEnd, deckFrom, Fits}
+use Rattle.deck_reader.specs.Reading.{verdictOf, numbersFrom, numbersEnd, behindTwo, edgeRowAt, edgeRowEnd, rowsFrom, rowsEnd, startsFrom, countedFrom, countedEnd, edgesFrom, lengthsFrom, pathsEnd, edgesPlace, edgeCount, designFrom, countPlace, listFrom, listEnd, markedFrom, listsEnd, deckFrom, Fits}
 use Rattle.timing.proofs.Verdicts.{then-passed, unless-passed}
 use Rattle.deck_reader.proofs.Looking.{count-passed}
 use Rattle.packed.proofs.Rooms.{sets-append}
@@ -101,7 +101,7 @@ length-rows s (suc k) at = ap suc (length-rows s k (edgeRowEnd s at))
 
 pub length-lengths : (s : List ℕ) (k at : ℕ) → length (lengthsFrom s k at) ≡ k
 length-lengths s zero at = refl
-length-lengths s (suc k) at = ap suc (length-lengths s k (pathEnd s at))
+length-lengths s (suc k) at = ap suc (length-lengths s k (countedEnd s at))
 
 -- the paths, and that their edges fit the table
 abbrev PathsIs : List ℕ → ℕ → ℕ → ℕ → ℕ → PathList → ℕ → Type 0
@@ -126,12 +126,12 @@ is-paths s table (suc k) sum at =
         → ((unless 21 (leb (sum + n) 8192) then unless 36 (leb (sum + n) table)) ≡ Passed) × (b ≡ a) → NumbersIs s n b p d → PathsIs s table k (sum + n) d rest e
         → PathsIs s table (suc k) sum at (pathList (p ++ rest .edges) (n ∷ rest .lengths)) e
     last n a b d e p rest h t g f =
-        let q : d ≡ pathEnd s at = rw (g .1, t .1, h .0, h .1) in
+        let q : d ≡ countedEnd s at = rw (g .1, t .1, h .0, h .1) in
         let w = count-passed 21 sum n 8192 table (t .0) in
-        let m = length-append (numbersFrom s (valueAt s at) (nextAt s at)) (edgesFrom s k (pathEnd s at)) in
+        let m = length-append (numbersFrom s (valueAt s at) (nextAt s at)) (edgesFrom s k (countedEnd s at)) in
         let v = length-numbers s (valueAt s at) (nextAt s at) in
         let z = f .2 (w .1) in
-        let y : sum + n + length (edgesFrom s k (pathEnd s at)) ≤ table = rw (← q) z in (
+        let y : sum + n + length (edgesFrom s k (countedEnd s at)) ≤ table = rw (← q) z in (
           rw (f .0, g .0, t .1, q, h .0, h .1),
           rw (f .1, q),
           λ l. omega (arith, h .0),
@@ -142,26 +142,35 @@ abbrev DeckIs : List ℕ → Tables → Deck → ℕ → Type 0
 DeckIs s tables d next = (d ≡ deckFrom s 0) × Fits s 0 tables
 
 module _ (s : List ℕ) (tables : Tables) where
-  found-deck : (n a m b count p t e : ℕ) (rows : List EdgeRow) (list : PathList) → (n ≡ valueAt s 0) × (a ≡ nextAt s 0) → (m ≡ valueAt s a) × (b ≡ nextAt s a) → m ≤ tables .edges
-      → (c : ℕ) → RowsIs s m b rows c → (count ≡ valueAt s c) × (p ≡ nextAt s c) → count ≤ tables .paths → PathsIs s (tables .listed) count 0 p list t → e ≡ valueAt s t
-      → DeckIs s tables (record { design = designOf n rows; list = list; allowed = e }) 0
-  unfolding deckFrom countPlace
-  found-deck n a m b count p t e rows list h g ml c r k cl l q =
+  found-deck : (n a m b count p t many q z e : ℕ) (rows : List EdgeRow) (list : PathList) (marked : List ℕ) → (n ≡ valueAt s 0) × (a ≡ nextAt s 0) → (m ≡ valueAt s a) × (b ≡ nextAt s a) → m ≤ tables .edges
+      → (c : ℕ) → RowsIs s m b rows c → (count ≡ valueAt s c) × (p ≡ nextAt s c) → count ≤ tables .paths → PathsIs s (tables .listed) count 0 p list t
+      → (many ≡ valueAt s t) × (q ≡ nextAt s t) → many ≤ tables .marked → NumbersIs s many q marked z → e ≡ valueAt s z
+      → DeckIs s tables (record { design = designOf n rows marked; list = list; allowed = e }) 0
+  unfolding deckFrom countPlace listEnd
+  found-deck n a m b count p t many q z e rows list marked h g ml c r k cl l o ol w x =
       let mi : m ≡ edgeCount s 0 = rw (g .0, h .1) in
       let bi : b ≡ edgesPlace s 0 = rw (g .1, h .1) in
       let ci : c ≡ countPlace s 0 = rw (r .1, mi, bi) in
       let ki : count ≡ valueAt s (countPlace s 0) = rw (k .0, ci) in
       let pi : p ≡ nextAt s (countPlace s 0) = rw (k .1, ci) in
       let ri : rows ≡ rowsFrom s (edgeCount s 0) (edgesPlace s 0) = rw (r .0, mi, bi) in
-      let ti : t ≡ pathsEnd s (valueAt s (countPlace s 0)) (nextAt s (countPlace s 0)) = rw (l .1, ki, pi) in
-      let li : list ≡ pathList (edgesFrom s (valueAt s (countPlace s 0)) (nextAt s (countPlace s 0))) (lengthsFrom s (valueAt s (countPlace s 0)) (nextAt s (countPlace s 0))) = rw (l .0, ki, pi) in
-      let fi : 0 + length (edgesFrom s (valueAt s (countPlace s 0)) (nextAt s (countPlace s 0))) ≤ tables .listed = rw (← ki, ← pi) (l .2 (omega arith)) in (
-        rw (h .0, ri, li, q, ti),
-        record { edges = rw (← mi) ml; paths = rw (← ki) cl; listed = omega arith },
+      let ti : t ≡ listEnd s (countPlace s 0) = rw (l .1, ki, pi) in
+      let li : list ≡ listFrom s (countPlace s 0) = rw (l .0, ki, pi) in
+      let fi : 0 + length (listFrom s (countPlace s 0) .edges) ≤ tables .listed = rw (← ki, ← pi) (l .2 (omega arith)) in
+      let oi : many ≡ valueAt s (listEnd s (countPlace s 0)) = rw (o .0, ti) in
+      let qi : q ≡ nextAt s (listEnd s (countPlace s 0)) = rw (o .1, ti) in
+      let wi : marked ≡ markedFrom s (countPlace s 0) = rw (w .0, oi, qi) in
+      let zi : z ≡ listsEnd s (countPlace s 0) = rw (w .1, oi, qi) in (
+        rw (h .0, ri, li, wi, x, zi),
+        record { edges = rw (← mi) ml; paths = rw (← ki) cl; listed = omega arith; marked = rw (← oi) ol },
       )
 
 le-table : (test m limit table : ℕ) → (unless test (leb m limit) then unless 36 (leb m table)) ≡ Passed → m ≤ table
 le-table test m limit table e = leb-true m table (unless-passed 36 (leb m table) (then-passed (unless test (leb m limit)) (unless 36 (leb m table)) e .1))
+
+-- the count of marked nodes, likewise
+le-marked : (n m table : ℕ) → (markedCount n m then unless 36 (leb m table)) ≡ Passed → m ≤ table
+le-marked n m table e = leb-true m table (unless-passed 36 (leb m table) (then-passed (markedCount n m) (unless 36 (leb m table)) e .1))
 
 is-any : {A : Type 0} (p : Parsed A) → Is (λ x next. Unit {0}) p
 is-any (found x at) = tt
@@ -182,9 +191,13 @@ is-deck s tables =
     (is-tested (unless 20 (leb count 1024) then unless 36 (leb count (tables .paths))) p)
     (λ u″ p' tp. is-onward (PathsIs s (tables .listed) count 0 p') Q (paths s (tables .listed) count 0 p') _ (is-paths s (tables .listed) count 0 p')
     (λ list t l. is-onward (NumberIs s t) Q (number s t) _ (is-number s t)
+    (λ many o k'. is-onward (TestIs (markedCount n many then unless 36 (leb many (tables .marked))) o) Q (tested (markedCount n many then unless 36 (leb many (tables .marked))) o) _
+    (is-tested (markedCount n many then unless 36 (leb many (tables .marked))) o)
+    (λ u‴ o' to. is-onward (NumbersIs s many o') Q (repeated many (number s) o') _ (is-numbers s many o')
+    (λ marked y w. is-onward (NumberIs s y) Q (number s y) _ (is-number s y)
     (λ e f q. is-onward (λ x next. Unit {0}) Q (ended s f) _ (is-any (ended s f))
-    (λ v z w. found-deck s tables n a' m b' count p' t e rows list (h .0, ta .1 ∙ h .1) (g .0, tb .1 ∙ g .1) (le-table 11 m 16384 (tables .edges) (tb .0))
-    c r (k .0, tp .1 ∙ k .1) (le-table 20 count 1024 (tables .paths) (tp .0)) l (q .0)))))))))))
+    (λ v z x. found-deck s tables n a' m b' count p' t many o' y e rows list marked (h .0, ta .1 ∙ h .1) (g .0, tb .1 ∙ g .1) (le-table 11 m 16384 (tables .edges) (tb .0))
+    c r (k .0, tp .1 ∙ k .1) (le-table 20 count 1024 (tables .paths) (tp .0)) l (k' .0, to .1 ∙ k' .1) (le-marked n many (tables .marked) (to .0)) w (q .0))))))))))))))
 
 -- what the verdict says of what was read
 pub read-passed : (s : List ℕ) (tables : Tables) → verdictOf (readDeck s tables) ≡ Passed → (parsed (readDeck s tables) ≡ made (deckFrom s 0)) × Fits s 0 tables
@@ -260,24 +273,24 @@ rows-start s m at =
 
 -- paths to the two tables
 module _ (s : List ℕ) (count k at : ℕ) (h : k < count) where
-  pub paths-sum : length (edgesFrom s (count - k) at) ≡ valueAt s at + length (edgesFrom s (count - (k + 1)) (pathEnd s at))
+  pub paths-sum : length (edgesFrom s (count - k) at) ≡ valueAt s at + length (edgesFrom s (count - (k + 1)) (countedEnd s at))
   paths-sum =
       let d : count - k ≡ suc (count - (k + 1)) = omega arith in
-      rw (d, length-append (numbersFrom s (valueAt s at) (nextAt s at)) (edgesFrom s (count - (k + 1)) (pathEnd s at)), length-numbers s (valueAt s at) (nextAt s at))
+      rw (d, length-append (numbersFrom s (valueAt s at) (nextAt s at)) (edgesFrom s (count - (k + 1)) (countedEnd s at)), length-numbers s (valueAt s at) (nextAt s at))
 
-  pub paths-next : (next : ℕ) → next ≡ pathEnd s at → pathsEnd s (count - (k + 1)) next ≡ pathsEnd s (count - k) at
+  pub paths-next : (next : ℕ) → next ≡ countedEnd s at → pathsEnd s (count - (k + 1)) next ≡ pathsEnd s (count - k) at
   paths-next next e =
       let d : count - k ≡ suc (count - (k + 1)) = omega arith in
       rw (d, e)
 
-  pub edges-step : (l l' : List ℕ) (from n next : ℕ) → n ≡ valueAt s at → next ≡ pathEnd s at → l' ≡ sets l from (numbersFrom s (valueAt s at) (nextAt s at))
+  pub edges-step : (l l' : List ℕ) (from n next : ℕ) → n ≡ valueAt s at → next ≡ countedEnd s at → l' ≡ sets l from (numbersFrom s (valueAt s at) (nextAt s at))
       → sets l' (from + n) (edgesFrom s (count - (k + 1)) next) ≡ sets l from (edgesFrom s (count - k) at)
   edges-step l l' from n next e g f =
       let d : count - k ≡ suc (count - (k + 1)) = omega arith in
       let b : n ≡ length (numbersFrom s (valueAt s at) (nextAt s at)) = e ∙ sym (length-numbers s (valueAt s at) (nextAt s at)) in
-      rw (d, f, g, b) (sym (sets-append l from (numbersFrom s (valueAt s at) (nextAt s at)) (edgesFrom s (count - (k + 1)) (pathEnd s at))))
+      rw (d, f, g, b) (sym (sets-append l from (numbersFrom s (valueAt s at) (nextAt s at)) (edgesFrom s (count - (k + 1)) (countedEnd s at))))
 
-  pub lengths-step : (l l' : List ℕ) (next : ℕ) → next ≡ pathEnd s at → l' ≡ set l k (valueAt s at)
+  pub lengths-step : (l l' : List ℕ) (next : ℕ) → next ≡ countedEnd s at → l' ≡ set l k (valueAt s at)
       → sets l' (k + 1) (lengthsFrom s (count - (k + 1)) next) ≡ sets l k (lengthsFrom s (count - k) at)
   lengths-step l l' next e f =
       let d : count - k ≡ suc (count - (k + 1)) = omega arith in
@@ -324,55 +337,69 @@ module _ (s : List ℕ) (from k at : ℕ) (ki : k ≡ valueAt s from) (ai : at �
       e ∙ sets-placed l (lengthsFrom s k at) (omega arith) ∙ rw (ki, ai)
 
   pub list-end : (next : ℕ) → next ≡ pathsEnd s k at → next ≡ listEnd s from
+  unfolding listEnd
   list-end next e = e ∙ rw (ki, ai)
 
   pub list-fits : (listed lengths : ℕ) → (length (listFrom s from .edges) ≤ listed) × (valueAt s from ≤ lengths) → (length (edgesFrom s k at) ≤ listed) × (k ≤ lengths)
   list-fits listed lengths h = rw (ki, ai) h
 
--- The parts make the deck: the design, the list from the place behind the design, and T from the place behind the list.
-module _ (s : List ℕ) (next : ℕ) (behind : next ≡ countPlace s 0) where
-  pub fits-list : (tables : Tables) → Fits s 0 tables → (length (listFrom s next .edges) ≤ tables .listed) × (valueAt s next ≤ tables .paths)
-  fits-list tables f = rw behind (f .listed, f .paths)
+-- and the marked nodes
+pub marked-placed : (s : List ℕ) (from at : ℕ) (ai : at ≡ listEnd s from) (l l' : List ℕ) → valueAt s (listEnd s from) ≤ length l → l' ≡ sets l 0 (countedFrom s at) → l' ≡ placed (markedFrom s from) l
+marked-placed s from at ai l l' h e =
+    let n = length-numbers s (valueAt s (listEnd s from)) (nextAt s (listEnd s from)) in
+    e ∙ rw ai (sets-placed l (markedFrom s from) (omega arith))
 
-  pub deck-filled : (nodes edges listed paths t last : ℕ) (starts starts' ends ends' : List ℕ) (early early' late late' : List ℤ) (table table' lengths lengths' : List ℕ)
-      → (nodes ≡ designFrom s 0 .nodes) × (edges ≡ edgeCount s 0) → (paths ≡ valueAt s next) × (listed ≡ length (listFrom s next .edges)) × (last ≡ listEnd s next) → t ≡ valueAt s last
+-- The parts make the deck: the design, the lists from the place behind the design, and T from the place behind the lists.
+module _ (s : List ℕ) (next : ℕ) (behind : next ≡ countPlace s 0) where
+  pub fits-lists : (tables : Tables) → Fits s 0 tables → (length (listFrom s next .edges) ≤ tables .listed) × (valueAt s next ≤ tables .paths) × (valueAt s (listEnd s next) ≤ tables .marked)
+  fits-lists tables f = rw behind (f .listed, f .paths, f .marked)
+
+  pub deck-filled : (nodes edges listed paths many t last : ℕ) (starts starts' ends ends' : List ℕ) (early early' late late' : List ℤ) (table table' lengths lengths' marked marked' : List ℕ)
+      → (nodes ≡ designFrom s 0 .nodes) × (edges ≡ edgeCount s 0)
+      → (paths ≡ valueAt s next) × (listed ≡ length (listFrom s next .edges)) × (many ≡ valueAt s (listEnd s next)) × (last ≡ listsEnd s next) → t ≡ valueAt s last
       → (starts' ≡ placed (designFrom s 0 .starts) starts) × (ends' ≡ placed (designFrom s 0 .ends) ends) × (early' ≡ placed (designFrom s 0 .early) early) × (late' ≡ placed (designFrom s 0 .late) late)
-      → (table' ≡ placed (listFrom s next .edges) table) × (lengths' ≡ placed (listFrom s next .lengths) lengths)
-      → (let d = deckFrom s 0 in (DeckFound nodes edges listed paths t ≡ deckAnswer (made d)) × (starts' ≡ placed (d .design .starts) starts) × (ends' ≡ placed (d .design .ends) ends)
-      × (early' ≡ placed (d .design .early) early) × (late' ≡ placed (d .design .late) late) × (table' ≡ placed (d .list .edges) table) × (lengths' ≡ placed (d .list .lengths) lengths))
+      → (table' ≡ placed (listFrom s next .edges) table) × (lengths' ≡ placed (listFrom s next .lengths) lengths) × (marked' ≡ placed (markedFrom s next) marked)
+      → (let d = deckFrom s 0 in (DeckFound nodes edges listed paths many t ≡ deckAnswer (made d)) × (starts' ≡ placed (d .design .starts) starts) × (ends' ≡ placed (d .design .ends) ends)
+      × (early' ≡ placed (d .design .early) early) × (late' ≡ placed (d .design .late) late) × (table' ≡ placed (d .list .edges) table) × (lengths' ≡ placed (d .list .lengths) lengths)
+      × (marked' ≡ placed (d .design .marked) marked))
   unfolding deckFrom
-  deck-filled nodes edges listed paths t last starts starts' ends ends' early early' late late' table table' lengths lengths' h g q f e =
+  deck-filled nodes edges listed paths many t last starts starts' ends ends' early early' late late' table table' lengths lengths' marked marked' h g q f e =
       let n : length (startsFrom s (edgeCount s 0) (edgesPlace s 0)) ≡ edgeCount s 0 = length-map (rowsFrom s (edgeCount s 0) (edgesPlace s 0)) (λ (r : EdgeRow). r .start) ∙ length-rows s (edgeCount s 0) (edgesPlace s 0) in
       let p : length (lengthsFrom s (valueAt s (countPlace s 0)) (nextAt s (countPlace s 0))) ≡ valueAt s (countPlace s 0) = length-lengths s (valueAt s (countPlace s 0)) (nextAt s (countPlace s 0)) in
-      let a : DeckFound nodes edges listed paths t ≡ deckAnswer (made (deckFrom s 0)) = rw (h .0, h .1, g .0, g .1, q, g .2, n, p, behind) in
-      (a, f .0, f .1, f .2, f .3, rw (← behind) (e .0), rw (← behind) (e .1))
+      let l = listEnd s (countPlace s 0) in
+      let m : length (numbersFrom s (valueAt s l) (nextAt s l)) ≡ valueAt s l = length-numbers s (valueAt s l) (nextAt s l) in
+      let a : DeckFound nodes edges listed paths many t ≡ deckAnswer (made (deckFrom s 0)) = rw (h .0, h .1, g .0, g .1, g .2, q, g .3, n, p, behind, m) in
+      (a, f .0, f .1, f .2, f .3, rw (← behind) (e .0), rw (← behind) (e .1), rw (← behind) (e .2))
 
 -- The reader as a whole: 30, then a refusal by the look, then the deck.
-module _ (s : List ℕ) (starts ends early late listed lengths : ℕ) where
-  pub read-sizes : (r : Refusal) → edgeSizes starts ends early late ≡ NotPassed r → deckRead s starts ends early late listed lengths ≡ refused r
+module _ (s : List ℕ) (starts ends early late listed lengths marked : ℕ) where
+  pub read-sizes : (r : Refusal) → edgeSizes starts ends early late ≡ NotPassed r → deckRead s starts ends early late listed lengths marked ≡ refused r
   unfolding deckRead
   read-sizes r e = rw e
 
-  pub read-stopped : (r : Refusal) → edgeSizes starts ends early late ≡ Passed → verdictOf (readDeck s (record { edges = starts; listed = listed; paths = lengths })) ≡ NotPassed r
-      → deckRead s starts ends early late listed lengths ≡ refused r
+  pub read-stopped : (r : Refusal) → edgeSizes starts ends early late ≡ Passed → verdictOf (readDeck s (record { edges = starts; listed = listed; paths = lengths; marked = marked })) ≡ NotPassed r
+      → deckRead s starts ends early late listed lengths marked ≡ refused r
   unfolding deckRead
-  read-stopped r e f = rw e (read-refused (readDeck s (record { edges = starts; listed = listed; paths = lengths })) r f)
+  read-stopped r e f = rw e (read-refused (readDeck s (record { edges = starts; listed = listed; paths = lengths; marked = marked })) r f)
 
-  pub read-made : edgeSizes starts ends early late ≡ Passed → verdictOf (readDeck s (record { edges = starts; listed = listed; paths = lengths })) ≡ Passed
-      → deckRead s starts ends early late listed lengths ≡ made (deckFrom s 0)
+  pub read-made : edgeSizes starts ends early late ≡ Passed → verdictOf (readDeck s (record { edges = starts; listed = listed; paths = lengths; marked = marked })) ≡ Passed
+      → deckRead s starts ends early late listed lengths marked ≡ made (deckFrom s 0)
   unfolding deckRead
-  read-made e f = rw e (read-passed s (record { edges = starts; listed = listed; paths = lengths }) f .0)
+  read-made e f = rw e (read-passed s (record { edges = starts; listed = listed; paths = lengths; marked = marked }) f .0)
 
 -- the answer and the tables
-module _ (starts ends : List ℕ) (early late : List ℤ) (listed lengths : List ℕ) (o : Outcome Deck) where
+module _ (starts ends : List ℕ) (early late : List ℤ) (listed lengths marked : List ℕ) (o : Outcome Deck) where
   pub tables-kept : (r : Refusal) → o ≡ refused r
       → (NoDeck r ≡ deckAnswer o) × (starts ≡ filled (λ d. d .design .starts) o starts) × (ends ≡ filled (λ d. d .design .ends) o ends) × (early ≡ filled (λ d. d .design .early) o early)
       × (late ≡ filled (λ d. d .design .late) o late) × (listed ≡ filled (λ d. d .list .edges) o listed) × (lengths ≡ filled (λ d. d .list .lengths) o lengths)
-  tables-kept r e = rw e (refl, refl, refl, refl, refl, refl, refl)
+      × (marked ≡ filled (λ d. d .design .marked) o marked)
+  tables-kept r e = rw e (refl, refl, refl, refl, refl, refl, refl, refl)
 
-  pub tables-filled : (d : Deck) (answer : DeckRead) (starts' ends' : List ℕ) (early' late' : List ℤ) (listed' lengths' : List ℕ) → o ≡ made d
+  pub tables-filled : (d : Deck) (answer : DeckRead) (starts' ends' : List ℕ) (early' late' : List ℤ) (listed' lengths' marked' : List ℕ) → o ≡ made d
       → (answer ≡ deckAnswer (made d)) × (starts' ≡ placed (d .design .starts) starts) × (ends' ≡ placed (d .design .ends) ends) × (early' ≡ placed (d .design .early) early)
       × (late' ≡ placed (d .design .late) late) × (listed' ≡ placed (d .list .edges) listed) × (lengths' ≡ placed (d .list .lengths) lengths)
+      × (marked' ≡ placed (d .design .marked) marked)
       → (answer ≡ deckAnswer o) × (starts' ≡ filled (λ d. d .design .starts) o starts) × (ends' ≡ filled (λ d. d .design .ends) o ends) × (early' ≡ filled (λ d. d .design .early) o early)
       × (late' ≡ filled (λ d. d .design .late) o late) × (listed' ≡ filled (λ d. d .list .edges) o listed) × (lengths' ≡ filled (λ d. d .list .lengths) o lengths)
-  tables-filled d answer starts' ends' early' late' listed' lengths' e f = rw e f
+      × (marked' ≡ filled (λ d. d .design .marked) o marked)
+  tables-filled d answer starts' ends' early' late' listed' lengths' marked' e f = rw e f

@@ -13,6 +13,7 @@ use Rattle.timing.specs.Graphs.{Design}
 use Rattle.timing.specs.Marks.{PathList, pathList}
 use Rattle.timing.specs.Delays.{delayOf}
 use Rattle.timing.specs.Refusals.{unless, _then_}
+use Rattle.timing.specs.Tests.{markedCount}
 use Rattle.timing.specs.Parsing.{Parsed, found, stopped, Reader, onward, _>>=_, _>>_, return, tested, number, repeated, ended}
 use Rattle.timing.specs.Looks.{valueAt, nextAt}
 use Rattle.timing.specs.Decks.{Deck, Tables, EdgeRow, edgeRow, designOf, paths}
@@ -43,7 +44,7 @@ pathIn s table sum = do
   p ← repeated n (number s)
   return n
 
--- the count of edges and the edges; the design; the list; T and the end
+-- the count of edges and the edges; the design; the list of paths
 abbrev pub edgesIn : List ℕ → ℕ → Reader (List EdgeRow)
 edgesIn s table = do
   m ← countIn s 0 11 16384 table
@@ -59,6 +60,24 @@ listIn s listed table = do
   count ← countIn s 0 20 1024 table
   paths s listed count 0
 
+-- the marked nodes of a design of n nodes; and the two lists, the paths and these
+abbrev pub markedCountIn : List ℕ → ℕ → ℕ → Reader ℕ
+markedCountIn s n table = do
+  k ← number s
+  tested (markedCount n k then unless 36 (leb k table))
+  return k
+
+abbrev pub markedIn : List ℕ → ℕ → ℕ → Reader (List ℕ)
+markedIn s n table = do
+  k ← markedCountIn s n table
+  repeated k (number s)
+
+abbrev pub listsIn : List ℕ → ℕ → ℕ → ℕ → ℕ → Reader (List ℕ)
+listsIn s n listed paths marked = do
+  list ← listIn s listed paths
+  markedIn s n marked
+
+-- T and the end
 abbrev pub tailIn : List ℕ → Reader (Unit {0})
 tailIn s = do
   t ← number s
@@ -122,30 +141,38 @@ abbrev pub rowsEnd : List ℕ → ℕ → ℕ → ℕ
 rowsEnd s zero at = at
 rowsEnd s (suc k) at = rowsEnd s k (edgeRowEnd s at)
 
-abbrev pub pathEnd : List ℕ → ℕ → ℕ
-pathEnd s at = numbersEnd s (valueAt s at) (nextAt s at)
+-- numbers behind their count: a path, or the marked nodes
+abbrev pub countedFrom : List ℕ → ℕ → List ℕ
+countedFrom s at = numbersFrom s (valueAt s at) (nextAt s at)
+
+abbrev pub countedEnd : List ℕ → ℕ → ℕ
+countedEnd s at = numbersEnd s (valueAt s at) (nextAt s at)
 
 abbrev pub edgesFrom : List ℕ → ℕ → ℕ → List ℕ
 edgesFrom s zero at = []
-edgesFrom s (suc k) at = numbersFrom s (valueAt s at) (nextAt s at) ++ edgesFrom s k (pathEnd s at)
+edgesFrom s (suc k) at = countedFrom s at ++ edgesFrom s k (countedEnd s at)
 
 abbrev pub lengthsFrom : List ℕ → ℕ → ℕ → List ℕ
 lengthsFrom s zero at = []
-lengthsFrom s (suc k) at = valueAt s at ∷ lengthsFrom s k (pathEnd s at)
+lengthsFrom s (suc k) at = valueAt s at ∷ lengthsFrom s k (countedEnd s at)
 
 abbrev pub pathsEnd : List ℕ → ℕ → ℕ → ℕ
 pathsEnd s zero at = at
-pathsEnd s (suc k) at = pathsEnd s k (pathEnd s at)
+pathsEnd s (suc k) at = pathsEnd s k (countedEnd s at)
 
--- the design at a place, with the place behind it; the list, likewise; and the deck
+-- the design at a place, with the place behind it; the lists, likewise; and the deck
 abbrev pub edgesPlace : List ℕ → ℕ → ℕ
 edgesPlace s at = behindTwo s at
 
 abbrev pub edgeCount : List ℕ → ℕ → ℕ
 edgeCount s at = valueAt s (nextAt s at)
 
+-- its marked nodes stand behind the list of paths
+abbrev pub designWith : List ℕ → ℕ → List ℕ → Design
+designWith s at marked = designOf (valueAt s at) (rowsFrom s (edgeCount s at) (edgesPlace s at)) marked
+
 abbrev pub designFrom : List ℕ → ℕ → Design
-designFrom s at = designOf (valueAt s at) (rowsFrom s (edgeCount s at) (edgesPlace s at))
+designFrom s at = designWith s at []
 
 unfoldable pub countPlace : List ℕ → ℕ → ℕ
 countPlace s at = rowsEnd s (edgeCount s at) (edgesPlace s at)
@@ -153,14 +180,20 @@ countPlace s at = rowsEnd s (edgeCount s at) (edgesPlace s at)
 abbrev pub listFrom : List ℕ → ℕ → PathList
 listFrom s at = pathList (edgesFrom s (valueAt s at) (nextAt s at)) (lengthsFrom s (valueAt s at) (nextAt s at))
 
-abbrev pub listEnd : List ℕ → ℕ → ℕ
+unfoldable pub listEnd : List ℕ → ℕ → ℕ
 listEnd s at = pathsEnd s (valueAt s at) (nextAt s at)
+
+abbrev pub markedFrom : List ℕ → ℕ → List ℕ
+markedFrom s at = countedFrom s (listEnd s at)
+
+abbrev pub listsEnd : List ℕ → ℕ → ℕ
+listsEnd s at = countedEnd s (listEnd s at)
 
 unfoldable pub deckFrom : List ℕ → ℕ → Deck
 deckFrom s at = record {
-  design = designFrom s at;
+  design = designWith s at (markedFrom s (countPlace s at));
   list = listFrom s (countPlace s at);
-  allowed = valueAt s (listEnd s (countPlace s at));
+  allowed = valueAt s (listsEnd s (countPlace s at));
 }
 
 -- the deck fits the tables
@@ -168,3 +201,4 @@ pub record Fits (s : List ℕ) (at : ℕ) (tables : Tables) : Type 0 where
   pub edges : edgeCount s at ≤ tables .edges
   pub paths : valueAt s (countPlace s at) ≤ tables .paths
   pub listed : length (listFrom s (countPlace s at) .edges) ≤ tables .listed
+  pub marked : valueAt s (listEnd s (countPlace s at)) ≤ tables .marked

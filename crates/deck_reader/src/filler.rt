@@ -8,12 +8,13 @@ ghost use Rattle.timing.specs.Lists.{placed};
 ghost use Rattle.timing.specs.Delays.{delayOf};
 ghost use Rattle.timing.specs.Looks.{valueAt, nextAt};
 ghost use Rattle.timing.specs.declared.DeckRead.the-variants.{Deck as DeckFound};
-ghost use Rattle.deck_reader.specs.Reading.{numbersFrom, numbersEnd, pathEnd, edgesFrom, lengthsFrom, pathsEnd};
+ghost use Rattle.deck_reader.specs.Reading.{numbersFrom, numbersEnd, countedFrom, countedEnd, edgesFrom, lengthsFrom, pathsEnd};
 ghost use Rattle.deck_reader.specs.Reading.{behindTwo, edgeRowAt, edgeRowEnd, rowsEnd};
 ghost use Rattle.deck_reader.specs.Reading.{startsFrom, endsFrom, earlyFrom, lateFrom};
-ghost use Rattle.deck_reader.specs.Reading.{edgeCount, countPlace, designFrom, listFrom, listEnd};
+ghost use Rattle.deck_reader.specs.Reading.{edgeCount, countPlace, designFrom, listFrom, listEnd, markedFrom, listsEnd};
 use super::DesignRead;
 use super::ListRead;
+use super::ListsRead;
 use entries::wide;
 use packed_lists::take_number;
 use timing::DeckRead;
@@ -131,7 +132,22 @@ fn fill_numbers(s: &[u8], at: usize, count: usize, listed: &mut [u32], filled: u
     at
 }
 
-// A path: its length to index k, its edges behind those that are there.
+// Numbers behind their count, a path or the marked nodes, to a table behind those that fill it so far.
+fn fill_counted(s: &[u8], at: usize, table: &mut [u32], filled: usize) -> Taken
+    requires { ⌜ filled + valueAt (now s) at ≤ length (now table) ⌝ }
+    ensures { λ r.
+        ⌜ (r .value ≡ valueAt (now (s .entry)) at)
+        × (r .next ≡ countedEnd (now (s .entry)) at)
+        × (now (table .exit) ≡ sets (now (table .entry)) filled (countedFrom (now (s .entry)) at)) ⌝ }
+{
+    let a = take_number(s, at);
+    let value = a.value;
+    let first = a.next;
+    let next = fill_numbers(s, first, wide(value), table, filled);
+    Taken { value, next }
+}
+
+// A path: its edges behind those that are there, its length to index k.
 fn fill_path(
     s: &[u8],
     at: usize,
@@ -142,19 +158,14 @@ fn fill_path(
 ) -> Taken
     requires { ⌜ (filled + valueAt (now s) at ≤ length (now listed)) × (k < length (now lengths)) ⌝ }
     ensures { λ r.
-        let n = valueAt (now (s .entry)) at in
-        let edges = numbersFrom (now (s .entry)) n (nextAt (now (s .entry)) at) in
-        ⌜ (r .value ≡ n)
-        × (r .next ≡ pathEnd (now (s .entry)) at)
-        × (now (listed .exit) ≡ sets (now (listed .entry)) filled edges)
-        × (now (lengths .exit) ≡ set (now (lengths .entry)) k n) ⌝ }
+        ⌜ (r .value ≡ valueAt (now (s .entry)) at)
+        × (r .next ≡ countedEnd (now (s .entry)) at)
+        × (now (listed .exit) ≡ sets (now (listed .entry)) filled (countedFrom (now (s .entry)) at))
+        × (now (lengths .exit) ≡ set (now (lengths .entry)) k (valueAt (now (s .entry)) at)) ⌝ }
 {
-    let a = take_number(s, at);
-    let value = a.value;
-    let edges = a.next;
-    lengths[k] = value;
-    let next = fill_numbers(s, edges, wide(value), listed, filled);
-    Taken { value, next }
+    let a = fill_counted(s, at, listed, filled);
+    lengths[k] = a.value;
+    a
 }
 
 fn fill_paths(
@@ -226,7 +237,7 @@ pub(crate) fn fill_design(
 }
 
 // The list at a place.
-pub(crate) fn fill_list(s: &[u8], at: usize, listed: &mut [u32], lengths: &mut [u32]) -> ListRead
+fn fill_list(s: &[u8], at: usize, listed: &mut [u32], lengths: &mut [u32]) -> ListRead
     requires { ⌜ (length (listFrom (now s) at .edges) ≤ length (now listed))
         × (valueAt (now s) at ≤ length (now lengths)) ⌝ }
     ensures { λ r.
@@ -242,15 +253,48 @@ pub(crate) fn fill_list(s: &[u8], at: usize, listed: &mut [u32], lengths: &mut [
     fill_paths(s, first, wide(count.value), listed, lengths)
 }
 
+// The two lists at a place: the paths, and the marked nodes.
+pub(crate) fn fill_lists(
+    s: &[u8],
+    at: usize,
+    listed: &mut [u32],
+    lengths: &mut [u32],
+    marked: &mut [u32],
+) -> ListsRead
+    requires { ⌜ (length (listFrom (now s) at .edges) ≤ length (now listed))
+        × (valueAt (now s) at ≤ length (now lengths))
+        × (valueAt (now s) (listEnd (now s) at) ≤ length (now marked)) ⌝ }
+    ensures { λ r.
+        let list = listFrom (now (s .entry)) at in
+        ⌜ (r .paths ≡ valueAt (now (s .entry)) at)
+        × (r .listed ≡ length (list .edges))
+        × (r .marked ≡ valueAt (now (s .entry)) (listEnd (now (s .entry)) at))
+        × (r .next ≡ listsEnd (now (s .entry)) at)
+        × (now (listed .exit) ≡ placed (list .edges) (now (listed .entry)))
+        × (now (lengths .exit) ≡ placed (list .lengths) (now (lengths .entry)))
+        × (now (marked .exit) ≡ placed (markedFrom (now (s .entry)) at) (now (marked .entry))) ⌝ }
+{
+    let l = fill_list(s, at, listed, lengths);
+    let behind = l.next;
+    let m = fill_counted(s, behind, marked, 0);
+    ListsRead {
+        paths: l.paths,
+        listed: l.listed,
+        marked: wide(m.value),
+        next: m.next,
+    }
+}
+
 // What the reader answers of the parts that it filled, and of T.
-pub(crate) fn answer(d: DesignRead, l: ListRead, t: Taken) -> DeckRead
-    ensures { λ r. ⌜ r ≡ DeckFound (d .nodes) (d .edges) (l .listed) (l .paths) (t .value) ⌝ }
+pub(crate) fn answer(d: DesignRead, l: ListsRead, t: Taken) -> DeckRead
+    ensures { λ r. ⌜ r ≡ DeckFound (d .nodes) (d .edges) (l .listed) (l .paths) (l .marked) (t .value) ⌝ }
 {
     DeckRead::Deck {
         nodes: d.nodes,
         edges: d.edges,
         listed: l.listed,
         paths: l.paths,
+        marked: l.marked,
         allowed: t.value,
     }
 }

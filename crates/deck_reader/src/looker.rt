@@ -3,17 +3,20 @@
 ghost use mathlib.Core.Path.{_≡_};
 ghost use Prim.Native.Nat.{_+_, _≤_};
 ghost use Rattle.timing.specs.Decks.{paths as pathsOf};
-ghost use Rattle.timing.specs.Looks.{looked, numberOf};
+ghost use Rattle.timing.specs.Looks.{looked, numberOf, valueAt};
 ghost use Rattle.timing.specs.Parsing.{onward, return, tested};
-ghost use Rattle.deck_reader.specs.Reading.{verdictOf, nodesIn, countIn, pathIn, edgesIn, designIn, listIn, tailIn};
+ghost use Rattle.deck_reader.specs.Reading.{verdictOf, nodesIn, countIn, pathIn, edgesIn, designIn, listIn};
+ghost use Rattle.deck_reader.specs.Reading.{markedCountIn, markedIn, listsIn, tailIn};
 ghost use Rattle.deck_reader.specs.Reading.{placeOf, behind, verdictBehind};
 use entries::wide;
 use packed_lists::look_numbers;
 use packed_lists::look_rows;
+use packed_lists::take_number;
 use timing::Looked;
 use timing::NumberRead;
 use timing::Verdict;
 use verdicts::and_unless;
+use verdicts::marked_count;
 use verdicts::unless;
 
 fn added(sum: usize, n: u32) -> usize
@@ -138,6 +141,49 @@ fn look_list(s: &[u8], at: usize, listed: usize, paths: usize) -> Looked
     }
 }
 
+// The count of marked nodes and its tests: at most n, then the lent table.
+fn look_marked_count(s: &[u8], at: usize, n: u32, table: usize) -> NumberRead
+    ensures { λ r. ⌜ r ≡ numberOf (markedCountIn (now (s .entry)) n table at) ⌝ }
+{
+    let r = packed::read_number(s, at);
+    match r {
+        NumberRead::Value { value, next } => {
+            let count = wide(value);
+            let v = marked_count(n, count);
+            let v = and_unless(v, 36, count <= table);
+            judged(v, value, next)
+        }
+        NumberRead::Refused(e) => NumberRead::Refused(e),
+    }
+}
+
+// The count of marked nodes, and their numbers.
+fn look_marked(s: &[u8], at: usize, n: u32, table: usize) -> Looked
+    ensures { λ r. ⌜ r ≡ looked (markedIn (now (s .entry)) n table at) ⌝ }
+{
+    let r = look_marked_count(s, at, n, table);
+    match r {
+        NumberRead::Value { value, next } => look_numbers(s, next, wide(value)),
+        NumberRead::Refused(e) => Looked::Refused(e),
+    }
+}
+
+// The two lists: the paths, and the marked nodes. n is taken from the front of the bytes, where the design was looked at.
+fn look_lists(s: &[u8], at: usize, listed: usize, paths: usize, marked: usize) -> Looked
+    ensures { λ r.
+        let n = valueAt (now (s .entry)) 0 in
+        ⌜ r ≡ looked (listsIn (now (s .entry)) n listed paths marked at) ⌝ }
+{
+    let l = look_list(s, at, listed, paths);
+    match l {
+        Looked::At(after) => {
+            let n = take_number(s, 0);
+            look_marked(s, after, n.value, marked)
+        }
+        Looked::Refused(e) => Looked::Refused(e),
+    }
+}
+
 // T, and 3.
 fn look_tail(s: &[u8], at: usize) -> Verdict
     ensures { λ r. ⌜ r ≡ verdictOf (tailIn (now (s .entry)) at) ⌝ }
@@ -164,27 +210,30 @@ pub(crate) fn place_of(l: Looked) -> usize
     }
 }
 
-// The list behind a design that was looked at.
-pub(crate) fn list_behind(
+// The lists behind a design that was looked at.
+pub(crate) fn lists_behind(
     s: &[u8],
     at: usize,
     design: Looked,
     listed: usize,
     paths: usize,
+    marked: usize,
 ) -> Looked
-    ensures { λ r. ⌜ r ≡ behind design (looked (listIn (now (s .entry)) listed paths at)) ⌝ }
+    ensures { λ r.
+        let n = valueAt (now (s .entry)) 0 in
+        ⌜ r ≡ behind design (looked (listsIn (now (s .entry)) n listed paths marked at)) ⌝ }
 {
     match design {
-        Looked::At(_) => look_list(s, at, listed, paths),
+        Looked::At(_) => look_lists(s, at, listed, paths, marked),
         Looked::Refused(e) => Looked::Refused(e),
     }
 }
 
-// The tail behind a list that was looked at.
-pub(crate) fn tail_behind(s: &[u8], at: usize, list: Looked) -> Verdict
-    ensures { λ r. ⌜ r ≡ verdictBehind list (verdictOf (tailIn (now (s .entry)) at)) ⌝ }
+// The tail behind lists that were looked at.
+pub(crate) fn tail_behind(s: &[u8], at: usize, lists: Looked) -> Verdict
+    ensures { λ r. ⌜ r ≡ verdictBehind lists (verdictOf (tailIn (now (s .entry)) at)) ⌝ }
 {
-    match list {
+    match lists {
         Looked::At(_) => look_tail(s, at),
         Looked::Refused(e) => Verdict::Refused(e),
     }

@@ -3,7 +3,7 @@ use Prim.Native.Nat.{ℕ, suc, _+_, _-_, _≤_, _<_}
 use native.Mathlib.Omega.{arith}
 use native.Mathlib.Numerals.{add-one}
 use mathlib.Core.Path.{_≡_, refl, sym, _∙_, ap}
-use mathlib.Core.List.{List, [], _∷_, _++_, flatMap, map}
+use mathlib.Core.List.{List, [], _∷_, _++_, flatMap, map, append-assoc}
 use lib.IntN.{ℤ, pos}
 use lib.ListN.{length, getD, take, drop, drop-of-length-le, length-drop, take-append-drop}
 use lib.Seq.{sets, length-sets, drop-cons, drop-drop, length-take-le}
@@ -19,7 +19,7 @@ use Rattle.timing.specs.Decks.{Deck, edgeNumbers, pathNumbers, deckNumbers, pac
 use Rattle.timing.specs.Calls.{writing, roomAfterWriting}
 use Rattle.packed_lists.proofs.Sizes.{bytes-append as packed-append, size-append as packed-size-append, size-cons as packed-size-cons}
 use Rattle.packed.proofs.Rooms.{sets-append, written-sets, answer-fits}
-use Rattle.deck_writer.specs.Writing.{Fit, bytesOf, size, Wrote, Left}
+use Rattle.deck_writer.specs.Writing.{Fit, bytesOf, size, tailNumbers, Wrote, Left}
 use Rattle.deck_writer.proofs.Tests.{sum-drop}
 
 -- the packed form of what follows stands behind what is before
@@ -199,9 +199,14 @@ designNumbers d = d .design .nodes ∷ length (d .design .starts) ∷ edgeNumber
 abbrev pub listNumbers : Deck → List ℕ
 listNumbers d = length (d .list .lengths) ∷ flatMap pathNumbers (cut (d .list .edges) (d .list .lengths))
 
-pub deck-parts : (d : Deck) → deckNumbers d ≡ designNumbers d ++ listNumbers d ++ (d .allowed ∷ [])
+abbrev pub lastNumbers : Deck → List ℕ
+lastNumbers d = tailNumbers (d .design .marked) (d .allowed)
+
+pub deck-parts : (d : Deck) → deckNumbers d ≡ designNumbers d ++ listNumbers d ++ lastNumbers d
 unfolding deckNumbers
-deck-parts d = rw (length-cut (d .list .edges) (d .list .lengths))
+deck-parts d =
+    rw (length-cut (d .list .edges) (d .list .lengths))
+    (append-assoc (designNumbers d ++ listNumbers d) (length (d .design .marked) ∷ d .design .marked) (d .allowed ∷ []))
 
 pub packed-deck : (d : Deck) → packedDeck d ≡ bytesOf (deckNumbers d)
 unfolding packedDeck bytesOf
@@ -210,6 +215,7 @@ packed-deck d = refl
 pub size-deck : (d : Deck) → Fit d → length (packedDeck d)
     ≡ length (packed (d .design .nodes)) + length (packed (length (d .design .starts))) + length (packed (length (d .list .lengths))) + length (packed (d .allowed))
     + size (edgeNumbers (d .design .starts) (d .design .ends) (d .design .early) (d .design .late)) + (size (d .list .lengths) + size (d .list .edges))
+    + (length (packed (length (d .design .marked))) + size (d .design .marked))
 size-deck d f =
     let D = d .design in
     let es = edgeNumbers (D .starts) (D .ends) (D .early) (D .late) in
@@ -217,17 +223,19 @@ size-deck d f =
     rw (packed-deck d, deck-parts d)
     (omega (
       arith,
-      size-append (designNumbers d ++ listNumbers d) (d .allowed ∷ []),
+      size-append (designNumbers d ++ listNumbers d) (lastNumbers d),
       size-append (designNumbers d) (listNumbers d),
       size-cons (D .nodes) (length (D .starts) ∷ es),
       size-cons (length (D .starts)) es,
       size-cons (length (d .list .lengths)) ps,
       size-paths (d .list .edges) (d .list .lengths) (f .adds),
+      size-append (length (D .marked) ∷ D .marked) (d .allowed ∷ []),
+      size-cons (length (D .marked)) (D .marked),
       size-cons (d .allowed) [],
       size-none,
     ))
 
-pub deck-fits : (d : Deck) (room : List ℕ) → length (packedDeck d) ≤ length room → 0 + size (designNumbers d ++ listNumbers d ++ (d .allowed ∷ [])) ≤ length room
+pub deck-fits : (d : Deck) (room : List ℕ) → length (packedDeck d) ≤ length room → 0 + size (designNumbers d ++ listNumbers d ++ lastNumbers d) ≤ length room
 deck-fits d room h = rw (← deck-parts d) (omega (arith, ap length (packed-deck d)))
 
 -- What the writer answers and leaves, where the deck is written.

@@ -1,7 +1,7 @@
 -- Writing numbers one after the other.
 use Prim.Native.Nat.{ℕ, _+_, _≤_}
 use mathlib.Core.Path.{_≡_}
-use mathlib.Core.List.{List, flatMap}
+use mathlib.Core.List.{List, [], _∷_, _++_, flatMap}
 use lib.IntN.{ℤ}
 use lib.ListN.{length}
 use lib.Seq.{sets}
@@ -12,9 +12,9 @@ use Rattle.timing.specs.Numbers.{packed}
 use Rattle.timing.specs.Decks.{Deck}
 
 -- the deck that a writer is lent
-abbrev pub deckOf : ℕ → List ℕ → List ℕ → List ℤ → List ℤ → List ℕ → List ℕ → ℕ → Deck
-deckOf n starts ends early late listed lengths allowed =
-    record { design = design n starts ends early late; list = pathList listed lengths; allowed = allowed }
+abbrev pub deckOf : ℕ → List ℕ → List ℕ → List ℤ → List ℤ → List ℕ → List ℕ → List ℕ → ℕ → Deck
+deckOf n starts ends early late marked listed lengths allowed =
+    record { design = design n starts ends early late marked; list = pathList listed lengths; allowed = allowed }
 
 -- what the writer's tests say of a deck
 pub record Fit (d : Deck) : Type 0 where
@@ -26,6 +26,7 @@ pub record Fit (d : Deck) : Type 0 where
   pub edges : length (d .design .starts) ≤ 16384
   pub paths : length (d .list .lengths) ≤ 1024
   pub listed : length (d .list .edges) ≤ 8192
+  pub marked : length (d .design .marked) ≤ d .design .nodes
 
 -- the packed forms of numbers, one after the other, and how many bytes they are
 unfoldable pub bytesOf : List ℕ → List ℕ
@@ -33,6 +34,10 @@ bytesOf xs = flatMap packed xs
 
 abbrev pub size : List ℕ → ℕ
 size xs = length (bytesOf xs)
+
+-- the marked nodes behind their count, and T
+abbrev pub tailNumbers : List ℕ → ℕ → List ℕ
+tailNumbers marked allowed = (length marked ∷ marked) ++ (allowed ∷ [])
 
 -- the numbers xs were written from a place on, up to the next
 pub record Wrote (before after : List ℕ) (at next : ℕ) (xs : List ℕ) : Type 0 where

@@ -9,7 +9,7 @@ ghost use Rattle.timing.specs.Numbers.{packed};
 ghost use Rattle.timing.specs.Delays.{packedDelay};
 ghost use Rattle.timing.specs.Marks.{cut};
 ghost use Rattle.timing.specs.Decks.{edgeNumbers, pathNumbers, deckNumbers, packedDeck};
-ghost use Rattle.deck_writer.specs.Writing.{deckOf, Fit, size, Wrote};
+ghost use Rattle.deck_writer.specs.Writing.{deckOf, Fit, size, tailNumbers, Wrote};
 use entries::wide;
 use timing::Written;
 
@@ -124,15 +124,16 @@ fn put_numbers(room: &mut [u8], at: usize, s: &[u32], from: usize, count: usize)
     at
 }
 
-fn put_path(room: &mut [u8], at: usize, listed: &[u32], from: usize, count: u32) -> usize
-    requires { ⌜ from + count ≤ length (now listed) ⌝ }
-    requires { ⌜ at + size (count ∷ take count (drop from (now listed))) ≤ length (now room) ⌝ }
+// So many numbers of a slice from a place on, behind their count: a path, or the marked nodes.
+fn put_counted(room: &mut [u8], at: usize, s: &[u32], from: usize, count: u32) -> usize
+    requires { ⌜ from + count ≤ length (now s) ⌝ }
+    requires { ⌜ at + size (count ∷ take count (drop from (now s))) ≤ length (now room) ⌝ }
     ensures { λ r.
-        let numbers = count ∷ take count (drop from (now (listed .entry))) in
+        let numbers = count ∷ take count (drop from (now (s .entry))) in
         ⌜ Wrote (now (room .entry)) (now (room .exit)) at r numbers ⌝ }
 {
     let at = put(room, at, count);
-    put_numbers(room, at, listed, from, wide(count))
+    put_numbers(room, at, s, from, wide(count))
 }
 
 fn put_paths(room: &mut [u8], at: usize, listed: &[u32], lengths: &[u32]) -> usize
@@ -147,7 +148,7 @@ fn put_paths(room: &mut [u8], at: usize, listed: &[u32], lengths: &[u32]) -> usi
     let mut k = 0;
     while k < lengths.len() {
         let count = lengths[k];
-        at = put_path(room, at, listed, from, count);
+        at = put_counted(room, at, listed, from, count);
         from += wide(count);
         k += 1;
     }
@@ -190,6 +191,16 @@ fn put_list(room: &mut [u8], at: usize, listed: &[u32], lengths: &[u32]) -> usiz
     put_paths(room, at, listed, lengths)
 }
 
+// The marked nodes, then T.
+fn put_tail(room: &mut [u8], at: usize, marked: &[u32], allowed: u32) -> usize
+    requires { ⌜ length (now marked) ≤ 4096 ⌝ }
+    requires { ⌜ at + size (tailNumbers (now marked) allowed) ≤ length (now room) ⌝ }
+    ensures { λ r. ⌜ Wrote (now (room .entry)) (now (room .exit)) at r (tailNumbers (now (marked .entry)) allowed) ⌝ }
+{
+    let at = put_counted(room, at, marked, 0, marked.len() as u32);
+    put(room, at, allowed)
+}
+
 // How many bytes the edges take: each number is counted once, in any order.
 fn edges_size(starts: &[u32], ends: &[u32], early: &[i32], late: &[i32]) -> usize
     requires { ⌜ (length (now ends) ≡ length (now starts))
@@ -210,14 +221,16 @@ pub(crate) fn deck_size(
     ends: &[u32],
     early: &[i32],
     late: &[i32],
+    marked: &[u32],
     listed: &[u32],
     lengths: &[u32],
     allowed: u32,
 ) -> usize
-    requires { ⌜ Fit (deckOf n (now starts) (now ends) (now early) (now late) (now listed) (now lengths) allowed) ⌝ }
+    requires { ⌜ Fit (deckOf n (now starts) (now ends) (now early) (now late)
+        (now marked) (now listed) (now lengths) allowed) ⌝ }
     ensures { λ r.
         let d = deckOf n (now (starts .entry)) (now (ends .entry)) (now (early .entry)) (now (late .entry))
-        (now (listed .entry)) (now (lengths .entry)) allowed in
+        (now (marked .entry)) (now (listed .entry)) (now (lengths .entry)) allowed in
         ⌜ r ≡ length (packedDeck d) ⌝ }
 {
     let counts = number_size(n)
@@ -226,7 +239,8 @@ pub(crate) fn deck_size(
         + number_size(allowed);
     let edges = edges_size(starts, ends, early, late);
     let paths = numbers_size(lengths) + numbers_size(listed);
-    counts + edges + paths
+    let marked_size = number_size(marked.len() as u32) + numbers_size(marked);
+    counts + edges + paths + marked_size
 }
 
 pub(crate) fn put_deck(
@@ -235,19 +249,21 @@ pub(crate) fn put_deck(
     ends: &[u32],
     early: &[i32],
     late: &[i32],
+    marked: &[u32],
     listed: &[u32],
     lengths: &[u32],
     allowed: u32,
     room: &mut [u8],
 ) -> usize
-    requires { let d = deckOf n (now starts) (now ends) (now early) (now late) (now listed) (now lengths) allowed in
+    requires { let d = deckOf n (now starts) (now ends) (now early) (now late)
+        (now marked) (now listed) (now lengths) allowed in
         ⌜ Fit d × (length (packedDeck d) ≤ length (now room)) ⌝ }
     ensures { λ r.
         let d = deckOf n (now (starts .entry)) (now (ends .entry)) (now (early .entry)) (now (late .entry))
-        (now (listed .entry)) (now (lengths .entry)) allowed in
+        (now (marked .entry)) (now (listed .entry)) (now (lengths .entry)) allowed in
         ⌜ Wrote (now (room .entry)) (now (room .exit)) 0 r (deckNumbers d) ⌝ }
 {
     let at = put_design(room, 0, n, starts, ends, early, late);
     let at = put_list(room, at, listed, lengths);
-    put(room, at, allowed)
+    put_tail(room, at, marked, allowed)
 }

@@ -30,7 +30,7 @@ fn known(n: u32, starts: &[u32], ends: &[u32], k: usize) -> bool
 // 12: an edge names a node not below n.
 pub(crate) fn and_known(before: Verdict, n: u32, starts: &[u32], ends: &[u32]) -> Verdict
     ensures { λ r.
-        let D = design n (now (starts .entry)) (now (ends .entry)) [] [] in
+        let D = design n (now (starts .entry)) (now (ends .entry)) [] [] [] in
         ⌜ r ≡ (before then firstBad 12 (strays D) 0 (upto (length (now (starts .entry))) 0)) ⌝ }
 {
     let Verdict::Passed = before else {
@@ -55,7 +55,7 @@ fn rises(starts: &[u32], ends: &[u32], k: usize) -> bool
 // 13: an edge does not rise.
 pub(crate) fn and_rise(before: Verdict, starts: &[u32], ends: &[u32]) -> Verdict
     ensures { λ r.
-        let D = design 0 (now (starts .entry)) (now (ends .entry)) [] [] in
+        let D = design 0 (now (starts .entry)) (now (ends .entry)) [] [] [] in
         ⌜ r ≡ (before then firstBad 13 (falls D) 0 (upto (length (now (starts .entry))) 0)) ⌝ }
 {
     let Verdict::Passed = before else {
@@ -96,7 +96,7 @@ fn both_in_range(early: &[i32], late: &[i32], k: usize) -> bool
 // 14: a delay of one of the m edges is out of range.
 pub(crate) fn and_in_range(before: Verdict, m: usize, early: &[i32], late: &[i32]) -> Verdict
     ensures { λ r.
-        let D = design 0 [] [] (now (early .entry)) (now (late .entry)) in
+        let D = design 0 [] [] (now (early .entry)) (now (late .entry)) [] in
         ⌜ r ≡ (before then firstBad 14 (outOfRange D) 0 (upto m 0)) ⌝ }
 {
     let Verdict::Passed = before else {
@@ -121,7 +121,7 @@ fn early_above_late(early: &[i32], late: &[i32], k: usize) -> bool
 // 15: the early delay of one of the m edges is above its late delay.
 pub(crate) fn and_ordered(before: Verdict, m: usize, early: &[i32], late: &[i32]) -> Verdict
     ensures { λ r.
-        let D = design 0 [] [] (now (early .entry)) (now (late .entry)) in
+        let D = design 0 [] [] (now (early .entry)) (now (late .entry)) [] in
         ⌜ r ≡ (before then firstBad 15 (earlyAboveLate D) 0 (upto m 0)) ⌝ }
 {
     let Verdict::Passed = before else {

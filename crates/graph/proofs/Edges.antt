@@ -1,17 +1,16 @@
 -- A graph's edges by their places in three lists.
-use Prim.Native.Nat.{ℕ, zero, suc, _+_, _≤_, _<_, min}
+use Prim.Native.Nat.{ℕ, zero, suc, _+_, _<_, min}
 use native.Mathlib.Omega.{arith}
-use native.Mathlib.Nat.{suc-min-suc}
 use native.Mathlib.Numerals.{add-one}
 use mathlib.Core.Path.{_≡_, refl, sym, _∙_, ap, subst}
 use mathlib.Core.Logic.{⊎-elim}
-use mathlib.Core.Bool.{Bool, true, false, not, cond, _&&_, _||_}
-use mathlib.Core.List.{List, [], _∷_, List·Memᴰ, List·Memᴰ·head, List·Memᴰ·tail, List·Memᴰ·not-nil, List·Memᴰ·cases-cons}
-use lib.Dec.{T, eqb}
+use mathlib.Core.Bool.{Bool, true, false, not, cond, _||_}
+use mathlib.Core.List.{List, [], _∷_, List·Memᴰ, List·Memᴰ·not-nil, List·Memᴰ·cases-cons}
+use lib.Dec.{T, eqb, eqb→eq, eqb-refl}
 use lib.ListN.{length, getD}
 use Rattle.timing.specs.Lists.{isNil, anyOf, keep, eachNext, upto}
-use Rattle.timing.specs.Graphs.{design, Edge, edge, Graph, edgesOf, designGraph, edgesIn, edgesOut, startsAt, endsAt}
-use Rattle.timing.specs.WellFormed.{isSource, isSink}
+use Rattle.timing.specs.Graphs.{design, Edge, edge, edgesOf, isSink, designGraph, edgesIn, edgesOut, startsAt}
+use Rattle.timing.specs.WellFormed.{isSource}
 use Rattle.timing.specs.Calls.{graphSlices, graphOf}
 use Rattle.theorems.proofs.Lists.{and-intro, and-left, and-right, same-test, anyOf-intro, anyOf-elim, getD-mem, length-upto, length-edges}
 use Rattle.graph.specs.Passes.{stands, edgeAt}
@@ -86,23 +85,45 @@ nil-any p (x ∷ l) = go (p x) (nil-any p l)
     go true below = refl
     go false below = below
 
--- whether a copy has an edge in, and out
-pub in-graph : (nodes s t k : List ℕ) (c : ℕ) → startsAt (graphOf (graphSlices nodes s t k)) c ≡ not (stands t (length (edgesOf s t k)) c)
+-- whether some edge of three lists ends at v, or starts there
+no-end : (s t k : List ℕ) (v : ℕ) → isNil (keep (λ e. eqb (e .end) v) (edgesOf s t k)) ≡ not (stands t (length (edgesOf s t k)) v)
+no-end s t k v = nil-any (λ e. eqb (e .end) v) (edgesOf s t k) ∙ ap not (any-edge (λ e. eqb (e .end) v) s t k)
+
+no-start : (s t k : List ℕ) (v : ℕ) → isNil (keep (λ e. eqb (e .start) v) (edgesOf s t k)) ≡ not (stands s (length (edgesOf s t k)) v)
+no-start s t k v = nil-any (λ e. eqb (e .start) v) (edgesOf s t k) ∙ ap not (any-edge (λ e. eqb (e .start) v) s t k)
+
+-- of a graph: whether a copy has an edge in, and out
+pub in-graph : (nodes endpoint s t k : List ℕ) (c : ℕ) → startsAt (graphOf (graphSlices nodes endpoint s t k)) c ≡ not (stands t (length (edgesOf s t k)) c)
 unfolding edgesIn
-in-graph nodes s t k c = nil-any (λ e. eqb (e .end) c) (edgesOf s t k) ∙ ap not (any-edge (λ e. eqb (e .end) c) s t k)
+in-graph nodes endpoint s t k c = no-end s t k c
 
-pub out-graph : (nodes s t k : List ℕ) (c : ℕ) → endsAt (graphOf (graphSlices nodes s t k)) c ≡ not (stands s (length (edgesOf s t k)) c)
+pub out-graph : (nodes endpoint s t k : List ℕ) (c : ℕ) → isNil (edgesOut (graphOf (graphSlices nodes endpoint s t k)) c) ≡ not (stands s (length (edgesOf s t k)) c)
 unfolding edgesOut
-out-graph nodes s t k c = nil-any (λ e. eqb (e .start) c) (edgesOf s t k) ∙ ap not (any-edge (λ e. eqb (e .start) c) s t k)
+out-graph nodes endpoint s t k c = no-start s t k c
 
--- and a node of the design, whose edges are as many as the shorter list has
+-- and of a design, whose edges are as many as the shorter list has: whether a node has an edge in, and out, and whether it is marked
 length-design-edges : (s t : List ℕ) → length (edgesOf s t (upto (length s) 0)) ≡ min (length s) (length t)
 length-design-edges s t = omega (arith, length-edges s t (upto (length s) 0), length-upto (length s) 0)
 
-pub source-is : (n : ℕ) (s t : List ℕ) (v : ℕ) → isSource (design n s t [] []) v ≡ not (stands t (min (length s) (length t)) v)
-unfolding designGraph
-source-is n s t v = in-graph (upto n 0) s t (upto (length s) 0) v ∙ ap (λ (m : ℕ). not (stands t m v)) (length-design-edges s t)
+pub source-is : (n : ℕ) (s t marked : List ℕ) (v : ℕ) → isSource (design n s t [] [] marked) v ≡ not (stands t (min (length s) (length t)) v)
+unfolding designGraph edgesIn
+source-is n s t marked v = no-end s t (upto (length s) 0) v ∙ ap (λ (m : ℕ). not (stands t m v)) (length-design-edges s t)
 
-pub sink-is : (n : ℕ) (s t : List ℕ) (v : ℕ) → isSink (design n s t [] []) v ≡ not (stands s (min (length s) (length t)) v)
-unfolding designGraph
-sink-is n s t v = out-graph (upto n 0) s t (upto (length s) 0) v ∙ ap (λ (m : ℕ). not (stands s m v)) (length-design-edges s t)
+pub sink-is : (n : ℕ) (s t marked : List ℕ) (v : ℕ) → isSink (design n s t [] [] marked) v ≡ not (stands s (min (length s) (length t)) v)
+sink-is n s t marked v = no-start s t (upto (length s) 0) v ∙ ap (λ (m : ℕ). not (stands s m v)) (length-design-edges s t)
+
+pub marked-is : (marked : List ℕ) (v : ℕ) → anyOf (eqb v) marked ≡ stands marked (length marked) v
+marked-is l v =
+    same-test (anyOf (eqb v) l) (stands l (length l) v)
+    (λ h.
+    let r = anyOf-elim (eqb v) l h in
+    let o = place-of 0 l (r .1) in
+    let e : getD l (o .0) 0 ≡ v = o .2 ∙ sym (eqb→eq v (r .0) (r .2)) in
+    at-any at (length l) (o .0) (o .1) (rw e (eqb-refl v)))
+    (λ h.
+    let r = any-at at (length l) h in
+    let e : getD l (r .0) 0 ≡ v = eqb→eq (getD l (r .0) 0) v (r .2) in
+    anyOf-intro (eqb v) (getD-mem l (r .0) 0 (r .1)) (rw e (eqb-refl v)))
+  where
+    at : ℕ → Bool
+    at k = eqb (getD l k 0) v

@@ -2,16 +2,15 @@
 use Prim.Native.Nat.{ℕ, _+_, _≤_, _<_}
 use native.Mathlib.Omega.{arith}
 use native.Mathlib.Decide.{ℕ-discrete, decLt}
-use mathlib.Core.Path.{_≡_, refl, sym, _∙_, ap}
+use mathlib.Core.Path.{_≡_, refl, sym, _∙_}
 use mathlib.Core.Bool.{Bool, true, false, _&&_, _||_}
 use mathlib.Core.List.{List}
 use lib.Dec.{eqb, ltb}
 use lib.ListN.{length, getD, set, length-set, replicate, length-replicate, getD-replicate}
 use lib.Seq.{getD-set-same, getD-set-other, set-out}
 use borrow.Author.Tests.{ltb-true, lt-ltb, le-ltb, eq-eqb, ne-eqb}
-use Rattle.timing.specs.Lists.{allOf, upto}
-use Rattle.graph.specs.Passes.{stands, flag, Marked, follows, copyPasses}
-use Rattle.graph.proofs.Walk.{any-more, all-same}
+use Rattle.graph.specs.Passes.{stands, flag, FlagsSet, copyPasses, lowestAfter, walked}
+use Rattle.graph.proofs.Walk.{any-more, walk-same}
 
 or-false : (a b : Bool) → (a || (b && false)) ≡ a
 or-false true b = refl
@@ -27,12 +26,12 @@ or-not : (a : Bool) → (a || false) ≡ a
 or-not true = refl
 or-not false = refl
 
-pub marked-none : (f : List Bool) (l : List ℕ) → Marked f l 0 f
-marked-none f l = record { size = refl; set = λ v. sym (or-false (flag f v) (ltb v (length f))) }
+pub flags-none : (f : List Bool) (l : List ℕ) → FlagsSet f l 0 f
+flags-none f l = record { size = refl; set = λ v. sym (or-false (flag f v) (ltb v (length f))) }
 
 -- one number more
-pub marked-next : (f g : List Bool) (l : List ℕ) (k : ℕ) → Marked f l k g → Marked f l (k + 1) (set g (getD l k 0) true)
-marked-next f g l k m = record { size = length-set g x true ∙ m .size; set = at }
+pub flags-next : (f g : List Bool) (l : List ℕ) (k : ℕ) → FlagsSet f l k g → FlagsSet f l (k + 1) (set g (getD l k 0) true)
+flags-next f g l k m = record { size = length-set g x true ∙ m .size; set = at }
   where
     x : ℕ
     x = getD l k 0
@@ -54,35 +53,34 @@ marked-next f g l k m = record { size = length-set g x true ∙ m .size; set = a
     at v = elim (ℕ-discrete v x) [ yes e ↦ here v e | no d ↦ there v d ]
 
 -- flags that were all clear
-pub marked-clear : (n : ℕ) (l : List ℕ) (k : ℕ) (g : List Bool) → Marked (replicate n false) l k g → (v : ℕ) → v < n → flag g v ≡ stands l k v
-marked-clear n l k g m v h =
+pub flags-clear : (n : ℕ) (l : List ℕ) (k : ℕ) (g : List Bool) → FlagsSet (replicate n false) l k g → (v : ℕ) → v < n → flag g v ≡ stands l k v
+flags-clear n l k g m v h =
     m .set v ∙ rw (getD-replicate n v false false h, length-replicate n false, lt-ltb v n h)
 
--- what may follow a node
-pub follow-same : (hasOut : ℕ → Bool) (v w : ℕ) → v ≡ w → follows hasOut v w ≡ hasOut v
-follow-same hasOut v w e = rw (le-ltb v w (omega arith), eq-eqb v w e)
-
-pub follow-other : (hasOut : ℕ → Bool) (v w : ℕ) → (v ≡ w → ⊥) → follows hasOut v w ≡ ltb v w
-follow-other hasOut v w d = rw (ne-eqb v w d) (or-not (ltb v w))
-
 -- The test of the copies looks only at flags that are there: of nodes below n, and of copies.
-module _ (n size : ℕ) (nodes : List ℕ) (nodeIn nodeOut copyIn copyOut nodeIn′ nodeOut′ copyIn′ copyOut′ : ℕ → Bool) where
-  one-agrees : n ≤ size → ((v : ℕ) → v < size → nodeIn v ≡ nodeIn′ v) → ((v : ℕ) → v < size → nodeOut v ≡ nodeOut′ v) → (c : ℕ)
-      → copyIn c ≡ copyIn′ c → copyOut c ≡ copyOut′ c
-      → copyPasses n nodes nodeIn nodeOut copyIn copyOut c ≡ copyPasses n nodes nodeIn′ nodeOut′ copyIn′ copyOut′ c
-  one-agrees few i o c p q = go (ltb (getD nodes c 0) n) refl
+module _ (n size : ℕ) (nodes endpoint : List ℕ) (nodeIn nodeOut marked copyIn copyOut nodeIn′ nodeOut′ marked′ copyIn′ copyOut′ : ℕ → Bool) where
+  abbrev passes : ℕ → ℕ → Bool
+  passes = copyPasses n nodes endpoint nodeIn nodeOut marked copyIn copyOut
+
+  abbrev passes′ : ℕ → ℕ → Bool
+  passes′ = copyPasses n nodes endpoint nodeIn′ nodeOut′ marked′ copyIn′ copyOut′
+
+  one-agrees : n ≤ size
+      → ((v : ℕ) → v < size → nodeIn v ≡ nodeIn′ v) → ((v : ℕ) → v < size → nodeOut v ≡ nodeOut′ v) → ((v : ℕ) → v < size → marked v ≡ marked′ v)
+      → (x c : ℕ) → copyIn c ≡ copyIn′ c → copyOut c ≡ copyOut′ c → passes x c ≡ passes′ x c
+  one-agrees few i o k x c p q = go (ltb (getD nodes c 0) n) refl
     where
-      go : (b : Bool) → ltb (getD nodes c 0) n ≡ b → copyPasses n nodes nodeIn nodeOut copyIn copyOut c ≡ copyPasses n nodes nodeIn′ nodeOut′ copyIn′ copyOut′ c
+      go : (b : Bool) → ltb (getD nodes c 0) n ≡ b → passes x c ≡ passes′ x c
       go false e = rw e
       go true e =
           let h : getD nodes c 0 < size = omega (arith, ltb-true (getD nodes c 0) n e) in
-          rw (i (getD nodes c 0) h, o (getD nodes c 0) h, p, q)
+          rw (i (getD nodes c 0) h, o (getD nodes c 0) h, k (getD nodes c 0) h, p, q)
 
   pub copies-agree : (most : ℕ) → n ≤ size → length nodes ≤ most
-      → ((v : ℕ) → v < size → nodeIn v ≡ nodeIn′ v) → ((v : ℕ) → v < size → nodeOut v ≡ nodeOut′ v)
+      → ((v : ℕ) → v < size → nodeIn v ≡ nodeIn′ v) → ((v : ℕ) → v < size → nodeOut v ≡ nodeOut′ v) → ((v : ℕ) → v < size → marked v ≡ marked′ v)
       → ((c : ℕ) → c < most → copyIn c ≡ copyIn′ c) → ((c : ℕ) → c < most → copyOut c ≡ copyOut′ c)
-      → allOf (copyPasses n nodes nodeIn nodeOut copyIn copyOut) (upto (length nodes) 0)
-      ≡ allOf (copyPasses n nodes nodeIn′ nodeOut′ copyIn′ copyOut′) (upto (length nodes) 0)
-  copies-agree most few short i o p q =
-      all-same (copyPasses n nodes nodeIn nodeOut copyIn copyOut) (copyPasses n nodes nodeIn′ nodeOut′ copyIn′ copyOut′) (length nodes)
-      (λ c h. one-agrees few i o c (p c (omega arith)) (q c (omega arith)))
+      → walked (copyPasses n nodes endpoint nodeIn nodeOut marked copyIn copyOut) (lowestAfter nodes endpoint) (length nodes) 0 0
+      ≡ walked (copyPasses n nodes endpoint nodeIn′ nodeOut′ marked′ copyIn′ copyOut′) (lowestAfter nodes endpoint) (length nodes) 0 0
+  copies-agree most few short i o k p q =
+      walk-same passes passes′ (lowestAfter nodes endpoint) (length nodes)
+      (λ x c h. one-agrees few i o k x c (p c (omega arith)) (q c (omega arith)))

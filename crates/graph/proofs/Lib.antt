@@ -2,5 +2,5 @@
 pub mod Walk
 pub mod Flags
 pub mod Edges
-pub mod Sinks
+pub mod Ends
 pub mod WellFormed

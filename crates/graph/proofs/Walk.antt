@@ -6,6 +6,7 @@ use mathlib.Core.Path.{_≡_, refl, sym, _∙_, ap}
 use mathlib.Core.Bool.{Bool, true, false, _&&_, _||_}
 use lib.Dec.{T}
 use Rattle.timing.specs.Lists.{anyOf, allOf, upto}
+use Rattle.graph.specs.Passes.{walked}
 use Rattle.theorems.proofs.Lists.{anyOf-intro, anyOf-elim, mem-upto, of-upto, allOf-elim, allOf-intro}
 
 module _ (ok : ℕ → Bool) (k m : ℕ) where
@@ -28,6 +29,36 @@ pub all-left : (ok : ℕ → Bool) (m : ℕ) → allOf ok (upto (m - 0) 0) ≡ a
 all-left ok m =
     let d : m - 0 ≡ m = omega arith in
     ap (λ (n : ℕ). allOf ok (upto n 0)) d
+
+-- the same with a number that goes along
+module _ (ok : ℕ → ℕ → Bool) (next : ℕ → ℕ → ℕ) (k m x : ℕ) where
+  pub walk-bad : k < m → ok x k ≡ false → walked ok next (m - k) k x ≡ false
+  walk-bad h e =
+      let d : m - k ≡ suc (m - suc k) = omega arith in
+      rw (d, e)
+
+  pub walk-good : k < m → ok x k ≡ true → walked ok next (m - (k + 1)) (k + 1) (next x k) ≡ walked ok next (m - k) k x
+  walk-good h e =
+      let d : m - k ≡ suc (m - suc k) = omega arith in
+      rw (d, e, add-one k)
+
+  pub walk-done : m ≤ k → walked ok next (m - k) k x ≡ true
+  walk-done h =
+      let d : m - k ≡ 0 = omega arith in
+      rw d
+
+pub walk-starts : (ok : ℕ → ℕ → Bool) (next : ℕ → ℕ → ℕ) (m : ℕ) → walked ok next (m - 0) 0 0 ≡ walked ok next m 0 0
+walk-starts ok next m =
+    let d : m - 0 ≡ m = omega arith in
+    ap (λ (n : ℕ). walked ok next n 0 0) d
+
+-- tests that agree below n
+pub walk-same : (p q : ℕ → ℕ → Bool) (next : ℕ → ℕ → ℕ) (n : ℕ) → ((x i : ℕ) → i < n → p x i ≡ q x i) → walked p next n 0 0 ≡ walked q next n 0 0
+walk-same p q next n f = go n 0 0 (λ x i h. f x i (omega arith))
+  where
+    go : (m i x : ℕ) → ((y j : ℕ) → j < i + m → p y j ≡ q y j) → walked p next m i x ≡ walked q next m i x
+    go zero i x f = refl
+    go (suc m) i x f = rw (f x i (omega arith)) (ap (λ (b : Bool). q x i && b) (go m (suc i) (next x i) (λ y j h. f y j (omega arith))))
 
 -- one more place
 or-assoc : (a b c : Bool) → (a || (b || c)) ≡ ((a || b) || c)
@@ -65,11 +96,3 @@ module _ (p : ℕ → Bool) (n : ℕ) where
 
   pub at-any : (i : ℕ) → i < n → T (p i) → T (anyOf p (upto n 0))
   at-any i h t = anyOf-intro p (mem-upto n 0 i (omega arith) (omega arith)) t
-
--- tests that agree below n
-pub all-same : (p q : ℕ → Bool) (n : ℕ) → ((i : ℕ) → i < n → p i ≡ q i) → allOf p (upto n 0) ≡ allOf q (upto n 0)
-all-same p q n f = go n 0 (λ i h. f i (omega arith))
-  where
-    go : (m i : ℕ) → ((j : ℕ) → j < i + m → p j ≡ q j) → allOf p (upto m i) ≡ allOf q (upto m i)
-    go zero i f = refl
-    go (suc m) i f = rw (f i (omega arith)) (ap (λ (b : Bool). q i && b) (go m (suc i) (λ j h. f j (omega arith))))

@@ -1,7 +1,7 @@
 -- The test 32 as it is computed: one test for each edge, and one for each copy.
-use Prim.Native.Nat.{ℕ, _+_}
+use Prim.Native.Nat.{ℕ, zero, suc, _+_}
 use mathlib.Core.Path.{_≡_}
-use mathlib.Core.Bool.{Bool, false, not, _&&_, _||_}
+use mathlib.Core.Bool.{Bool, true, false, not, cond, _&&_, _||_}
 use mathlib.Core.List.{List, []}
 use lib.Dec.{eqb, ltb, leb}
 use lib.ListN.{length, getD}
@@ -18,7 +18,7 @@ abbrev pub flag : List Bool → ℕ → Bool
 flag flags v = getD flags v false
 
 -- the flags after those of the first n numbers of a list were set
-pub record Marked (before : List Bool) (l : List ℕ) (n : ℕ) (after : List Bool) : Type 0 where
+pub record FlagsSet (before : List Bool) (l : List ℕ) (n : ℕ) (after : List Bool) : Type 0 where
   pub size : length after ≡ length before
   pub set : (v : ℕ) → flag after v ≡ (flag before v || (ltb v (length before) && stands l n v))
 
@@ -29,21 +29,37 @@ edgeAt starts ends names k = edge (getD starts k 0) (getD ends k 0) (getD names 
 -- edge k of m fits and rises to the next, if there is one
 abbrev pub edgePasses : List ℕ → List ℕ → List ℕ → List ℕ → List ℕ → List ℕ → ℕ → ℕ → Bool
 edgePasses starts ends nodes from to via m k =
-    edgeFits (design 0 starts ends [] []) (graph nodes []) (edgeAt from to via k)
+    edgeFits (design 0 starts ends [] [] []) (graph nodes [] []) (edgeAt from to via k)
     && (leb m (k + 1) || edgeRises (edgeAt from to via k) (edgeAt from to via (k + 1)))
 
--- node w may come after node v: it is higher, or the same and no sink
-abbrev pub follows : (ℕ → Bool) → ℕ → ℕ → Bool
-follows hasOut v w = ltb v w || (eqb v w && hasOut v)
-
--- a copy has an edge where its node has one
+-- where one holds, the other does: a copy has an edge where its node has one
 abbrev pub joined : Bool → Bool → Bool
 joined node copy = not node || copy
 
--- Copy c fits: its node exists, may come before the next copy's, and has no edges on a side where the copy has none.
-abbrev pub copyPasses : ℕ → List ℕ → (ℕ → Bool) → (ℕ → Bool) → (ℕ → Bool) → (ℕ → Bool) → ℕ → Bool
-copyPasses n nodes nodeIn nodeOut copyIn copyOut c =
+-- What is asked of a copy by whether paths end at it: they end only where its node has no edge out or is marked; and where none end, its node
+-- has an edge out, and so does the copy.
+abbrev pub endFits : Bool → Bool → Bool → Bool → Bool
+endFits end out marked left = cond end (joined out marked) (out && left)
+
+-- A copy of node v where paths end: `lowest` is the lowest node that it may be of. As copies never fall in node number, at most one copy of
+-- each node is one where paths end if the nodes of these rise.
+abbrev pub endRises : Bool → ℕ → ℕ → Bool
+endRises end lowest v = cond end (leb lowest v) true
+
+abbrev pub lowestAfter : List ℕ → List ℕ → ℕ → ℕ → ℕ
+lowestAfter nodes endpoint lowest c = cond (eqb (getD endpoint c 0) 1) (getD nodes c 0 + 1) lowest
+
+-- Copy c fits: its node exists and is not above the next copy's, and it has an edge in where its node has one; and the copy fits by its endpoint
+-- number.
+abbrev pub copyPasses : ℕ → List ℕ → List ℕ → (ℕ → Bool) → (ℕ → Bool) → (ℕ → Bool) → (ℕ → Bool) → (ℕ → Bool) → ℕ → ℕ → Bool
+copyPasses n nodes endpoint nodeIn nodeOut marked copyIn copyOut lowest c =
     ltb (getD nodes c 0) n
-    && (leb (length nodes) (c + 1) || follows nodeOut (getD nodes c 0) (getD nodes (c + 1) 0))
+    && (leb (length nodes) (c + 1) || leb (getD nodes c 0) (getD nodes (c + 1) 0))
     && joined (nodeIn (getD nodes c 0)) (copyIn c)
-    && joined (nodeOut (getD nodes c 0)) (copyOut c)
+    && endFits (eqb (getD endpoint c 0) 1) (nodeOut (getD nodes c 0)) (marked (getD nodes c 0)) (copyOut c)
+    && endRises (eqb (getD endpoint c 0) 1) lowest (getD nodes c 0)
+
+-- A pass over m places from c on, with a number that goes along: each place passes with the number as it is there.
+abbrev pub walked : (ℕ → ℕ → Bool) → (ℕ → ℕ → ℕ) → ℕ → ℕ → ℕ → Bool
+walked ok next zero c x = true
+walked ok next (suc m) c x = ok x c && walked ok next m (suc c) (next x c)

@@ -3,76 +3,71 @@ use Prim.Native.Nat.{ℕ, zero, suc, _+_, _-_, _≤_, _<_}
 use native.Mathlib.Omega.{arith}
 use native.Mathlib.Numerals.{add-one}
 use mathlib.Core.Path.{_≡_, refl, sym, _∙_, ap}
-use mathlib.Core.List.{List, [], _∷_, map}
+use mathlib.Core.List.{List, _∷_, map}
+use lib.Dec.{leb}
 use lib.ListN.{length, set, length-set}
 use lib.Seq.{sets}
 use Rattle.timing.specs.declared.Refusal.{Refusal}
+use Rattle.timing.specs.declared.Verdict.{Verdict}
+use Rattle.timing.specs.declared.Verdict.the-variants.{Passed}
+use Rattle.timing.specs.declared.Verdict.the-variants.{Refused as NotPassed}
 use Rattle.timing.specs.declared.NumberRead.{NumberRead}
 use Rattle.timing.specs.declared.NumberRead.the-variants.{Value}
 use Rattle.timing.specs.declared.NumberRead.the-variants.{Refused as NotRead}
 use Rattle.timing.specs.Numbers.{readNumber}
-use Rattle.timing.specs.Parsing.{Parsed, found, stopped, Reader, onward, _>>=_, return, parsedNumber, number, repeated, Row, row}
+use Rattle.timing.specs.GraphBytes.{CopyRow, copyRow}
+use Rattle.timing.specs.Refusals.{unless}
+use Rattle.timing.specs.Parsing.{Parsed, found, stopped, Reader, onward, _>>=_, _>>_, return, tested, parsedNumber, number, repeated, Row, row}
 use Rattle.timing.specs.Looks.{valueOf, nextOf, valueAt, nextAt, rowAt, rowEnd}
-use Rattle.graph_reader.specs.Reading.{thingsFrom, placeAfter, numbersFrom, numbersEnd, rowsFrom}
+use Rattle.graph_reader.specs.Reading.{thingsFrom, placeAfter, copyAt, copyEnd, copiesFrom, copiesEnd, rowsFrom}
 
--- a turn of the loop over k numbers, and its ends
-module _ (s : List ℕ) (k i at : ℕ) (out : List ℕ) where
-  pub fill-end : i < k → numbersEnd s (k - (i + 1)) (nextAt s at) ≡ numbersEnd s (k - i) at
-  fill-end h =
-      let d : k - i ≡ suc (k - (i + 1)) = omega arith in
+-- A loop over m things, copies or rows: the place behind them, from a thing on.
+module _ (next : ℕ → ℕ) (m i at : ℕ) where
+  pub place-turn : i < m → placeAfter next (m - (i + 1)) (next at) ≡ placeAfter next (m - i) at
+  place-turn h =
+      let d : m - i ≡ suc (m - (i + 1)) = omega arith in
       rw d
 
-  pub fill-next : i < k → sets (set out i (valueAt s at)) (i + 1) (numbersFrom s (k - (i + 1)) (nextAt s at)) ≡ sets out i (numbersFrom s (k - i) at)
-  fill-next h =
-      let d : k - i ≡ suc (k - (i + 1)) = omega arith in
-      rw (d, add-one i)
-
-  pub fill-none : k ≤ i → (at ≡ numbersEnd s (k - i) at) × (out ≡ sets out i (numbersFrom s (k - i) at))
-  fill-none h =
-      let d : k - i ≡ 0 = omega arith in
-      rw d (refl, refl)
-
-pub fill-all : (s : List ℕ) (k at : ℕ) (out : List ℕ) → (numbersEnd s (k - 0) at ≡ numbersEnd s k at) × (sets out 0 (numbersFrom s (k - 0) at) ≡ sets out 0 (numbersFrom s k at))
-fill-all s k at out =
-    let d : k - 0 ≡ k = omega arith in
-    rw d (refl, refl)
-
--- and over m rows, of which one part goes into one slice
-module _ (s : List ℕ) (part : Row → ℕ) (m i at : ℕ) (out : List ℕ) where
-  pub row-next : i < m → sets (set out i (part (rowAt s at))) (i + 1) (map part (rowsFrom s (m - (i + 1)) (rowEnd s at))) ≡ sets out i (map part (rowsFrom s (m - i) at))
-  row-next h =
-      let d : m - i ≡ suc (m - (i + 1)) = omega arith in
-      rw (d, add-one i)
-
-  pub row-none : m ≤ i → out ≡ sets out i (map part (rowsFrom s (m - i) at))
-  row-none h =
+  pub place-none : m ≤ i → at ≡ placeAfter next (m - i) at
+  place-none h =
       let d : m - i ≡ 0 = omega arith in
       rw d
 
-pub row-all : (s : List ℕ) (part : Row → ℕ) (m at : ℕ) (out : List ℕ) → sets out 0 (map part (rowsFrom s (m - 0) at)) ≡ sets out 0 (map part (rowsFrom s m at))
-row-all s part m at out =
+pub place-all : (next : ℕ → ℕ) (m at : ℕ) → placeAfter next (m - 0) at ≡ placeAfter next m at
+place-all next m at =
     let d : m - 0 ≡ m = omega arith in
     rw d
 
--- one slice of three, as the loop over the rows has it: filled below i, and the rest to come from here on
-pub record Column (s : List ℕ) (part : Row → ℕ) (m at : ℕ) (out : List ℕ) (here i : ℕ) (out′ : List ℕ) : Type 0 where
-  pub size : length out′ ≡ length out
-  pub left : sets out′ i (map part (rowsFrom s (m - i) here)) ≡ sets out 0 (map part (rowsFrom s m at))
+-- and a slice, into which one part of each goes
+module _ {A : Type 0} (thing : ℕ → A) (next : ℕ → ℕ) where
+  -- as the loop has it: filled below i, and the rest to come from here on
+  pub record Column (part : A → ℕ) (m at : ℕ) (out : List ℕ) (here i : ℕ) (out′ : List ℕ) : Type 0 where
+    pub size : length out′ ≡ length out
+    pub left : sets out′ i (map part (thingsFrom thing next (m - i) here)) ≡ sets out 0 (map part (thingsFrom thing next m at))
 
-module _ (s : List ℕ) (part : Row → ℕ) (m at : ℕ) (out : List ℕ) where
-  pub column-all : Column s part m at out at 0 out
-  column-all = record { size = refl; left = row-all s part m at out }
+  pub column-all : (part : A → ℕ) (m at : ℕ) (out : List ℕ) → Column part m at out at 0 out
+  column-all part m at out =
+      let d : m - 0 ≡ m = omega arith in
+      record { size = refl; left = rw d }
 
-  pub column-turn : (here i : ℕ) (out′ : List ℕ) (here″ : ℕ) (out″ : List ℕ) → i < m → here″ ≡ rowEnd s here → out″ ≡ set out′ i (part (rowAt s here))
-      → Column s part m at out here i out′ → Column s part m at out here″ (i + 1) out″
-  column-turn here i out′ here″ out″ h e f c =
-      record {
-        size = ap length f ∙ length-set out′ i (part (rowAt s here)) ∙ c .size;
-        left = rw (e, f) (row-next s part m i here out′ h ∙ c .left);
-      }
+  module _ (part : A → ℕ) (m at : ℕ) (out : List ℕ) where
+    pub column-turn : (here i : ℕ) (out′ : List ℕ) (here″ : ℕ) (out″ : List ℕ) → i < m → here″ ≡ next here → out″ ≡ set out′ i (part (thing here))
+        → Column part m at out here i out′ → Column part m at out here″ (i + 1) out″
+    column-turn here i out′ here″ out″ h e f c =
+        record {
+          size = ap length f ∙ length-set out′ i (part (thing here)) ∙ c .size;
+          left = rw (e, f) (one ∙ c .left);
+        }
+      where
+        one : sets (set out′ i (part (thing here))) (i + 1) (map part (thingsFrom thing next (m - (i + 1)) (next here))) ≡ sets out′ i (map part (thingsFrom thing next (m - i) here))
+        one =
+            let d : m - i ≡ suc (m - (i + 1)) = omega arith in
+            rw (d, add-one i)
 
-  pub column-none : (here i : ℕ) (out′ : List ℕ) → m ≤ i → Column s part m at out here i out′ → out′ ≡ sets out 0 (map part (rowsFrom s m at))
-  column-none here i out′ h c = row-none s part m i here out′ h ∙ c .left
+    pub column-none : (here i : ℕ) (out′ : List ℕ) → m ≤ i → Column part m at out here i out′ → out′ ≡ sets out 0 (map part (thingsFrom thing next m at))
+    column-none here i out′ h c =
+        let d : m - i ≡ 0 = omega arith in
+        rw d at (c .left)
 
 -- What a reader found is what stands there.
 never : {X : Type 0} (r : Refusal) {A : Type 0} {x : A} {b : ℕ} → stopped r ≡ found x b → X
@@ -135,8 +130,32 @@ row-here s at x b e = one (number s at) refl e
         rw (sym (h .0), sym (h .1)) (two v c (number s c) refl f)
     one (stopped r) q f = never r f
 
-pub numbers-from : (s : List ℕ) (k at : ℕ) (xs : List ℕ) (a : ℕ) → repeated k (number s) at ≡ found xs a → (xs ≡ numbersFrom s k at) × (a ≡ numbersEnd s k at)
-numbers-from s = things-from (number s) (valueAt s) (nextAt s) (number-here s)
+copy-here : (s : List ℕ) (at : ℕ) (x : CopyRow) (b : ℕ) → copyRow s at ≡ found x b → (x ≡ copyAt s at) × (b ≡ copyEnd s at)
+copy-here s at x b e = one (number s at) refl e
+  where
+    three : (v w c : ℕ) (t : Verdict) → onward (tested t c) (λ u. return {A = CopyRow} (record { node = v; endpoint = w })) ≡ found x b
+        → (x ≡ record { node = v; endpoint = w }) × (b ≡ c)
+    three v w c Passed f = (cc, cc)
+    three v w c (NotPassed r) f = never r f
+
+    two : (v : ℕ) (at₁ : ℕ) (p : Parsed ℕ) → number s at₁ ≡ p
+        → onward p (λ w. tested (unless 32 (leb w 1)) >> return {A = CopyRow} (record { node = v; endpoint = w })) ≡ found x b
+        → (x ≡ record { node = v; endpoint = valueAt s at₁ }) × (b ≡ nextAt s at₁)
+    two v at₁ (found w c) q f =
+        let h = number-here s at₁ w c q in
+        rw (sym (h .0), sym (h .1)) (three v w c (unless 32 (leb w 1)) f)
+    two v at₁ (stopped r) q f = never r f
+
+    one : (p : Parsed ℕ) → number s at ≡ p
+        → onward p (λ v. number s >>= (λ w. tested (unless 32 (leb w 1)) >> return {A = CopyRow} (record { node = v; endpoint = w }))) ≡ found x b
+        → (x ≡ copyAt s at) × (b ≡ copyEnd s at)
+    one (found v c) q f =
+        let h = number-here s at v c q in
+        rw (sym (h .0), sym (h .1)) (two v c (number s c) refl f)
+    one (stopped r) q f = never r f
+
+pub copies-from : (s : List ℕ) (k at : ℕ) (xs : List CopyRow) (a : ℕ) → repeated k (copyRow s) at ≡ found xs a → (xs ≡ copiesFrom s k at) × (a ≡ copiesEnd s k at)
+copies-from s = things-from (copyRow s) (copyAt s) (copyEnd s) (copy-here s)
 
 pub rows-from : (s : List ℕ) (k at : ℕ) (xs : List Row) (a : ℕ) → repeated k (row s) at ≡ found xs a → (xs ≡ rowsFrom s k at) × (a ≡ placeAfter (rowEnd s) k at)
 rows-from s = things-from (row s) (rowAt s) (rowEnd s) (row-here s)

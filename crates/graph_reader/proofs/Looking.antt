@@ -1,8 +1,8 @@
 -- How far a reader gets, whatever it finds.
-use Prim.Native.Nat.{ℕ, zero, suc, _-_, _*_, _≤_, _<_}
+use Prim.Native.Nat.{ℕ, zero, suc, _*_, _≤_, _<_}
 use native.Mathlib.Omega.{arith}
 use mathlib.Core.Path.{_≡_, refl, sym, _∙_, ap}
-use mathlib.Core.List.{List, [], _∷_, map}
+use mathlib.Core.List.{List, [], _∷_}
 use lib.Dec.{leb}
 use lib.ListN.{length, length-map}
 use borrow.Author.Tests.{le-leb, lt-leb}
@@ -15,16 +15,16 @@ use Rattle.timing.specs.declared.NumberRead.the-variants.{Value}
 use Rattle.timing.specs.declared.NumberRead.the-variants.{Refused as NotRead}
 use Rattle.timing.specs.declared.GraphMade.the-variants.{Counts}
 use Rattle.timing.specs.declared.GraphMade.the-variants.{Refused as NoGraph}
-use Rattle.timing.specs.Graphs.{Edge, edge, Graph, graph}
+use Rattle.timing.specs.Graphs.{Edge, edge, Graph}
 use Rattle.timing.specs.Numbers.{readNumber}
-use Rattle.timing.specs.GraphBytes.{readGraph}
+use Rattle.timing.specs.GraphBytes.{CopyRow, copyRow, graphFrom, readGraph}
 use Rattle.timing.specs.Refusals.{refusal, unless, _then_}
 use Rattle.timing.specs.Parsing.{Parsed, found, stopped, Reader, onward, _>>=_, _>>_, return, tested, parsedNumber, number, repeated, Row, row, ended}
 use Rattle.timing.specs.Calls.{parsed, graphAnswer}
 use Rattle.timing.specs.declared.Looked.the-variants.{At, Refused}
 use Rattle.timing.specs.Looks.{looked, numberOf}
 use Rattle.packed_lists.proofs.Looking.{rows-numbers}
-use Rattle.graph_reader.specs.Reading.{countIn, edgesIn, madeOf}
+use Rattle.graph_reader.specs.Reading.{countIn, endpointIn, edgesIn, madeOf}
 
 -- A count, by what was read and what its test says.
 module _ (s : List ℕ) (limit full room at v next : ℕ) (e : readNumber s at ≡ Value v next) where
@@ -91,40 +91,66 @@ repeated-length {A} p (suc k) at xs a e = one (p at) e (λ b. repeated-length p 
     one (found x b) f below = two x (repeated k p b) f (below b)
     one (stopped r) f below = absurd (let z : _≡_ {A = ℕ} 0 1 = cc in omega arith)
 
+-- A copy, by what was read of its node, and an endpoint number.
+module _ (s : List ℕ) (at v next : ℕ) (e : readNumber s at ≡ Value v next) where
+  pub endpoint-in : v ≤ 1 → At next ≡ looked (endpointIn s at)
+  endpoint-in h = rw (e, le-leb v 1 h)
+
+  pub endpoint-above : 1 < v → Refused (refusal 32 0) ≡ looked (endpointIn s at)
+  endpoint-above h = rw (e, lt-leb v 1 h)
+
+  pub copy-rest : looked (endpointIn s next) ≡ looked (copyRow s at)
+  copy-rest = rw e (one (readNumber s next))
+    where
+      two : (x a : ℕ) (t : Verdict) → looked (onward (tested t a) (λ u. return x)) ≡ looked (onward (tested t a) (λ u. return {A = CopyRow} (record { node = v; endpoint = x })))
+      two x a Passed = refl
+      two x a (NotPassed r) = refl
+
+      one : (r : NumberRead) → looked (onward (parsedNumber r) (λ x. tested (unless 32 (leb x 1)) >> return x))
+          ≡ looked (onward (parsedNumber r) (λ x. tested (unless 32 (leb x 1)) >> return {A = CopyRow} (record { node = v; endpoint = x })))
+      one (Value x a) = two x a (unless 32 (leb x 1))
+      one (NotRead r) = refl
+
+pub endpoint-none : (s : List ℕ) (at : ℕ) (r : Refusal) → readNumber s at ≡ NotRead r → Refused r ≡ looked (endpointIn s at)
+endpoint-none s at r e = rw e
+
+pub copy-none : (s : List ℕ) (at : ℕ) (r : Refusal) → readNumber s at ≡ NotRead r → Refused r ≡ looked (copyRow s at)
+copy-none s at r e = rw e
+
 -- The whole graph: its copies, and then its edges.
 abbrev pub edgeOfRow : Row → Edge
 edgeOfRow r = edge (r .first) (r .second) (r .third)
 
 -- the reader's edges, for the graph that they make with some copies
-abbrev pub edgesReader : List ℕ → ℕ → List ℕ → Reader Graph
-edgesReader s edges nodes = do
+abbrev pub edgesReader : List ℕ → ℕ → List CopyRow → Reader Graph
+edgesReader s edges copies = do
   m ← number s
   tested (unless 32 (leb m 65536) then unless 34 (leb m edges))
   rows ← repeated m (row s)
   ended s
-  return (graph nodes (map edgeOfRow rows))
+  return (graphFrom copies rows)
 
-edges-made : (s : List ℕ) (edges at n : ℕ) (nodes : List ℕ) → length nodes ≡ n → graphAnswer (parsed (edgesReader s edges nodes at)) ≡ madeOf n (edgesIn s edges at)
-edges-made s edges at n nodes l = one (readNumber s at)
+edges-made : (s : List ℕ) (edges at n : ℕ) (copies : List CopyRow) → length copies ≡ n → graphAnswer (parsed (edgesReader s edges copies at)) ≡ madeOf n (edgesIn s edges at)
+edges-made s edges at n copies l = one (readNumber s at)
   where
     four : (m : ℕ) (rows : List Row) (p : Parsed (Unit {0})) → length rows ≡ m
-        → graphAnswer (parsed (onward p (λ u. return (graph nodes (map edgeOfRow rows))))) ≡ madeOf n (onward p (λ u. return m))
-    four m rows (found u a) k = rw (length-map rows edgeOfRow, k, l)
+        → graphAnswer (parsed (onward p (λ u. return (graphFrom copies rows)))) ≡ madeOf n (onward p (λ u. return m))
+    four m rows (found u a) k = rw (length-map rows edgeOfRow, k, length-map copies (λ q. q .node), l)
     four m rows (stopped r) k = refl
 
     three : (m : ℕ) (p : Parsed (List Row)) → ((rows : List Row) (a : ℕ) → p ≡ found rows a → length rows ≡ m)
-        → graphAnswer (parsed (onward p (λ rows. ended s >> return (graph nodes (map edgeOfRow rows))))) ≡ madeOf n (onward p (λ rows. ended s >> return m))
+        → graphAnswer (parsed (onward p (λ rows. ended s >> return (graphFrom copies rows)))) ≡ madeOf n (onward p (λ rows. ended s >> return m))
     three m (found rows a) k = four m rows (ended s a) (k rows a refl)
     three m (stopped r) k = refl
 
     two : (m a : ℕ) (v : Verdict)
-        → graphAnswer (parsed (onward (tested v a) (λ u. repeated m (row s) >>= (λ rows. ended s >> return (graph nodes (map edgeOfRow rows))))))
+        → graphAnswer (parsed (onward (tested v a) (λ u. repeated m (row s) >>= (λ rows. ended s >> return (graphFrom copies rows)))))
         ≡ madeOf n (onward (onward (tested v a) (λ u. return m)) (λ m. repeated m (row s) >>= (λ rows. ended s >> return m)))
     two m a Passed = three m (repeated m (row s) a) (repeated-length (row s) m a)
     two m a (NotPassed r) = refl
 
     one : (r : NumberRead)
-        → graphAnswer (parsed (onward (parsedNumber r) (λ m. tested (unless 32 (leb m 65536) then unless 34 (leb m edges)) >> (repeated m (row s) >>= (λ rows. ended s >> return (graph nodes (map edgeOfRow rows)))))))
+        → graphAnswer (parsed (onward (parsedNumber r) (λ m. tested (unless 32 (leb m 65536) then unless 34 (leb m edges)) >> (repeated m (row s) >>= (λ rows. ended s >> return (graphFrom copies rows))))))
         ≡ madeOf n (onward (onward (parsedNumber r) (λ m. tested (unless 32 (leb m 65536) then unless 34 (leb m edges)) >> return m)) (λ m. repeated m (row s) >>= (λ rows. ended s >> return m)))
     one (Value m a) = two m a (unless 32 (leb m 65536) then unless 34 (leb m edges))
     one (NotRead r) = refl
@@ -162,19 +188,19 @@ counted {B} s limit full room at r f e = one (readNumber s at) e
 
 -- what the reader answers, by what the looks do
 module _ (s : List ℕ) (copies edges n next : ℕ) (e : numberOf (countIn s 16384 33 copies 0) ≡ Value n next) where
-  pub graph-rest : (after : ℕ) → looked (repeated n (number s) next) ≡ At after → madeOf n (edgesIn s edges after) ≡ graphAnswer (parsed (readGraph s copies edges))
+  pub graph-rest : (after : ℕ) → looked (repeated n (copyRow s) next) ≡ At after → madeOf n (edgesIn s edges after) ≡ graphAnswer (parsed (readGraph s copies edges))
   unfolding readGraph
   graph-rest after f =
       let p = count-parts s 16384 33 copies 0 n next (number-is (countIn s 16384 33 copies 0) e) in
-      let r = looked-is (repeated n (number s) next) f in
-      rw (p .0, p .1, r .1) (sym (edges-made s edges after n (r .0) (repeated-length (number s) n next (r .0) after (r .1))))
+      let r = looked-is (repeated n (copyRow s) next) f in
+      rw (p .0, p .1, r .1) (sym (edges-made s edges after n (r .0) (repeated-length (copyRow s) n next (r .0) after (r .1))))
 
-  pub graph-stop : (q : Refusal) → looked (repeated n (number s) next) ≡ Refused q → NoGraph q ≡ graphAnswer (parsed (readGraph s copies edges))
+  pub graph-stop : (q : Refusal) → looked (repeated n (copyRow s) next) ≡ Refused q → NoGraph q ≡ graphAnswer (parsed (readGraph s copies edges))
   unfolding readGraph
   graph-stop q f =
       let p = count-parts s 16384 33 copies 0 n next (number-is (countIn s 16384 33 copies 0) e) in
-      rw (p .0, p .1, looked-no (repeated n (number s) next) f)
+      rw (p .0, p .1, looked-no (repeated n (copyRow s) next) f)
 
 pub graph-none : (s : List ℕ) (copies edges : ℕ) (q : Refusal) → numberOf (countIn s 16384 33 copies 0) ≡ NotRead q → NoGraph q ≡ graphAnswer (parsed (readGraph s copies edges))
 unfolding readGraph
-graph-none s copies edges q e = rw (counted s 16384 33 copies 0 q (λ n. repeated n (number s) >>= edgesReader s edges) (number-no (countIn s 16384 33 copies 0) e))
+graph-none s copies edges q e = rw (counted s 16384 33 copies 0 q (λ n. repeated n (copyRow s) >>= edgesReader s edges) (number-no (countIn s 16384 33 copies 0) e))

@@ -7,13 +7,13 @@ ghost use lib.Seq.{sets};
 ghost use lib.Dec.{leb};
 ghost use Rattle.timing.specs.Refusals.{_then_};
 ghost use Rattle.timing.specs.Refusals.{unless as passedIf};
-ghost use Rattle.timing.specs.GraphBytes.{readGraph};
+ghost use Rattle.timing.specs.GraphBytes.{copyRow, readGraph};
 ghost use Rattle.timing.specs.Calls.{parsed, graphAnswer};
-ghost use Rattle.timing.specs.Looks.{numberOf, nextAt, rowAt, rowEnd};
-ghost use Rattle.graph_reader.specs.Reading.{countIn, madeOf, edgesIn};
-ghost use Rattle.graph_reader.specs.Reading.{numbersFrom, numbersEnd, rowsFrom, rowsPlace};
+ghost use Rattle.timing.specs.Parsing.{repeated};
+ghost use Rattle.timing.specs.Looks.{looked, numberOf, nextAt, rowAt, rowEnd};
+ghost use Rattle.graph_reader.specs.Reading.{countIn, endpointIn, madeOf, edgesIn, copyAt, copyEnd};
+ghost use Rattle.graph_reader.specs.Reading.{copiesFrom, copiesEnd, rowsFrom, rowsPlace};
 use entries::wide;
-use packed_lists::look_numbers;
 use packed_lists::look_rows;
 use packed_lists::take_number;
 use timing::GraphMade;
@@ -48,6 +48,53 @@ fn look_count(s: &[u8], at: usize, limit: usize, full: u32, room: usize) -> Numb
     }
 }
 
+// An endpoint number: 32 above 1, as soon as it is met.
+fn look_endpoint(s: &[u8], at: usize) -> Looked
+    ensures { λ r. ⌜ r ≡ looked (endpointIn (now (s .entry)) at) ⌝ }
+{
+    let r = packed::read_number(s, at);
+    match r {
+        NumberRead::Value { value, next } => {
+            if value <= 1 {
+                return Looked::At(next);
+            }
+            Looked::Refused(verdicts::refuse(32, 0))
+        }
+        NumberRead::Refused(e) => Looked::Refused(e),
+    }
+}
+
+// A copy: its node, and its endpoint number.
+fn look_copy(s: &[u8], at: usize) -> Looked
+    ensures { λ r. ⌜ r ≡ looked (copyRow (now (s .entry)) at) ⌝ }
+{
+    let r = packed::read_number(s, at);
+    match r {
+        NumberRead::Value { value: _, next } => look_endpoint(s, next),
+        NumberRead::Refused(e) => Looked::Refused(e),
+    }
+}
+
+fn look_copies(s: &[u8], at: usize, n: usize) -> Looked
+    ensures { λ r. ⌜ r ≡ looked (repeated n (copyRow (now (s .entry))) at) ⌝ }
+{
+    let mut here = at;
+    let mut i = 0;
+    while i < n {
+        let r = look_copy(s, here);
+        match r {
+            Looked::At(next) => {
+                here = next;
+                i += 1;
+            }
+            Looked::Refused(e) => {
+                return Looked::Refused(e);
+            }
+        }
+    }
+    Looked::At(here)
+}
+
 // The edges, and 3.
 fn look_edges(s: &[u8], at: usize, copies: u32, edges: usize) -> GraphMade
     ensures { λ r. ⌜ r ≡ madeOf copies (edgesIn (now (s .entry)) edges at) ⌝ }
@@ -79,7 +126,7 @@ pub(crate) fn look(s: &[u8], copies: usize, edges: usize) -> GraphMade
     let r = look_count(s, 0, timing::MAX_COPIES, 33, copies);
     match r {
         NumberRead::Value { value, next } => {
-            let q = look_numbers(s, next, wide(value));
+            let q = look_copies(s, next, wide(value));
             match q {
                 Looked::At(after) => look_edges(s, after, value, edges),
                 Looked::Refused(e) => GraphMade::Refused(e),
@@ -96,18 +143,47 @@ pub(crate) fn next_at(s: &[u8], at: usize) -> usize
     f.next
 }
 
-pub(crate) fn fill_numbers(s: &[u8], at: usize, k: usize, out: &mut [u32]) -> usize
-    requires { ⌜ k ≤ length (now out) ⌝ }
+// Copy i of two slices.
+fn fill_copy(
+    s: &[u8],
+    at: usize,
+    i: usize,
+    room_nodes: &mut [u32],
+    room_endpoint: &mut [u32],
+) -> usize
+    requires { ⌜ (i < length (now «room_nodes»)) × (i < length (now «room_endpoint»)) ⌝ }
     ensures { λ r.
-        ⌜ (r ≡ numbersEnd (now (s .entry)) k at)
-        × (now (out .exit) ≡ sets (now (out .entry)) 0 (numbersFrom (now (s .entry)) k at)) ⌝ }
+        let copy = copyAt (now (s .entry)) at in
+        ⌜ (r ≡ copyEnd (now (s .entry)) at)
+        × (now («room_nodes» .exit) ≡ set (now («room_nodes» .entry)) i (copy .node))
+        × (now («room_endpoint» .exit) ≡ set (now («room_endpoint» .entry)) i (copy .endpoint)) ⌝ }
+{
+    let a = take_number(s, at);
+    let second = a.next;
+    let b = take_number(s, second);
+    room_nodes[i] = a.value;
+    room_endpoint[i] = b.value;
+    b.next
+}
+
+fn fill_copies(
+    s: &[u8],
+    at: usize,
+    n: usize,
+    room_nodes: &mut [u32],
+    room_endpoint: &mut [u32],
+) -> usize
+    requires { ⌜ (n ≤ length (now «room_nodes»)) × (n ≤ length (now «room_endpoint»)) ⌝ }
+    ensures { λ r.
+        let copies = copiesFrom (now (s .entry)) n at in
+        ⌜ (r ≡ copiesEnd (now (s .entry)) n at)
+        × (now («room_nodes» .exit) ≡ sets (now («room_nodes» .entry)) 0 (map (λ q. q .node) copies))
+        × (now («room_endpoint» .exit) ≡ sets (now («room_endpoint» .entry)) 0 (map (λ q. q .endpoint) copies)) ⌝ }
 {
     let mut here = at;
     let mut i = 0;
-    while i < k {
-        let f = take_number(s, here);
-        out[i] = f.value;
-        here = f.next;
+    while i < n {
+        here = fill_copy(s, here, i, room_nodes, room_endpoint);
         i += 1;
     }
     here
@@ -170,24 +246,27 @@ pub(crate) fn fill(
     n: usize,
     m: usize,
     room_nodes: &mut [u32],
+    room_endpoint: &mut [u32],
     room_from: &mut [u32],
     room_to: &mut [u32],
     room_via: &mut [u32],
 )
     requires { ⌜ (n ≤ length (now «room_nodes»))
+        × (n ≤ length (now «room_endpoint»))
         × (m ≤ length (now «room_from»))
         × (m ≤ length (now «room_to»))
         × (m ≤ length (now «room_via»)) ⌝ }
     ensures { λ r.
-        let numbers = numbersFrom (now (s .entry)) n (nextAt (now (s .entry)) 0) in
+        let copies = copiesFrom (now (s .entry)) n (nextAt (now (s .entry)) 0) in
         let rows = rowsFrom (now (s .entry)) m (rowsPlace (now (s .entry)) n) in
-        ⌜ (now («room_nodes» .exit) ≡ sets (now («room_nodes» .entry)) 0 numbers)
+        ⌜ (now («room_nodes» .exit) ≡ sets (now («room_nodes» .entry)) 0 (map (λ q. q .node) copies))
+        × (now («room_endpoint» .exit) ≡ sets (now («room_endpoint» .entry)) 0 (map (λ q. q .endpoint) copies))
         × (now («room_from» .exit) ≡ sets (now («room_from» .entry)) 0 (map (λ q. q .first) rows))
         × (now («room_to» .exit) ≡ sets (now («room_to» .entry)) 0 (map (λ q. q .second) rows))
         × (now («room_via» .exit) ≡ sets (now («room_via» .entry)) 0 (map (λ q. q .third) rows)) ⌝ }
 {
     let copies = next_at(s, 0);
-    let count = fill_numbers(s, copies, n, room_nodes);
+    let count = fill_copies(s, copies, n, room_nodes, room_endpoint);
     let rows = next_at(s, count);
     fill_rows(s, rows, m, room_from, room_to, room_via);
 }

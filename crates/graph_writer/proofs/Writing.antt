@@ -3,12 +3,12 @@ use Prim.Native.Nat.{ℕ, _+_, _≤_, _<_}
 use native.Mathlib.Omega.{arith}
 use native.Mathlib.Numerals.{add-one}
 use mathlib.Core.Path.{_≡_, refl, sym, _∙_, ap}
-use mathlib.Core.Bool.{Bool, true, false, cond, _&&_}
+use mathlib.Core.Bool.{_&&_}
 use mathlib.Core.List.{List, [], _∷_, _++_, flatMap, append-assoc}
-use lib.Dec.{eqb, leb, eqb→eq, leb→le}
-use lib.ListN.{length, getD, take, drop, length-append, length-drop, drop-of-length-le}
-use lib.Seq.{sets, length-sets, drop-cons, length-take-le}
-use borrow.Author.Tests.{leb-true}
+use lib.Dec.{leb, leb→le}
+use lib.ListN.{length, getD, take, drop, drop-of-length-le}
+use lib.Seq.{sets, length-sets, drop-cons}
+use Rattle.timing.specs.WellFormed.{zeroOrOne}
 use Rattle.timing.specs.declared.Refusal.{Refusal}
 use Rattle.timing.specs.declared.Verdict.{Verdict}
 use Rattle.timing.specs.declared.Verdict.the-variants.{Passed}
@@ -16,17 +16,17 @@ use Rattle.timing.specs.declared.Verdict.the-variants.{Refused as NotPassed}
 use Rattle.timing.specs.declared.Written.{Written}
 use Rattle.timing.specs.declared.Written.the-variants.{End, Refused}
 use Rattle.timing.specs.Graphs.{Graph, edgesOf}
-use Rattle.timing.specs.GraphBytes.{graphNumbers, packedGraph}
+use Rattle.timing.specs.GraphBytes.{copyNumbers, graphNumbers, packedGraph}
 use Rattle.timing.specs.Refusals.{_then_}
 use Rattle.timing.specs.Refusals.{unless as passedIf}
-use Rattle.timing.specs.Tests.{sameSizes}
-use Rattle.timing.specs.Calls.{graphSlices, graphOf, writing, roomAfterWriting, graphWriteTests}
+use Rattle.timing.specs.Tests.{roomSizes}
+use Rattle.timing.specs.Calls.{graphSlices, graphOf, roomOf, writing, roomAfterWriting, graphWriteTests}
 use Rattle.theorems.proofs.Lists.{and-left, and-right, holds, length-edges}
-use Rattle.timing.proofs.Verdicts.{then-passed, unless-passed}
+use Rattle.timing.proofs.Verdicts.{then-passed, then-assoc, unless-passed, room-passed}
 use Rattle.timing.specs.Numbers.{packed, writeAnswer, writtenRoom}
-use Rattle.packed_lists.proofs.Sizes.{size-append, size-cons, size-none}
+use Rattle.packed_lists.proofs.Sizes.{size-append, size-cons}
 use Rattle.packed.proofs.Rooms.{written-length, sets-append, written-sets, answer-fits}
-use Rattle.graph_writer.specs.Writing.{wroteNext, roomNext, wroteAll, roomAll, Wrote, Left, rowsOf, rowsFrom}
+use Rattle.graph_writer.specs.Writing.{Fits, size, wroteNext, roomNext, wroteAll, roomAll, Wrote, Left, rowsOf, rowsFrom}
 
 next-length : (w : Written) (room : List ℕ) (x : ℕ) → length (roomNext w room x) ≡ length room
 next-length (End at) room x = written-length room at (packed x)
@@ -76,9 +76,13 @@ left-wrote l k = record { answer = k .answer ∙ l .answer; after = k .after ∙
 pub left-none : {w w′ : Written} {room all room′ : List ℕ} → Left w room all w′ room′ [] → Wrote w room all w′ room′
 left-none l = record { answer = l .answer; after = l .after }
 
--- the numbers of a slice, and the rows of three, from a place on
-pub numbers-turn : (s : List ℕ) (k : ℕ) → k < length s → drop k s ≡ (getD s k 0 ∷ []) ++ drop (k + 1) s
-numbers-turn s k h = rw (drop-cons s k 0 h, add-one k)
+-- the copies, and the rows of three, from a place on
+pub copies-turn : (s t : List ℕ) (k : ℕ) → k < length s → k < length t
+    → copyNumbers (drop k s) (drop k t) ≡ (getD s k 0 ∷ getD t k 0 ∷ []) ++ copyNumbers (drop (k + 1) s) (drop (k + 1) t)
+copies-turn s t k f g = rw (drop-cons s k 0 f, drop-cons t k 0 g, add-one k)
+
+pub copies-done : (s t : List ℕ) (k : ℕ) → length s ≤ k → copyNumbers (drop k s) (drop k t) ≡ []
+copies-done s t k h = rw (drop-of-length-le s h)
 
 pub rows-turn : (s t n : List ℕ) (k : ℕ) → k < length s → k < length t → k < length n
     → rowsFrom k s t n ≡ (getD s k 0 ∷ getD t k 0 ∷ getD n k 0 ∷ []) ++ rowsFrom (k + 1) s t n
@@ -125,16 +129,30 @@ all-fit room xs h =
     (r .0 ∙ sym (answer-fits room 0 (flatMap packed xs) f), r .1 ∙ sym (written-sets room 0 (flatMap packed xs) f))
 
 -- The numbers of a graph whose slices of edges are as long as each other.
-module _ (nodes from to via : List ℕ) (e : length to ≡ length from) (f : length via ≡ length from) where
+module _ (nodes endpoint from to via : List ℕ) (e : length to ≡ length from) (f : length via ≡ length from) where
   pub edge-count : length (edgesOf from to via) ≡ length from
   edge-count = omega (arith, length-edges from to via)
 
-  pub graph-numbers : graphNumbers (graphOf (graphSlices nodes from to via)) ≡ (length nodes ∷ []) ++ nodes ++ (length from ∷ []) ++ rowsOf from to via
+  pub graph-numbers : graphNumbers (graphOf (graphSlices nodes endpoint from to via))
+      ≡ (length nodes ∷ []) ++ copyNumbers nodes endpoint ++ (length from ∷ []) ++ rowsOf from to via
   unfolding graphNumbers
-  graph-numbers = rw edge-count (ap (λ (l : List ℕ). length nodes ∷ l) (sym (append-assoc nodes (length from ∷ []) (rowsOf from to via))))
+  graph-numbers = rw edge-count (ap (λ (l : List ℕ). length nodes ∷ l) (sym (append-assoc (copyNumbers nodes endpoint) (length from ∷ []) (rowsOf from to via))))
 
-size-rows : (s t n : List ℕ) → length t ≡ length s → length n ≡ length s
-    → length (flatMap packed (rowsOf s t n)) ≡ length (flatMap packed s) + length (flatMap packed t) + length (flatMap packed n)
+  pub size-graph : size (length nodes ∷ copyNumbers nodes endpoint) + size (length from ∷ rowsOf from to via)
+      ≡ length (packedGraph (graphOf (graphSlices nodes endpoint from to via)))
+  unfolding packedGraph graphNumbers
+  size-graph = rw edge-count (sym (size-append (length nodes ∷ copyNumbers nodes endpoint) (length from ∷ rowsOf from to via)))
+
+-- How many bytes they take, and at most.
+pub size-copies : (s t : List ℕ) → length t ≡ length s → size (copyNumbers s t) ≡ size s + size t
+unfolding flatMap
+size-copies [] [] e = refl
+size-copies [] (y ∷ t) e = absurd (omega arith)
+size-copies (x ∷ s) [] e = absurd (omega arith)
+size-copies (x ∷ s) (y ∷ t) e =
+    omega (arith, size-cons x (y ∷ copyNumbers s t), size-cons y (copyNumbers s t), size-cons x s, size-cons y t, size-copies s t (omega arith))
+
+pub size-rows : (s t n : List ℕ) → length t ≡ length s → length n ≡ length s → size (rowsOf s t n) ≡ size s + size t + size n
 unfolding flatMap
 size-rows [] [] [] e f = refl
 size-rows [] (y ∷ t) n e f = absurd (omega arith)
@@ -153,67 +171,59 @@ size-rows (x ∷ s) (y ∷ t) (z ∷ n) e f =
       size-rows s t n (omega arith) (omega arith),
     )
 
-pub size-graph : (nodes from to via : List ℕ) → length to ≡ length from → length via ≡ length from
-    → length (packed (length nodes)) + length (flatMap packed nodes) + (length (packed (length from)) + length (flatMap packed from)) + length (flatMap packed to) + length (flatMap packed via)
-    ≡ length (packedGraph (graphOf (graphSlices nodes from to via)))
-unfolding packedGraph
-size-graph nodes from to via e f =
-    rw (graph-numbers nodes from to via e f)
-    (omega (
-      arith,
-      size-append ((length nodes ∷ []) ++ nodes ++ (length from ∷ [])) (rowsOf from to via),
-      size-append ((length nodes ∷ []) ++ nodes) (length from ∷ []),
-      size-cons (length nodes) nodes,
-      size-cons (length from) [],
-      size-none,
-      size-rows from to via e f,
-    ))
+-- Two tests, and a third: where it is not asked for, and where it decides.
+module _ (u v w x : Verdict) (p : x ≡ (u then v)) where
+  pub then-refused : (r : Refusal) → x ≡ NotPassed r → x ≡ (u then v then w)
+  then-refused r q = one ∙ then-assoc u v w
+    where
+      one : x ≡ ((u then v) then w)
+      one = rw (sym p, q)
 
--- A test that refused, and one that passed.
-pub then-refused : (v w x : Verdict) (r : Refusal) → x ≡ v → x ≡ NotPassed r → x ≡ (v then w)
-then-refused v w x r p q = rw (sym p, q)
+  pub then-next : (y : Verdict) → x ≡ Passed → y ≡ w → y ≡ (u then v then w)
+  then-next y q e = one ∙ then-assoc u v w
+    where
+      one : y ≡ ((u then v) then w)
+      one = rw (sym p, q) e
 
-pub then-next : (v w x y : Verdict) → x ≡ v → x ≡ Passed → y ≡ w → y ≡ (v then w)
-then-next v w x y p q e = rw (sym p, q) e
-
--- The writer's tests by the four lengths, and what they say where they pass.
-pub tests-are : (nodes from to via : List ℕ)
-    → graphWriteTests (graphSlices nodes from to via)
-    ≡ (sameSizes (length from) (length to) (length via) then passedIf 32 (leb (length nodes) 16384 && leb (length from) 65536))
+-- The writer's tests by the lengths and the endpoint numbers, and what they say where they pass.
+pub tests-are : (nodes endpoint from to via : List ℕ)
+    → graphWriteTests (graphSlices nodes endpoint from to via)
+    ≡ (roomSizes (roomOf (graphSlices nodes endpoint from to via))
+    then passedIf 32 (leb (length nodes) 16384 && leb (length from) 65536)
+    then passedIf 32 (zeroOrOne endpoint))
 unfolding graphWriteTests
-tests-are nodes from to via = go (eqb (length from) (length to) && eqb (length from) (length via)) refl
+tests-are nodes endpoint from to via = go (roomSizes (roomOf (graphSlices nodes endpoint from to via))) refl
   where
-    go : (b : Bool) → (eqb (length from) (length to) && eqb (length from) (length via)) ≡ b
-        → (passedIf 30 b then passedIf 32 (leb (length nodes) 16384 && leb (length (edgesOf from to via)) 65536))
-        ≡ (passedIf 30 b then passedIf 32 (leb (length nodes) 16384 && leb (length from) 65536))
-    go true q =
-        let t = holds (eqb (length from) (length to) && eqb (length from) (length via)) q in
-        let s₁ = eqb→eq (length from) (length to) (and-left (eqb (length from) (length to)) (eqb (length from) (length via)) t) in
-        let s₂ = eqb→eq (length from) (length via) (and-right (eqb (length from) (length to)) (eqb (length from) (length via)) t) in
-        rw (edge-count nodes from to via (sym s₁) (sym s₂))
-    go false q = refl
+    ends : Verdict
+    ends = passedIf 32 (zeroOrOne endpoint)
 
-pub record Fits (nodes from to via : List ℕ) : Type 0 where
-  pub copies : length nodes ≤ 16384
-  pub edges : length from ≤ 65536
-  pub ends : length to ≡ length from
-  pub names : length via ≡ length from
+    go : (v : Verdict) → roomSizes (roomOf (graphSlices nodes endpoint from to via)) ≡ v
+        → (v then passedIf 32 (leb (length nodes) 16384 && leb (length (edgesOf from to via)) 65536) then ends)
+        ≡ (v then passedIf 32 (leb (length nodes) 16384 && leb (length from) 65536) then ends)
+    go Passed q =
+        let p = room-passed (roomOf (graphSlices nodes endpoint from to via)) q in
+        rw (edge-count nodes endpoint from to via (p .1) (p .2))
+    go (NotPassed r) q = refl
 
-pub tests-fit : (nodes from to via : List ℕ)
-    → (sameSizes (length from) (length to) (length via) then passedIf 32 (leb (length nodes) 16384 && leb (length from) 65536)) ≡ Passed → Fits nodes from to via
-tests-fit nodes from to via q =
-    let a = eqb (length from) (length to) in
-    let b = eqb (length from) (length via) in
-    let c = leb (length nodes) 16384 in
-    let d = leb (length from) 65536 in
-    let r = then-passed (sameSizes (length from) (length to) (length via)) (passedIf 32 (c && d)) q in
-    let s = holds (a && b) (unless-passed 30 (a && b) (r .0)) in
-    let t = holds (c && d) (unless-passed 32 (c && d) (r .1)) in
+pub tests-fit : (nodes endpoint from to via : List ℕ)
+    → (roomSizes (roomOf (graphSlices nodes endpoint from to via))
+    then passedIf 32 (leb (length nodes) 16384 && leb (length from) 65536)
+    then passedIf 32 (zeroOrOne endpoint))
+    ≡ Passed → Fits nodes endpoint from to via
+tests-fit nodes endpoint from to via q =
+    let R = roomOf (graphSlices nodes endpoint from to via) in
+    let a = leb (length nodes) 16384 in
+    let b = leb (length from) 65536 in
+    let ends = passedIf 32 (zeroOrOne endpoint) in
+    let r = then-passed (roomSizes R) (passedIf 32 (a && b) then ends) q in
+    let s = room-passed R (r .0) in
+    let t = holds (a && b) (unless-passed 32 (a && b) (then-passed (passedIf 32 (a && b)) ends (r .1) .0)) in
     record {
-      copies = leb→le (length nodes) 16384 (and-left c d t);
-      edges = leb→le (length from) 65536 (and-right c d t);
-      ends = sym (eqb→eq (length from) (length to) (and-left a b s));
-      names = sym (eqb→eq (length from) (length via) (and-right a b s));
+      copies = leb→le (length nodes) 16384 (and-left a b t);
+      endpoints = s .0;
+      edges = leb→le (length from) 65536 (and-right a b t);
+      ends = s .1;
+      names = s .2;
     }
 
 -- What the writer answers and leaves, where the graph is written.

@@ -1,5 +1,5 @@
 -- Numbers written one after the other, each behind the one before. After a refusal nothing more is written.
-use Prim.Native.Nat.{ℕ}
+use Prim.Native.Nat.{ℕ, _≤_}
 use mathlib.Core.Path.{_≡_}
 use mathlib.Core.List.{List, [], _∷_, flatMap}
 use lib.ListN.{length, drop}
@@ -7,6 +7,18 @@ use Rattle.timing.specs.declared.Written.{Written}
 use Rattle.timing.specs.declared.Written.the-variants.{End, Refused}
 use Rattle.timing.specs.Graphs.{edgesOf}
 use Rattle.timing.specs.Numbers.{packed, writeAnswer, writtenRoom}
+
+-- what the writer's tests say of the lengths of a graph's slices
+pub record Fits (nodes endpoint from to via : List ℕ) : Type 0 where
+  pub copies : length nodes ≤ 16384
+  pub endpoints : length endpoint ≡ length nodes
+  pub edges : length from ≤ 65536
+  pub ends : length to ≡ length from
+  pub names : length via ≡ length from
+
+-- how many bytes the packed forms of numbers are
+abbrev pub size : List ℕ → ℕ
+size xs = length (flatMap packed xs)
 
 abbrev pub wroteNext : Written → List ℕ → ℕ → Written
 wroteNext (End at) room x = writeAnswer room at (packed x)

@@ -16,15 +16,15 @@ use Rattle.timing.specs.Marks.{PathList, pathsOf}
 use Rattle.timing.specs.TrueGraphs.{trueGraph}
 use Rattle.timing.specs.Numbers.{writeAnswer}
 use Rattle.timing.specs.Refusals.{refusal, unless, _then_}
-use Rattle.timing.specs.Tests.{designSizes, listSizes, designTests, listTests, scratchTest, Room, graphCounts, roomTests}
-use Rattle.timing.specs.WellFormed.{fewEnough}
+use Rattle.timing.specs.Tests.{designSizes, listSizes, designTests, listTests, scratchTest, Room, graphCounts, endpointTest, roomTests}
+use Rattle.timing.specs.WellFormed.{fewEnough, zeroOrOne}
 use Rattle.timing.specs.Parsing.{Parsed, found, stopped}
 use Rattle.timing.specs.Decks.{Deck, readDeck}
 use Rattle.timing.specs.GraphBytes.{packedGraph}
-use Rattle.timing.specs.Calls.{GraphSlices, graphOf, graphSizes, writing, graphWriteTests}
+use Rattle.timing.specs.Calls.{GraphSlices, graphOf, roomOf, graphSizes, writing, graphWriteTests}
 use Rattle.timing.specs.Calls.{Outcome, outcome, removal, removalTests, testDeck, parsed, programTables, programRoom, programRemoval, programFrom, program, cWritten, cNumber, cCall, roomAfterC, cRoom}
 use Rattle.true_graph.specs.Small.{SmallWritten, Small}
-use Rattle.true_graph.proofs.Small.{small-then, small-unless, small-sizes, small-design-sizes, small-list-sizes, small-design, small-list, small-scratch}
+use Rattle.true_graph.proofs.Small.{small-then, small-unless, small-room-sizes, small-design-sizes, small-list-sizes, small-design, small-list, small-scratch}
 use Rattle.true_graph.proofs.ReadLaws.{Within, within-deck}
 use Rattle.true_graph.proofs.ProgramLaws.{program-long, program-short}
 
@@ -62,9 +62,11 @@ module _ (room : List ℕ) (h : length room < 9223372036854775808) where
   pub small-graph : (S : GraphSlices) → SmallWritten (writing (graphWriteTests S) room (packedGraph (graphOf S)))
   unfolding graphWriteTests
   small-graph S =
-      small-writing (graphSizes S then graphCounts (graphOf S)) (packedGraph (graphOf S))
-      (small-then (graphSizes S) (graphCounts (graphOf S)) (small-sizes (length (S .starts)) (length (S .ends)) (length (S .names)))
-      (λ e. small-unless 32 (omega arith) (fewEnough (graphOf S))))
+      let G = graphOf S in
+      small-writing (graphSizes S then graphCounts G then endpointTest G) (packedGraph G)
+      (small-then (graphSizes S) (graphCounts G then endpointTest G) (small-room-sizes (roomOf S))
+      (λ e. small-then (graphCounts G) (endpointTest G) (small-unless 32 (omega arith) (fewEnough G))
+      (λ e. small-unless 32 (omega arith) (zeroOrOne (G .endpoints)))))
 
   small-removal : (d : Deck) → SmallWritten (cWritten (programRemoval d) room)
   unfolding programRemoval
@@ -77,9 +79,9 @@ module _ (room : List ℕ) (h : length room < 9223372036854775808) where
       (λ e. small-then (scratchTest D G (d .list) 16384) (roomTests programRoom (trueGraph G (pathsOf (d .list)))) (small-scratch D G (d .list) 16384)
       (λ e. small-room programRoom (trueGraph G (pathsOf (d .list))))))
 
-  small-read : (s : List ℕ) → length s ≤ 65536 → (p : Parsed Deck) → Within s p → SmallWritten (cWritten (programFrom (parsed p)) room)
+  small-read : (s : List ℕ) (few : length s ≤ 65536) (p : Parsed Deck) → Within s few p → SmallWritten (cWritten (programFrom (parsed p)) room)
   small-read s k (found d at) w = small-removal d
-  small-read s k (stopped r) w = (w .0, omega (arith, w .1))
+  small-read s k (stopped r) w = w
 
   pub small-program : (s : List ℕ) → SmallWritten (cWritten (program s) room)
   small-program s = go (leb (length s) 65536) refl
@@ -87,7 +89,7 @@ module _ (room : List ℕ) (h : length room < 9223372036854775808) where
       go : (b : Bool) → leb (length s) 65536 ≡ b → SmallWritten (cWritten (program s) room)
       go true e =
           let k = leb-true (length s) 65536 e in
-          subst (λ (o : Outcome Graph). SmallWritten (cWritten o room)) (sym (program-short s k)) (small-read s k (readDeck s programTables) (within-deck s programTables))
+          subst (λ (o : Outcome Graph). SmallWritten (cWritten o room)) (sym (program-short s k)) (small-read s k (readDeck s programTables) (within-deck s k programTables))
       go false e =
           subst (λ (o : Outcome Graph). SmallWritten (cWritten o room)) (sym (program-long s (leb-false (length s) 65536 e))) (omega arith, omega arith)
 

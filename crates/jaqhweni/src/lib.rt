@@ -7,7 +7,7 @@ ghost use lib.ListN.{length};
 ghost use Rattle.timing.specs.Graphs.{design};
 ghost use Rattle.timing.specs.GraphBytes.{packedGraph};
 ghost use Rattle.timing.specs.Calls.{graphSlices, graphOf, lentRemoval, removeFromDesign, removeFromGraph, graphAnswer};
-ghost use Rattle.timing.specs.Calls.{nodesAfter, startsAfter, endsAfter, namesAfter, scratchAfter};
+ghost use Rattle.timing.specs.Calls.{nodesAfter, endpointsAfter, startsAfter, endsAfter, namesAfter, scratchAfter};
 ghost use Rattle.timing.specs.Calls.{testTimes, arrivalsAfter, requiredsAfter, slacksAfter, earliestsAfter};
 ghost use Rattle.timing.specs.Calls.{graphWriteTests, writing, roomAfterWriting};
 ghost use Rattle.timing.specs.Calls.{refusalNumber, graphNumber, verdictNumber, cNumber, cCall, cRoom};
@@ -87,22 +87,26 @@ pub extern "C" fn jaqhweni_remove_from_design(
     ends: &[u32],
     early: &[i32],
     late: &[i32],
+    marked: &[u32],
     listed: &[u32],
     lengths: &[u32],
     room_nodes: &mut [u32],
+    room_endpoint: &mut [u32],
     room_from: &mut [u32],
     room_to: &mut [u32],
     room_via: &mut [u32],
     scratch: &mut [u32],
 ) -> i64
     ensures { λ r.
-        let D = design n (now (starts .entry)) (now (ends .entry)) (now (early .entry)) (now (late .entry)) in
+        let D = design n (now (starts .entry)) (now (ends .entry)) (now (early .entry)) (now (late .entry))
+        (now (marked .entry)) in
         let lent = lentRemoval (now (listed .entry)) (now (lengths .entry))
-        (now («room_nodes» .entry)) (now («room_from» .entry)) (now («room_to» .entry)) (now («room_via» .entry))
-        (now (scratch .entry)) in
+        (now («room_nodes» .entry)) (now («room_endpoint» .entry))
+        (now («room_from» .entry)) (now («room_to» .entry)) (now («room_via» .entry)) (now (scratch .entry)) in
         let o = removeFromDesign D lent in
         ⌜ (r ≡ graphNumber (graphAnswer o))
         × (now («room_nodes» .exit) ≡ nodesAfter o (now («room_nodes» .entry)))
+        × (now («room_endpoint» .exit) ≡ endpointsAfter o (now («room_endpoint» .entry)))
         × (now («room_from» .exit) ≡ startsAfter o (now («room_from» .entry)))
         × (now («room_to» .exit) ≡ endsAfter o (now («room_to» .entry)))
         × (now («room_via» .exit) ≡ namesAfter o (now («room_via» .entry)))
@@ -114,9 +118,11 @@ pub extern "C" fn jaqhweni_remove_from_design(
         ends,
         early,
         late,
+        marked,
         listed,
         lengths,
         room_nodes,
+        room_endpoint,
         room_from,
         room_to,
         room_via,
@@ -125,7 +131,7 @@ pub extern "C" fn jaqhweni_remove_from_design(
     graph_number(made)
 }
 
-// What is left of an earlier true graph (`nodes`, `from`, `to`, `via`) after a further list of paths.
+// What is left of an earlier true graph (`nodes`, `endpoint`, `from`, `to`, `via`) after a further list of paths.
 #[no_mangle]
 pub extern "C" fn jaqhweni_remove_from_graph(
     n: u32,
@@ -133,27 +139,33 @@ pub extern "C" fn jaqhweni_remove_from_graph(
     ends: &[u32],
     early: &[i32],
     late: &[i32],
+    marked: &[u32],
     listed: &[u32],
     lengths: &[u32],
     nodes: &[u32],
+    endpoint: &[u32],
     from: &[u32],
     to: &[u32],
     via: &[u32],
     room_nodes: &mut [u32],
+    room_endpoint: &mut [u32],
     room_from: &mut [u32],
     room_to: &mut [u32],
     room_via: &mut [u32],
     scratch: &mut [u32],
 ) -> i64
     ensures { λ r.
-        let D = design n (now (starts .entry)) (now (ends .entry)) (now (early .entry)) (now (late .entry)) in
-        let S = graphSlices (now (nodes .entry)) (now (from .entry)) (now (to .entry)) (now (via .entry)) in
+        let D = design n (now (starts .entry)) (now (ends .entry)) (now (early .entry)) (now (late .entry))
+        (now (marked .entry)) in
+        let S = graphSlices (now (nodes .entry)) (now (endpoint .entry))
+        (now (from .entry)) (now (to .entry)) (now (via .entry)) in
         let lent = lentRemoval (now (listed .entry)) (now (lengths .entry))
-        (now («room_nodes» .entry)) (now («room_from» .entry)) (now («room_to» .entry)) (now («room_via» .entry))
-        (now (scratch .entry)) in
+        (now («room_nodes» .entry)) (now («room_endpoint» .entry))
+        (now («room_from» .entry)) (now («room_to» .entry)) (now («room_via» .entry)) (now (scratch .entry)) in
         let o = removeFromGraph D S lent in
         ⌜ (r ≡ graphNumber (graphAnswer o))
         × (now («room_nodes» .exit) ≡ nodesAfter o (now («room_nodes» .entry)))
+        × (now («room_endpoint» .exit) ≡ endpointsAfter o (now («room_endpoint» .entry)))
         × (now («room_from» .exit) ≡ startsAfter o (now («room_from» .entry)))
         × (now («room_to» .exit) ≡ endsAfter o (now («room_to» .entry)))
         × (now («room_via» .exit) ≡ namesAfter o (now («room_via» .entry)))
@@ -165,13 +177,16 @@ pub extern "C" fn jaqhweni_remove_from_graph(
         ends,
         early,
         late,
+        marked,
         listed,
         lengths,
         nodes,
+        endpoint,
         from,
         to,
         via,
         room_nodes,
+        room_endpoint,
         room_from,
         room_to,
         room_via,
@@ -188,8 +203,10 @@ pub extern "C" fn jaqhweni_times(
     ends: &[u32],
     early: &[i32],
     late: &[i32],
+    marked: &[u32],
     allowed: u32,
     nodes: &[u32],
+    endpoint: &[u32],
     from: &[u32],
     to: &[u32],
     via: &[u32],
@@ -199,8 +216,10 @@ pub extern "C" fn jaqhweni_times(
     earliests: &mut [i64],
 ) -> i64
     ensures { λ r.
-        let D = design n (now (starts .entry)) (now (ends .entry)) (now (early .entry)) (now (late .entry)) in
-        let S = graphSlices (now (nodes .entry)) (now (from .entry)) (now (to .entry)) (now (via .entry)) in
+        let D = design n (now (starts .entry)) (now (ends .entry)) (now (early .entry)) (now (late .entry))
+        (now (marked .entry)) in
+        let S = graphSlices (now (nodes .entry)) (now (endpoint .entry))
+        (now (from .entry)) (now (to .entry)) (now (via .entry)) in
         let v = testTimes D S allowed (length (now (arrivals .entry))) (length (now (requireds .entry)))
         (length (now (slacks .entry))) (length (now (earliests .entry))) in
         ⌜ (r ≡ verdictNumber v)
@@ -215,8 +234,10 @@ pub extern "C" fn jaqhweni_times(
         ends,
         early,
         late,
+        marked,
         allowed,
         nodes,
+        endpoint,
         from,
         to,
         via,
@@ -232,17 +253,19 @@ pub extern "C" fn jaqhweni_times(
 #[no_mangle]
 pub extern "C" fn jaqhweni_write_graph(
     nodes: &[u32],
+    endpoint: &[u32],
     from: &[u32],
     to: &[u32],
     via: &[u32],
     room: &mut [u8],
 ) -> i64
     ensures { λ r.
-        let S = graphSlices (now (nodes .entry)) (now (from .entry)) (now (to .entry)) (now (via .entry)) in
+        let S = graphSlices (now (nodes .entry)) (now (endpoint .entry))
+        (now (from .entry)) (now (to .entry)) (now (via .entry)) in
         let bytes = packedGraph (graphOf S) in
         ⌜ (r ≡ cNumber (writing (graphWriteTests S) (now (room .entry)) bytes))
         × (now (room .exit) ≡ roomAfterWriting (graphWriteTests S) (now (room .entry)) bytes) ⌝ }
 {
-    let written = graph_writer::write_graph(nodes, from, to, via, room);
+    let written = graph_writer::write_graph(nodes, endpoint, from, to, via, room);
     written_number(written)
 }

@@ -17,26 +17,45 @@ pub looked-made : {A B : Type 0} (p : Parsed A) (f : A → B) → looked (onward
 looked-made (found x at) f = refl
 looked-made (stopped r) f = refl
 
--- Numbers: a turn of the loop, where it stops and where it ends.
-pub numbers-turn : (s : List ℕ) (k i at v next : ℕ) → i < k → readNumber s at ≡ Value v next → looked (repeated (k - (i + 1)) (number s) next) ≡ looked (repeated (k - i) (number s) at)
-numbers-turn s k i at v next h e =
-    let d : k - i ≡ suc (k - (i + 1)) = omega arith in
-    rw (d, e) (sym (looked-made (repeated (k - (i + 1)) (number s) next) (λ (xs : List ℕ). v ∷ xs)))
+-- Things one after the other: a turn of the loop, where it stops and where it ends.
+module _ {A : Type 0} (p : Reader A) (k i at : ℕ) where
+  pub looks-turn : (next : ℕ) → i < k → looked (p at) ≡ At next → looked (repeated (k - (i + 1)) p next) ≡ looked (repeated (k - i) p at)
+  looks-turn next h e =
+      let d : k - i ≡ suc (k - (i + 1)) = omega arith in
+      rw d (one (p at) e)
+    where
+      one : (q : Parsed A) → looked q ≡ At next
+          → looked (repeated (k - (i + 1)) p next) ≡ looked (onward q (λ x. repeated (k - (i + 1)) p >>= (λ xs. return (x ∷ xs))))
+      one (found x b) f =
+          let g : next ≡ b = cc in
+          rw g (sym (looked-made (repeated (k - (i + 1)) p b) (λ (xs : List A). x ∷ xs)))
+      one (stopped r) f = absurd (let z : _≡_ {A = ℕ} 0 1 = cc in omega arith)
 
-pub numbers-stop : (s : List ℕ) (k i at : ℕ) (r : Refusal) → i < k → readNumber s at ≡ NotRead r → Refused r ≡ looked (repeated (k - i) (number s) at)
-numbers-stop s k i at r h e =
-    let d : k - i ≡ suc (k - (i + 1)) = omega arith in
-    rw (d, e)
+  pub looks-stop : (r : Refusal) → i < k → looked (p at) ≡ Refused r → Refused r ≡ looked (repeated (k - i) p at)
+  looks-stop r h e =
+      let d : k - i ≡ suc (k - (i + 1)) = omega arith in
+      rw d (one (p at) e)
+    where
+      one : (q : Parsed A) → looked q ≡ Refused r → Refused r ≡ looked (onward q (λ x. repeated (k - (i + 1)) p >>= (λ xs. return (x ∷ xs))))
+      one (found x b) f = absurd (let z : _≡_ {A = ℕ} 0 1 = cc in omega arith)
+      one (stopped r′) f = sym f
 
-pub numbers-all : (s : List ℕ) (k at : ℕ) → looked (repeated (k - 0) (number s) at) ≡ looked (repeated k (number s) at)
-numbers-all s k at =
+  pub looks-end : k ≤ i → At at ≡ looked (repeated (k - i) p at)
+  looks-end h =
+      let d : k - i ≡ 0 = omega arith in
+      rw d
+
+pub looks-all : {A : Type 0} (p : Reader A) (k at : ℕ) → looked (repeated (k - 0) p at) ≡ looked (repeated k p at)
+looks-all p k at =
     let d : k - 0 ≡ k = omega arith in
     rw d
 
-pub numbers-end : (s : List ℕ) (k i at : ℕ) → k ≤ i → At at ≡ looked (repeated (k - i) (number s) at)
-numbers-end s k i at h =
-    let d : k - i ≡ 0 = omega arith in
-    rw d
+-- a number, by what was read
+pub number-found : (s : List ℕ) (at v next : ℕ) → readNumber s at ≡ Value v next → looked (number s at) ≡ At next
+number-found s at v next e = rw e
+
+pub number-stopped : (s : List ℕ) (at : ℕ) (r : Refusal) → readNumber s at ≡ NotRead r → looked (number s at) ≡ Refused r
+number-stopped s at r e = rw e
 
 -- Rows. A reader spans w numbers if it gets as far as a reader of w numbers, whatever it makes of them.
 abbrev pub Spans : {A : Type 0} → List ℕ → ℕ → Reader A → Type 0

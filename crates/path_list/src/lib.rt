@@ -36,8 +36,8 @@ pub fn and_list_tests(
 ) -> Verdict
     ensures { λ r.
         let L = pathList (now (listed .entry)) (now (lengths .entry)) in
-        ⌜ ((n : ℕ) (early late : List ℤ)
-        → r ≡ (before then listTests (design n (now (starts .entry)) (now (ends .entry)) early late) L)) ⌝ }
+        ⌜ ((n : ℕ) (early late : List ℤ) (marked : List ℕ)
+        → r ≡ (before then listTests (design n (now (starts .entry)) (now (ends .entry)) early late marked) L)) ⌝ }
 {
     let counts = and_list_counts(before, lengths.len(), listed.len());
     let filled = paths::and_filled(counts, listed, lengths);

@@ -86,10 +86,10 @@ pub(crate) fn and_named(before: Verdict, m: usize, listed: &[u32], lengths: &[u3
 // The join test of a path up to its edge i, where the edges before i are known to join: the index of
 // the first that does not start where the one before ends, or that all join.
 fn join_test(starts: &[u32], ends: &[u32], path: &[u32], i: usize) -> Fault
-    requires { let D = design 0 (now starts) (now ends) [] [] in
+    requires { let D = design 0 (now starts) (now ends) [] [] [] in
         ⌜ (0 < i) × (i < length (now path)) × (firstBreak (meets D) 0 (take i (now path)) ≡ None) ⌝ }
     ensures { λ r.
-        let D = design 0 (now (starts .entry)) (now (ends .entry)) [] [] in
+        let D = design 0 (now (starts .entry)) (now (ends .entry)) [] [] [] in
         ⌜ r ≡ firstBreak (meets D) 0 (take (i + 1) (now (path .entry))) ⌝ }
 {
     let h = i - 1;
@@ -111,7 +111,7 @@ pub(crate) fn and_joined(
     lengths: &[u32],
 ) -> Verdict
     ensures { λ r.
-        let D = design 0 (now (starts .entry)) (now (ends .entry)) [] [] in
+        let D = design 0 (now (starts .entry)) (now (ends .entry)) [] [] [] in
         let L = pathList (now (listed .entry)) (now (lengths .entry)) in
         ⌜ r ≡ (before then firstFault 24 (firstBreak (meets D) 0) 0 (pathsOf L)) ⌝ }
 {

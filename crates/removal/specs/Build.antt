@@ -14,7 +14,7 @@ use Rattle.removal.specs.Rows.{boundsIn, flagIn, Tabled, Ready}
 
 -- the words that the tables for c copies, e edges and n listed edges take, besides the slots
 abbrev pub tableWords : ℕ → ℕ → ℕ → ℕ
-tableWords c e n = 4 * n + 6 * c + 3 * e
+tableWords c e n = 4 * n + 5 * c + 2 * e
 
 -- these tables one after the other, and then the slots
 pub record LaidOut (c e n : ℕ) (l : Layout) : Type 0 where
@@ -26,7 +26,7 @@ pub record LaidOut (c e n : ℕ) (l : Layout) : Type 0 where
   pub link : l .link ≡ 3 * n
   pub low : l .low ≡ 4 * n
   pub into : l .into ≡ 4 * n + 4 * c
-  pub out : l .out ≡ 4 * n + 5 * c + e
+  pub named : l .named ≡ 4 * n + 5 * c + e
   pub slots : l .slots ≡ tableWords c e n
 
 -- what the lent slices are: a design's starts, a list that fits it, and a legal graph of it, all small enough
@@ -52,7 +52,7 @@ pub record Buildable (starts listed lengths nodes from to via s : List ℕ) : Ty
   pub nodes-below : (c : ℕ) → c < length nodes → getD nodes c 0 < 4096
   pub room : tableWords (length nodes) (length from) (length listed) + candidates design graph list ≤ length s
 
--- the tables are filled for whatever design the slices are given of, and no slot is marked
+-- the tables are filled for whatever design the slices are given of, and no slot is flagged
 pub record Built (starts listed lengths nodes from to via s t : List ℕ) (l : Layout) : Type 0 where
   pub size : length t ≡ length s
   pub laid : LaidOut (length nodes) (length from) (length listed) l

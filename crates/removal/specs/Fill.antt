@@ -14,7 +14,7 @@ use Rattle.removal.specs.declared.rows.Layout.{Layout}
 use Rattle.removal.specs.Slots.{Bounds, slots}
 use Rattle.removal.specs.Flags.{ShownRow}
 use Rattle.removal.specs.Rows.{boundsIn, orderIn, Tabled, Ready, flagIn}
-use Rattle.removal.specs.Result.{Slot, slotAt, numberOf, numberedEdge, slotEdges, edgeAt}
+use Rattle.removal.specs.Result.{Slot, slotAt, slotEndpoint, numberOf, numberedEdge, slotEdges, edgeAt}
 use Rattle.removal.specs.Show.{startSlot, fromShown, shownBy}
 
 -- each element stands in a relation to all later ones
@@ -68,16 +68,23 @@ module _ (l : Layout) (listed s : List ℕ) (L : PathList) where
   abbrev pub edgesNow : Graph → Slot → List Edge
   edgesNow G = slotEdges (boundsNow l s) (shownNow l s) (edgesIn G) comesNow fromNow
 
--- pass 2 is done: the shown slots are those that paths show, and each has its number
+-- pass 2 is done: each shown slot has its number
 pub record ShownReady (l : Layout) (listed from to via s : List ℕ) : Type 0 where
   pub ready : Ready l listed from to via s
-  pub rows : (D : Design) (L : PathList) (G : Graph) → Tabled D L G l listed from to via (take (l .slots) s)
-      → (c : ℕ) → c < l .copies → ShownRow G L (orderIn l listed (take (l .slots) s)) (boundsNow l s) (shownNow l s) c
   pub numbered : (c j : ℕ) → c < l .copies → j < slots (boundsNow l s) c → shownNow l s c j ≡ true → flagIn l s c j ≡ 2 + numberNow l s c j
 
--- the three rooms of edges are equally long
+-- and the shown slots are those that paths show, of a graph with these endpoint numbers
+unfoldable pub RowsShown : Layout → List ℕ → List ℕ → List ℕ → List ℕ → List ℕ → List ℕ → Type 0
+RowsShown l listed endpoint from to via s =
+    (D : Design) (L : PathList) (G : Graph) → Tabled D L G l listed from to via (take (l .slots) s) → G .endpoints ≡ endpoint
+    → (c : ℕ) → c < l .copies → ShownRow G L (orderIn l listed (take (l .slots) s)) (boundsNow l s) (shownNow l s) c
+
+-- the three rooms of edges are equally long, and so are the two of copies
 abbrev pub SameRooms : List ℕ → List ℕ → List ℕ → Type 0
 SameRooms room-from room-to room-via = (length room-to ≡ length room-from) × (length room-via ≡ length room-from)
+
+abbrev pub RoomsAlike : List ℕ → List ℕ → List ℕ → List ℕ → List ℕ → Type 0
+RoomsAlike room-nodes room-endpoint room-from room-to room-via = (length room-endpoint ≡ length room-nodes) × SameRooms room-from room-to room-via
 
 -- there is room for some edges, whatever the tables are of; and they are written
 module _ (l : Layout) (listed from to via s : List ℕ) (es : PathList → Graph → List Edge) where
@@ -107,26 +114,28 @@ pub record EdgesRoom (l : Layout) (listed from to via s : List ℕ) (c j : ℕ) 
   pub fit : EdgesFit l listed from to via s (λ L G. edgesNow l listed s L G (slotAt c j)) k room-from
 
 -- for some slots and the edges into them
-pub record SlotsRoom (l : Layout) (listed nodes from to via s : List ℕ) (sl : List Slot) (number : ℕ) (room-nodes room-from room-to room-via : List ℕ) (k : ℕ) : Type 0 where
+pub record SlotsRoom (l : Layout) (listed nodes endpoint from to via s : List ℕ) (sl : List Slot) (number : ℕ) (room-nodes room-endpoint room-from room-to room-via : List ℕ) (k : ℕ) : Type 0 where
   pub shown : ShownReady l listed from to via s
   pub nodes-size : length nodes ≡ l .copies
   pub nodes-fit : number + length sl ≤ length room-nodes
-  pub same : SameRooms room-from room-to room-via
+  pub same : RoomsAlike room-nodes room-endpoint room-from room-to room-via
   pub fit : EdgesFit l listed from to via s (λ L G. flatMap (edgesNow l listed s L G) sl) k room-from
 
 -- they are written
-pub record SlotsFilled (l : Layout) (listed nodes from to via s : List ℕ) (sl : List Slot) (number : ℕ) (room-nodes room-from room-to room-via room-nodes′ room-from′ room-to′ room-via′ : List ℕ) (k r : ℕ) : Type 0 where
+pub record SlotsFilled (l : Layout) (listed nodes endpoint from to via s : List ℕ) (sl : List Slot) (number : ℕ) (room-nodes room-endpoint room-from room-to room-via room-nodes′ room-endpoint′ room-from′ room-to′ room-via′ : List ℕ) (k r : ℕ) : Type 0 where
   pub nodes-written : room-nodes′ ≡ put number (map (λ (t : Slot). getD nodes (t .copy) 0) sl) room-nodes
+  pub endpoints-written : room-endpoint′ ≡ put number (map (slotEndpoint endpoint) sl) room-endpoint
   pub edges-written : EdgesFilled l listed from to via s (λ L G. flatMap (edgesNow l listed s L G) sl) k room-from room-to room-via room-from′ room-to′ room-via′ r
 
 -- the whole result stands at the front of the room
-pub record Result (H : Graph) (room-nodes room-from room-to room-via room-nodes′ room-from′ room-to′ room-via′ : List ℕ) : Type 0 where
+pub record Result (H : Graph) (room-nodes room-endpoint room-from room-to room-via room-nodes′ room-endpoint′ room-from′ room-to′ room-via′ : List ℕ) : Type 0 where
   pub nodes : room-nodes′ ≡ placed (H .nodes) room-nodes
+  pub endpoints : room-endpoint′ ≡ placed (H .endpoints) room-endpoint
   pub starts : room-from′ ≡ placed (map (λ (e : Edge). e .start) (H .edges)) room-from
   pub ends : room-to′ ≡ placed (map (λ (e : Edge). e .end) (H .edges)) room-to
   pub names : room-via′ ≡ placed (map (λ (e : Edge). e .name) (H .edges)) room-via
 
-unfoldable pub ResultFilled : Layout → List ℕ → List ℕ → List ℕ → List ℕ → List ℕ → List ℕ → List ℕ → List ℕ → List ℕ → List ℕ → List ℕ → List ℕ → List ℕ → List ℕ → Type 0
-ResultFilled l listed nodes from to via s room-nodes room-from room-to room-via room-nodes′ room-from′ room-to′ room-via′ =
-    (D : Design) (L : PathList) (G : Graph) → Tabled D L G l listed from to via (take (l .slots) s) → G .nodes ≡ nodes → EdgesInto G (edgesIn G)
-    → Result (trueGraph G (pathsOf L)) room-nodes room-from room-to room-via room-nodes′ room-from′ room-to′ room-via′
+unfoldable pub ResultFilled : Layout → List ℕ → List ℕ → List ℕ → List ℕ → List ℕ → List ℕ → List ℕ → List ℕ → List ℕ → List ℕ → List ℕ → List ℕ → List ℕ → List ℕ → List ℕ → List ℕ → List ℕ → Type 0
+ResultFilled l listed nodes endpoint from to via s room-nodes room-endpoint room-from room-to room-via room-nodes′ room-endpoint′ room-from′ room-to′ room-via′ =
+    (D : Design) (L : PathList) (G : Graph) → Tabled D L G l listed from to via (take (l .slots) s) → G .nodes ≡ nodes → G .endpoints ≡ endpoint → EdgesInto G (edgesIn G)
+    → Result (trueGraph G (pathsOf L)) room-nodes room-endpoint room-from room-to room-via room-nodes′ room-endpoint′ room-from′ room-to′ room-via′

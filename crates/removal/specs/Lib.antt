@@ -20,4 +20,5 @@ pub mod Step
 pub mod Build
 pub mod Counts
 pub mod Remove
+pub mod Endpoints
 pub mod Numbered

@@ -1,10 +1,9 @@
--- Which edges of the graph name a listed edge: a word for each, after the chains by start.
+-- Which edges of the graph name a listed edge: a word for each.
 use Prim.Native.Nat.{ℕ, _+_, _<_}
 use mathlib.Core.Path.{_≡_}
 use mathlib.Core.List.{List}
 use lib.ListN.{length, getD}
-use Rattle.removal.specs.Table.{table, Frame}
-use Rattle.removal.specs.Links.{Chained}
+use Rattle.removal.specs.Table.{Frame}
 
 -- no listed edge is k
 abbrev pub Unlisted : List ℕ → ℕ → Type 0
@@ -30,8 +29,3 @@ pub record NotedAt (a : List ℕ) (k r : ℕ) : Type 0 where
 pub record Named (listed via s t : List ℕ) (base m : ℕ) : Type 0 where
   pub frame : Frame s t base (length via)
   pub named : (e : ℕ) → e < m → getD t (base + e) 0 ≡ 0 → Unlisted listed (getD via e 0)
-
-pub record LinkedNamed (from listed via s t : List ℕ) (first n : ℕ) : Type 0 where
-  pub chains : Chained from (table t first n) (table t (first + n) (length from)) n (length from) 0
-  pub named : (e : ℕ) → e < length via → getD t (first + n + length from + e) 0 ≡ 0 → Unlisted listed (getD via e 0)
-  pub frame : Frame s t first (n + length from + length via)

@@ -8,20 +8,20 @@ use Rattle.timing.specs.declared.GraphMade.{GraphMade}
 use Rattle.timing.specs.Graphs.{Design, design, designGraph}
 use Rattle.timing.specs.Marks.{PathList, pathList}
 use Rattle.theorems.proofs.Tested.{DesignFits, ListFits}
-use Rattle.removal.specs.Fill.{SameRooms}
+use Rattle.removal.specs.Fill.{RoomsAlike}
 use Rattle.removal.specs.Remove.{Removed, removalOutcome}
 
 -- a design and a list that pass their tests, with as many numbers as nodes and as edges
-pub record Numberable (starts ends listed lengths : List ℕ) (n m : ℕ) (room-from room-to room-via : List ℕ) : Type 0 where
+pub record Numberable (starts ends marked listed lengths : List ℕ) (n m : ℕ) (room-nodes room-endpoint room-from room-to room-via : List ℕ) : Type 0 where
   pub early : List ℤ
   pub late : List ℤ
-  pub design-fits : DesignFits (design n starts ends early late)
-  pub list-fits : ListFits (design n starts ends early late) (pathList listed lengths)
+  pub design-fits : DesignFits (design n starts ends early late marked)
+  pub list-fits : ListFits (design n starts ends early late marked) (pathList listed lengths)
   pub numbers : m ≡ length starts
-  pub same : SameRooms room-from room-to room-via
+  pub same : RoomsAlike room-nodes room-endpoint room-from room-to room-via
 
 -- the removal, whatever the delays are
-unfoldable pub DesignRemoved : List ℕ → List ℕ → List ℕ → List ℕ → ℕ → GraphMade → List ℕ → List ℕ → List ℕ → List ℕ → List ℕ → List ℕ → List ℕ → List ℕ → List ℕ → List ℕ → Type 0
-DesignRemoved starts ends listed lengths n r room-nodes room-from room-to room-via s room-nodes′ room-from′ room-to′ room-via′ s′ =
-    (early late : List ℤ) → DesignFits (design n starts ends early late) → ListFits (design n starts ends early late) (pathList listed lengths)
-    → Removed (removalOutcome (design n starts ends early late) (pathList listed lengths) (designGraph (design n starts ends early late)) room-nodes room-from room-to room-via s) r room-nodes room-from room-to room-via s room-nodes′ room-from′ room-to′ room-via′ s′
+unfoldable pub DesignRemoved : List ℕ → List ℕ → List ℕ → List ℕ → List ℕ → ℕ → GraphMade → List ℕ → List ℕ → List ℕ → List ℕ → List ℕ → List ℕ → List ℕ → List ℕ → List ℕ → List ℕ → List ℕ → List ℕ → Type 0
+DesignRemoved starts ends marked listed lengths n r room-nodes room-endpoint room-from room-to room-via s room-nodes′ room-endpoint′ room-from′ room-to′ room-via′ s′ =
+    (early late : List ℤ) → DesignFits (design n starts ends early late marked) → ListFits (design n starts ends early late marked) (pathList listed lengths)
+    → Removed (removalOutcome (design n starts ends early late marked) (pathList listed lengths) (designGraph (design n starts ends early late marked)) room-nodes room-endpoint room-from room-to room-via s) r room-nodes room-endpoint room-from room-to room-via s room-nodes′ room-endpoint′ room-from′ room-to′ room-via′ s′

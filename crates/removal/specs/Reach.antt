@@ -1,4 +1,4 @@
--- What marking the reached slots does: the flags of lower copies are set by steps against edges, from slots that are reached. The
+-- What flagging the reached slots does: the flags of lower copies are set by steps against edges, from slots that are reached. The
 -- words before the slots are p throughout.
 use Prim.Native.Nat.{ℕ, _+_, _≤_, _<_}
 use mathlib.Core.Path.{_≡_}
@@ -39,7 +39,7 @@ Pushes l listed from to via p s L From c i e k =
     From e k × (getD from e 0 ≡ c) × (k < slots (boundsIn l p) (getD to e 0)) × (0 < flagOf l p s (getD to e 0) k) × Leads l listed to via p L c e k i
 
 -- Flags of copies below c were set by edges and slots of their ends, those of `From`. Each flag is as it was or 1.
-pub record Marking (l : Layout) (listed from to via p s t : List ℕ) (c : ℕ) (From : ℕ → ℕ → Type 0) : Type 0 where
+pub record Flagging (l : Layout) (listed from to via p s t : List ℕ) (c : ℕ) (From : ℕ → ℕ → Type 0) : Type 0 where
   pub only : SlotsOnly l p s t
   pub higher : (d i : ℕ) → c ≤ d → d < l .copies → i < slots (boundsIn l p) d → flagOf l p t d i ≡ flagOf l p s d i
   pub small : (d i : ℕ) → d < l .copies → i < slots (boundsIn l p) d → (flagOf l p t d i ≡ flagOf l p s d i) ⊎ (flagOf l p t d i ≡ 1)
@@ -61,15 +61,15 @@ FromBelow es j = λ d k. List·Memᴰ d es × (k < j)
 abbrev pub FromAll : List ℕ → ℕ → ℕ → Type 0
 FromAll es = λ d k. List·Memᴰ d es
 
--- slot 0 of copy c is set where the copy's first link of edges out is 0
-abbrev pub endSet : Layout → List ℕ → ℕ → List ℕ
-endSet l s c = cond (eqb (getD s (l .out + c) 0) 0) (set s (slotPlace l (take (l .slots) s) c 0) 1) s
+-- slot 0 of copy c is set where its endpoint number is 1
+abbrev pub endSet : Layout → List ℕ → List ℕ → ℕ → List ℕ
+endSet l endpoint s c = cond (eqb (getD endpoint c 0) 1) (set s (slotPlace l (take (l .slots) s) c 0) 1) s
 
--- rows from copy c on are right
-pub record RowsReached (l : Layout) (listed from to via p s t : List ℕ) (c : ℕ) : Type 0 where
+-- rows from copy c on are right, of a graph with these endpoint numbers
+pub record RowsReached (l : Layout) (listed endpoint from to via p s t : List ℕ) (c : ℕ) : Type 0 where
   pub only : SlotsOnly l p s t
   pub small : (d i : ℕ) → d < l .copies → i < slots (boundsIn l p) d → flagOf l p t d i ≤ 1
-  pub rows : (D : Design) (L : PathList) (G : Graph) → Tabled D L G l listed from to via p
+  pub rows : (D : Design) (L : PathList) (G : Graph) → Tabled D L G l listed from to via p → G .endpoints ≡ endpoint
       → (d : ℕ) → c ≤ d → d < l .copies → ReachedRow G L (orderIn l listed p) (boundsIn l p) (reachedOf l p t) d
 
 -- all slots are 0

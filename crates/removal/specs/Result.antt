@@ -1,8 +1,9 @@
 -- The shown slots in order, their numbers, and the edges into them that come from shown slots.
 use Prim.Native.Nat.{ℕ, _+_, _<_}
 use mathlib.Core.Path.{_≡_}
-use mathlib.Core.Bool.{Bool, true}
+use mathlib.Core.Bool.{Bool, true, cond}
 use mathlib.Core.List.{List, map, flatMap, List·Memᴰ}
+use lib.Dec.{eqb}
 use lib.ListN.{length, getD}
 use Rattle.timing.specs.Lists.{keep, countOf, upto}
 use Rattle.timing.specs.Graphs.{Edge, edge, Graph}
@@ -17,6 +18,10 @@ pub record Slot : Type 0 where
 
 abbrev pub slotAt : ℕ → ℕ → Slot
 slotAt c j = record { copy = c; slot = j }
+
+-- the endpoint number of a slot: that of its copy where the slot is that of the empty mark, and else 0
+abbrev pub slotEndpoint : List ℕ → Slot → ℕ
+slotEndpoint endpoint s = cond (eqb (s .slot) 0) (getD endpoint (s .copy) 0) 0
 
 -- the shown slots of a copy that are below slot n, and those of the copies below n, in order
 abbrev pub shownIn : (ℕ → ℕ → Bool) → ℕ → ℕ → List Slot

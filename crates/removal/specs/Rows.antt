@@ -1,4 +1,4 @@
--- What the tables hold while the slots are marked. Everything but the slots stands in the words below `slots`, which do not
+-- What the tables hold while the slots are flagged. Everything but the slots stands in the words below `slots`, which do not
 -- change any more: `p` is these words.
 use Prim.Native.Nat.{ℕ, _+_, _*_, _≤_, _<_}
 use mathlib.Core.Path.{_≡_}
@@ -38,9 +38,8 @@ pub record Laid (l : Layout) (positions : ℕ) (p : List ℕ) : Type 0 where
   pub rank : l .rank + positions ≤ l .low
   pub link : l .link + positions ≤ l .low
   pub low : l .low + 4 * l .copies ≤ l .into
-  pub into : l .into + (l .copies + l .edges) ≤ l .out
-  pub out : l .out + (l .copies + l .edges) ≤ l .slots
-  pub named : l .out + l .copies + l .edges + l .edges ≤ l .slots
+  pub into : l .into + (l .copies + l .edges) ≤ l .named
+  pub named : l .named + l .edges ≤ l .slots
   pub size : length p ≡ l .slots
 
 -- the tables are those of a design, a list and a graph whose edges are lent as from, to and via
@@ -64,8 +63,7 @@ pub record Tabled (D : Design) (L : PathList) (G : Graph) (l : Layout) (listed f
   pub bounded : (c : ℕ) → c < l .copies → Bounded D L G (orderIn l listed p) (boundsIn l p) c
   pub bases : (c : ℕ) → c < l .copies → getD p (l .low + 3 * l .copies + c) 0 ≡ slotBase (boundsIn l p) c
   pub into : Chained to (table p (l .into) (l .copies)) (table p (l .into + l .copies) (l .edges)) (l .copies) (l .edges) 0
-  pub out : Chained from (table p (l .out) (l .copies)) (table p (l .out + l .copies) (l .edges)) (l .copies) (l .edges) 0
-  pub named : (e : ℕ) → e < l .edges → getD p (l .out + l .copies + l .edges + e) 0 ≡ 0 → Unlisted listed (getD via e 0)
+  pub named : (e : ℕ) → e < l .edges → getD p (l .named + e) 0 ≡ 0 → Unlisted listed (getD via e 0)
 
 -- and the scratch has room for the slots, which all have numbers of 32 bits
 pub record Ready (l : Layout) (listed from to via s : List ℕ) : Type 0 where

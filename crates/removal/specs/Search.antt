@@ -13,10 +13,10 @@ use Rattle.removal.specs.Slots.{Bounds, Bounded, slotBase}
 
 -- a design of which only the edges' starts are looked at, and a graph of which only the copies' nodes are
 abbrev pub ofStarts : List ℕ → Design
-ofStarts starts = design 0 starts [] [] []
+ofStarts starts = design 0 starts [] [] [] []
 
 abbrev pub ofNodes : List ℕ → Graph
-ofNodes nodes = graph nodes []
+ofNodes nodes = graph nodes [] []
 
 abbrev pub codeAt : List ℕ → PathList → ℕ → ℕ
 codeAt starts L i = 2 * startAt (ofStarts starts) L i + headAt L i

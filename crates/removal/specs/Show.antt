@@ -6,16 +6,15 @@ use mathlib.Core.Bool.{Bool, true, false, cond, not, _&&_, _||_}
 use mathlib.Core.List.{List, [], _∷_, _++_, map}
 use lib.Dec.{eqb, ltb}
 use lib.ListN.{length, getD, take}
-use Rattle.timing.specs.Lists.{countOf, sum}
+use Rattle.timing.specs.Lists.{oneIf, countOf, sum}
 use Rattle.timing.specs.Graphs.{Design, Edge, Graph, edgesIn, startsAt}
 use Rattle.timing.specs.Marks.{PathList, pathsOf, mark}
 use Rattle.theorems.proofs.Marks.{begins}
-use Rattle.theorems.proofs.Counting.{one}
 use Rattle.removal.specs.declared.rows.Layout.{Layout}
 use Rattle.removal.specs.Slots.{Bounds, slots, slotBase, slotMark}
 use Rattle.removal.specs.Rows.{boundsIn, orderIn, Tabled, slotPlace, flagIn}
 use Rattle.removal.specs.Flags.{ReachedRow, ShownRow}
-use Rattle.removal.specs.Result.{Slot, shownIn, shownBelow, numberOf, shownSlots, shownEdges, Linking, edgeAt}
+use Rattle.removal.specs.Result.{Slot, shownIn, shownBelow, numberOf, shownSlots, shownEdges, edgeAt}
 
 abbrev pub sameMark : List ℕ → List ℕ → Bool
 sameMark [] [] = true
@@ -112,7 +111,7 @@ pub record SlotRoom (l : Layout) (s : List ℕ) (c j copies edges : ℕ) : Type 
 -- a slot gets the next number if it is shown
 pub record SlotRule (G : Graph) (L : PathList) (order : List ℕ) (B : Bounds) (flags : ℕ → ℕ → ℕ) (flag c j copies edges more links : ℕ) : Type 0 where
   pub flag-is : flag ≡ cond (shows G L order B (reachedBy flags) (shownBy flags) c j) (2 + copies) (flags c j)
-  pub more-is : more ≡ copies + one (shows G L order B (reachedBy flags) (shownBy flags) c j)
+  pub more-is : more ≡ copies + oneIf (shows G L order B (reachedBy flags) (shownBy flags) c j)
   pub links-is : links ≡ edges + cond (shows G L order B (reachedBy flags) (shownBy flags) c j) (edgesTo G L order B (shownBy flags) c j) 0
 
 pub record SlotShown (l : Layout) (listed from to via s t : List ℕ) (c j copies edges more links : ℕ) : Type 0 where
@@ -135,15 +134,13 @@ pub record PassedTo (l : Layout) (listed from to via s t : List ℕ) (c copies e
       → Passed G L (orderIn l listed (take (l .slots) s)) (boundsIn l (take (l .slots) s)) first (flagIn l s) c 0 copies edges
       → Passed G L (orderIn l listed (take (l .slots) s)) (boundsIn l (take (l .slots) s)) first (flagIn l t) d j more links
 
--- at the end the flags say what paths show, with its numbers; and so many slots are shown, with so many edges between them
+-- at the end the flags of shown slots are their numbers; and so many slots are shown, with so many edges between them
 pub record ShowsAll (G : Graph) (L : PathList) (order : List ℕ) (B : Bounds) (flags : ℕ → ℕ → ℕ) (copies edges : ℕ) : Type 0 where
-  pub rows : (c : ℕ) → c < length (G .nodes) → ShownRow G L order B (shownBy flags) c
   pub numbers : (c j : ℕ) → c < length (G .nodes) → j < slots B c → shownBy flags c j ≡ true → flags c j ≡ 2 + numberOf B (shownBy flags) c j
   pub copies-are : copies ≡ length (shownSlots G B (shownBy flags))
   pub edges-are : edges ≡ length (shownEdges G B (shownBy flags) (edgesIn G) (fromShown L order B (shownBy flags)) (startSlot L order B))
-  pub linking : Linking G L order B (shownBy flags) (fromShown L order B (shownBy flags)) (startSlot L order B)
 
--- pass 2 from the flags of s to those of t: where the flags of s are 0 or 1 and say what is reached
+-- pass 2 from the flags of s to those of t, where the flags of s are 0 or 1; where they say what is reached, those of t say what paths show
 pub record AllShown (l : Layout) (listed from to via s t : List ℕ) (copies edges : ℕ) : Type 0 where
   pub size : length t ≡ length s
   pub tables : take (l .slots) t ≡ take (l .slots) s
@@ -152,5 +149,8 @@ pub record AllShown (l : Layout) (listed from to via s t : List ℕ) (copies edg
   pub few-edges : edges ≤ copies * 65536
   pub meets : (D : Design) (L : PathList) (G : Graph) → Tabled D L G l listed from to via (take (l .slots) s)
       → ((c j : ℕ) → c < l .copies → j < slots (boundsIn l (take (l .slots) s)) c → flagIn l s c j ≤ 1)
-      → ((c : ℕ) → c < l .copies → ReachedRow G L (orderIn l listed (take (l .slots) s)) (boundsIn l (take (l .slots) s)) (reachedBy (flagIn l s)) c)
       → ShowsAll G L (orderIn l listed (take (l .slots) s)) (boundsIn l (take (l .slots) s)) (flagIn l t) copies edges
+  pub rows : (D : Design) (L : PathList) (G : Graph) → Tabled D L G l listed from to via (take (l .slots) s)
+      → ((c j : ℕ) → c < l .copies → j < slots (boundsIn l (take (l .slots) s)) c → flagIn l s c j ≤ 1)
+      → ((c : ℕ) → c < l .copies → ReachedRow G L (orderIn l listed (take (l .slots) s)) (boundsIn l (take (l .slots) s)) (reachedBy (flagIn l s)) c)
+      → (c : ℕ) → c < l .copies → ShownRow G L (orderIn l listed (take (l .slots) s)) (boundsIn l (take (l .slots) s)) (shownBy (flagIn l t)) c

@@ -12,7 +12,7 @@ use crate::chains::clear;
 use crate::chains::link_edges;
 use crate::listed::fill_rest;
 use crate::listed::start_at;
-use crate::names::link_named;
+use crate::names::name_edges;
 use crate::rows::Layout;
 use crate::tables::fill_tables;
 
@@ -26,7 +26,7 @@ pub(crate) fn layout(copies: usize, edges: usize, positions: usize) -> Layout
     let link = rank + positions;
     let low = link + positions;
     let into = low + 4 * copies;
-    let out = into + (copies + edges);
+    let named = into + (copies + edges);
     Layout {
         copies,
         edges,
@@ -36,8 +36,8 @@ pub(crate) fn layout(copies: usize, edges: usize, positions: usize) -> Layout
         link,
         low,
         into,
-        out,
-        slots: out + (copies + 2 * edges),
+        named,
+        slots: named + edges,
     }
 }
 
@@ -64,7 +64,7 @@ pub(crate) fn build(
     fill_tables(l, starts, listed, lengths, scratch, &mut firsts);
     let total = fill_bounds(l, starts, listed, lengths, nodes, scratch, &firsts);
     link_edges(scratch, l.into, l.copies, to);
-    link_named(scratch, l.out, l.copies, from, listed, via);
+    name_edges(listed, via, scratch, l.named);
     clear(scratch, l.slots, total as usize);
     l
 }

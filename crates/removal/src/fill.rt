@@ -3,8 +3,8 @@ ghost use mathlib.Core.Path.{_≡_};
 ghost use Prim.Native.Nat.{_<_};
 ghost use lib.ListN.{getD};
 ghost use Rattle.removal.specs.Slots.{slots};
-ghost use Rattle.removal.specs.Result.{slotAt, shownIn, shownBelow, edgeAt};
-ghost use Rattle.removal.specs.Fill.{EdgesFilled, EdgeRoom, EdgesRoom, SlotsRoom, SlotsFilled, ResultFilled};
+ghost use Rattle.removal.specs.Result.{slotAt, slotEndpoint, shownIn, shownBelow, edgeAt};
+ghost use Rattle.removal.specs.Fill.{EdgesFilled, EdgeRoom, EdgesRoom, SlotsRoom, SlotsFilled, RowsShown, ResultFilled};
 ghost use Rattle.removal.specs.Fill.{boundsNow, shownNow, numberNow, ifShown, edgeNow, edgesNow};
 use crate::rows::Layout;
 use crate::rows::slot_count;
@@ -100,11 +100,20 @@ fn fill_edges(
     at
 }
 
-// Writes slot j of copy c, if it is shown: its node, and the edges into it.
+// The endpoint number of slot j of copy c. Paths that end at c have the empty mark there, and slot 0 is the slot of the
+// empty mark: no path ends at any other slot.
+fn slot_endpoint(endpoint: &[u32], c: usize, j: usize) -> u32
+    ensures { λ r. ⌜ r ≡ slotEndpoint (now (endpoint .entry)) (slotAt c j) ⌝ }
+{
+    if j == 0 { number_at(endpoint, c) } else { 0 }
+}
+
+// Writes slot j of copy c, if it is shown: its node, its endpoint number, and the edges into it.
 fn fill_slot(
     l: Layout,
     listed: &[u32],
     nodes: &[u32],
+    endpoint: &[u32],
     from: &[u32],
     to: &[u32],
     via: &[u32],
@@ -112,20 +121,21 @@ fn fill_slot(
     c: usize,
     j: usize,
     room_nodes: &mut [u32],
+    room_endpoint: &mut [u32],
     room_from: &mut [u32],
     room_to: &mut [u32],
     room_via: &mut [u32],
     k: usize,
 ) -> usize
     requires { ⌜ (c < l .copies) × (j < slots (boundsNow l (now scratch)) c) ⌝ }
-    requires { ⌜ SlotsRoom l (now listed) (now nodes) (now from) (now to) (now via)
+    requires { ⌜ SlotsRoom l (now listed) (now nodes) (now endpoint) (now from) (now to) (now via)
         (now scratch) (ifShown l (now scratch) c j) (numberNow l (now scratch) c j)
-        (now «room_nodes») (now «room_from») (now «room_to») (now «room_via») k ⌝ }
+        (now «room_nodes») (now «room_endpoint») (now «room_from») (now «room_to») (now «room_via») k ⌝ }
     ensures { λ r.
-        ⌜ SlotsFilled l (now (listed .entry)) (now (nodes .entry)) (now (from .entry)) (now (to .entry))
+        ⌜ SlotsFilled l (now (listed .entry)) (now (nodes .entry)) (now (endpoint .entry)) (now (from .entry)) (now (to .entry))
         (now (via .entry)) (now (scratch .entry)) (ifShown l (now (scratch .entry)) c j)
-        (numberNow l (now (scratch .entry)) c j) (now («room_nodes» .entry)) (now («room_from» .entry))
-        (now («room_to» .entry)) (now («room_via» .entry)) (now («room_nodes» .exit))
+        (numberNow l (now (scratch .entry)) c j) (now («room_nodes» .entry)) (now («room_endpoint» .entry)) (now («room_from» .entry))
+        (now («room_to» .entry)) (now («room_via» .entry)) (now («room_nodes» .exit)) (now («room_endpoint» .exit))
         (now («room_from» .exit)) (now («room_to» .exit)) (now («room_via» .exit)) k r ⌝ }
 {
     let v = number_at(scratch, slot_place(l, scratch, c, j));
@@ -135,6 +145,7 @@ fn fill_slot(
     let number = v - 2;
     let place = number as usize;
     room_nodes[place] = number_at(nodes, c);
+    room_endpoint[place] = slot_endpoint(endpoint, c, j);
     fill_edges(
         l,
         listed,
@@ -157,27 +168,29 @@ fn fill_copy(
     l: Layout,
     listed: &[u32],
     nodes: &[u32],
+    endpoint: &[u32],
     from: &[u32],
     to: &[u32],
     via: &[u32],
     scratch: &[u32],
     c: usize,
     room_nodes: &mut [u32],
+    room_endpoint: &mut [u32],
     room_from: &mut [u32],
     room_to: &mut [u32],
     room_via: &mut [u32],
     k: usize,
 ) -> usize
     requires { ⌜ c < l .copies ⌝ }
-    requires { ⌜ SlotsRoom l (now listed) (now nodes) (now from) (now to) (now via) (now scratch)
+    requires { ⌜ SlotsRoom l (now listed) (now nodes) (now endpoint) (now from) (now to) (now via) (now scratch)
         (shownIn (shownNow l (now scratch)) c (slots (boundsNow l (now scratch)) c))
-        (numberNow l (now scratch) c 0) (now «room_nodes») (now «room_from») (now «room_to») (now «room_via») k ⌝ }
+        (numberNow l (now scratch) c 0) (now «room_nodes») (now «room_endpoint») (now «room_from») (now «room_to») (now «room_via») k ⌝ }
     ensures { λ r.
         let shown = shownIn (shownNow l (now (scratch .entry))) c (slots (boundsNow l (now (scratch .entry))) c) in
-        ⌜ SlotsFilled l (now (listed .entry)) (now (nodes .entry)) (now (from .entry)) (now (to .entry))
+        ⌜ SlotsFilled l (now (listed .entry)) (now (nodes .entry)) (now (endpoint .entry)) (now (from .entry)) (now (to .entry))
         (now (via .entry)) (now (scratch .entry)) shown (numberNow l (now (scratch .entry)) c 0)
-        (now («room_nodes» .entry)) (now («room_from» .entry)) (now («room_to» .entry)) (now («room_via» .entry))
-        (now («room_nodes» .exit)) (now («room_from» .exit)) (now («room_to» .exit)) (now («room_via» .exit)) k r ⌝ }
+        (now («room_nodes» .entry)) (now («room_endpoint» .entry)) (now («room_from» .entry)) (now («room_to» .entry)) (now («room_via» .entry))
+        (now («room_nodes» .exit)) (now («room_endpoint» .exit)) (now («room_from» .exit)) (now («room_to» .exit)) (now («room_via» .exit)) k r ⌝ }
 {
     let count = slot_count(l, scratch, c);
     let mut at = k;
@@ -187,6 +200,7 @@ fn fill_copy(
             l,
             listed,
             nodes,
+            endpoint,
             from,
             to,
             via,
@@ -194,6 +208,7 @@ fn fill_copy(
             c,
             j,
             room_nodes,
+            room_endpoint,
             room_from,
             room_to,
             room_via,
@@ -209,22 +224,25 @@ pub(crate) fn fill_all(
     l: Layout,
     listed: &[u32],
     nodes: &[u32],
+    endpoint: &[u32],
     from: &[u32],
     to: &[u32],
     via: &[u32],
     scratch: &[u32],
     room_nodes: &mut [u32],
+    room_endpoint: &mut [u32],
     room_from: &mut [u32],
     room_to: &mut [u32],
     room_via: &mut [u32],
 )
-    requires { ⌜ SlotsRoom l (now listed) (now nodes) (now from) (now to) (now via) (now scratch)
+    requires { ⌜ SlotsRoom l (now listed) (now nodes) (now endpoint) (now from) (now to) (now via) (now scratch)
         (shownBelow (boundsNow l (now scratch)) (shownNow l (now scratch)) (l .copies)) 0
-        (now «room_nodes») (now «room_from») (now «room_to») (now «room_via») 0 ⌝ }
+        (now «room_nodes») (now «room_endpoint») (now «room_from») (now «room_to») (now «room_via») 0 ⌝ }
+    requires { ⌜ RowsShown l (now listed) (now endpoint) (now from) (now to) (now via) (now scratch) ⌝ }
     ensures { λ r.
-        ⌜ ResultFilled l (now (listed .entry)) (now (nodes .entry)) (now (from .entry)) (now (to .entry))
-        (now (via .entry)) (now (scratch .entry)) (now («room_nodes» .entry)) (now («room_from» .entry))
-        (now («room_to» .entry)) (now («room_via» .entry)) (now («room_nodes» .exit))
+        ⌜ ResultFilled l (now (listed .entry)) (now (nodes .entry)) (now (endpoint .entry)) (now (from .entry)) (now (to .entry))
+        (now (via .entry)) (now (scratch .entry)) (now («room_nodes» .entry)) (now («room_endpoint» .entry)) (now («room_from» .entry))
+        (now («room_to» .entry)) (now («room_via» .entry)) (now («room_nodes» .exit)) (now («room_endpoint» .exit))
         (now («room_from» .exit)) (now («room_to» .exit)) (now («room_via» .exit)) ⌝ }
 {
     let mut k = 0;
@@ -234,12 +252,14 @@ pub(crate) fn fill_all(
             l,
             listed,
             nodes,
+            endpoint,
             from,
             to,
             via,
             scratch,
             c,
             room_nodes,
+            room_endpoint,
             room_from,
             room_to,
             room_via,

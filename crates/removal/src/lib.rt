@@ -1,6 +1,6 @@
-// Removal of listed paths, from the design and from an earlier true graph. The room is four slices:
-// the node of each copy, and the start copy, the end copy and the design edge of each edge. A
-// refusal changes nothing in it, and places past the result stay as they are.
+// Removal of listed paths, from the design and from an earlier true graph. The room is five slices:
+// the node and the endpoint number of each copy, and the start copy, the end copy and the design edge of each
+// edge. A refusal changes nothing in it, and places past the result stay as they are.
 //
 // The tables that the passes go by stand in the lent scratch, each at an offset: `scratch[base + i]` is entry i
 // of the table at `base`. Nothing is written to the room before 33 and 34 are settled.
@@ -10,12 +10,12 @@
 // local arrays, each as long as a design or a list can ask:
 // - `build::count_candidates`: a count for each node, 16,384 bytes. A scratch that is too short (31) stays as it
 //   was, so that the candidates are counted without it;
-// - `remove_tested`: the numbers of the nodes and of the edges, by which a design is lent as a graph, 16,384 and
-//   65,536 bytes;
+// - `remove_tested`: the numbers of the nodes, their endpoint numbers and the numbers of the edges, by which a design
+//   is lent as a graph, 16,384, 16,384 and 65,536 bytes;
 // - `build::build`: where the places of each node begin, 32,772 bytes;
 // - `tables::fill_tables`: the positions level by level, their ranks and their codes, 32,768 bytes each;
 // - `names::name_edges`: a flag for each edge of the design, 65,536 bytes.
-// The most at a time is 212,996 bytes: those of `remove_tested`, `build` and `fill_tables`.
+// The most at a time is 229,380 bytes: those of `remove_tested`, `build` and `fill_tables`.
 ghost use mathlib.Core.Path.{_≡_};
 ghost use Prim.Native.Nat.{ℕ, _≤_, _<_};
 ghost use lib.ListN.{length};
@@ -24,8 +24,9 @@ ghost use Rattle.timing.specs.Marks.{pathList};
 ghost use Rattle.timing.specs.Refusals.{_then_};
 ghost use Rattle.timing.specs.Tests.{designSizes, listSizes, designTests, listTests, graphTest};
 ghost use Rattle.timing.specs.Calls.{graphSlices, graphOf, graphSizes, lentRemoval, removeFromDesign, removeFromGraph};
-ghost use Rattle.timing.specs.Calls.{graphAnswer, nodesAfter, startsAfter, endsAfter, namesAfter, scratchAfter};
+ghost use Rattle.timing.specs.Calls.{graphAnswer, nodesAfter, endpointsAfter, startsAfter, endsAfter, namesAfter, scratchAfter};
 ghost use Rattle.removal.specs.Numbered.{Numberable, DesignRemoved};
+use crate::numbers::number_endpoints;
 use crate::numbers::number_places;
 use crate::remove::remove;
 use design::and_design_tests;
@@ -35,7 +36,7 @@ use sizes::and_list_sizes;
 use sizes::design_sizes;
 use timing::GraphMade;
 use timing::Verdict;
-use verdicts::same_sizes;
+use verdicts::graph_sizes;
 use verdicts::then;
 
 mod bounds;
@@ -54,66 +55,75 @@ mod step;
 mod tables;
 
 // The tests of a design and a list: 30, with those of the call's other slices between, and then 10
-// to 15 and 20 to 24.
+// to 16 and 20 to 24.
 fn list_tests(
     n: u32,
     starts: &[u32],
     ends: &[u32],
     early: &[i32],
     late: &[i32],
+    marked: &[u32],
     listed: &[u32],
     lengths: &[u32],
     others: Verdict,
 ) -> Verdict
     ensures { λ r.
-        let D = design n (now (starts .entry)) (now (ends .entry)) (now (early .entry)) (now (late .entry)) in
+        let D = design n (now (starts .entry)) (now (ends .entry)) (now (early .entry)) (now (late .entry)) (now (marked .entry)) in
         let L = pathList (now (listed .entry)) (now (lengths .entry)) in
         ⌜ r ≡ (designSizes D then listSizes L then others then designTests D then listTests D L) ⌝ }
 {
     let slices = design_sizes(starts, ends, early, late);
     let sums = and_list_sizes(slices, listed, lengths);
     let sizes = then(sums, others);
-    let fit = and_design_tests(sizes, n, starts, ends, early, late);
+    let fit = and_design_tests(sizes, n, starts, ends, early, late, marked);
     and_list_tests(fit, starts, ends, listed, lengths)
 }
 
 // Removal from a design that has passed its tests. As a graph it has a copy for each node and an edge for
 // each edge, each of its own number: so the numbers are written down, in room for as many as a design can
-// have.
+// have, and beside those of the nodes where paths end.
 fn remove_tested(
     n: usize,
     starts: &[u32],
     ends: &[u32],
+    marked: &[u32],
     listed: &[u32],
     lengths: &[u32],
     room_nodes: &mut [u32],
+    room_endpoint: &mut [u32],
     room_from: &mut [u32],
     room_to: &mut [u32],
     room_via: &mut [u32],
     scratch: &mut [u32],
 ) -> GraphMade
-    requires { ⌜ Numberable (now starts) (now ends) (now listed) (now lengths) n
-        (length (now starts)) (now «room_from») (now «room_to») (now «room_via») ⌝ }
+    requires { ⌜ Numberable (now starts) (now ends) (now marked) (now listed) (now lengths) n
+        (length (now starts)) (now «room_nodes») (now «room_endpoint») (now «room_from») (now «room_to»)
+        (now «room_via») ⌝ }
     ensures { λ r.
-        ⌜ DesignRemoved (now (starts .entry)) (now (ends .entry)) (now (listed .entry))
-        (now (lengths .entry)) n r (now («room_nodes» .entry)) (now («room_from» .entry))
-        (now («room_to» .entry)) (now («room_via» .entry)) (now (scratch .entry)) (now («room_nodes» .exit))
-        (now («room_from» .exit)) (now («room_to» .exit)) (now («room_via» .exit)) (now (scratch .exit)) ⌝ }
+        ⌜ DesignRemoved (now (starts .entry)) (now (ends .entry)) (now (marked .entry)) (now (listed .entry))
+        (now (lengths .entry)) n r (now («room_nodes» .entry)) (now («room_endpoint» .entry))
+        (now («room_from» .entry)) (now («room_to» .entry)) (now («room_via» .entry)) (now (scratch .entry))
+        (now («room_nodes» .exit)) (now («room_endpoint» .exit)) (now («room_from» .exit))
+        (now («room_to» .exit)) (now («room_via» .exit)) (now (scratch .exit)) ⌝ }
 {
     let m = starts.len();
     let mut numbers = [0u32; 4096];
+    let mut endpoint = [1u32; 4096];
     let mut names = [0u32; 16384];
     number_places(&mut numbers, n);
+    number_endpoints(&mut endpoint, n, starts, marked);
     number_places(&mut names, m);
     remove(
         starts,
         listed,
         lengths,
         &numbers[..n],
+        &endpoint[..n],
         starts,
         ends,
         &names[..m],
         room_nodes,
+        room_endpoint,
         room_from,
         room_to,
         room_via,
@@ -128,28 +138,38 @@ pub fn remove_from_design(
     ends: &[u32],
     early: &[i32],
     late: &[i32],
+    marked: &[u32],
     listed: &[u32],
     lengths: &[u32],
     room_nodes: &mut [u32],
+    room_endpoint: &mut [u32],
     room_from: &mut [u32],
     room_to: &mut [u32],
     room_via: &mut [u32],
     scratch: &mut [u32],
 ) -> GraphMade
     ensures { λ r.
-        let D = design n (now (starts .entry)) (now (ends .entry)) (now (early .entry)) (now (late .entry)) in
+        let D = design n (now (starts .entry)) (now (ends .entry)) (now (early .entry)) (now (late .entry)) (now (marked .entry)) in
         let lent = lentRemoval (now (listed .entry)) (now (lengths .entry)) (now («room_nodes» .entry))
-        (now («room_from» .entry)) (now («room_to» .entry)) (now («room_via» .entry)) (now (scratch .entry)) in
+        (now («room_endpoint» .entry)) (now («room_from» .entry)) (now («room_to» .entry)) (now («room_via» .entry))
+        (now (scratch .entry)) in
         let o = removeFromDesign D lent in
         ⌜ (r ≡ graphAnswer o)
         × (now («room_nodes» .exit) ≡ nodesAfter o (now («room_nodes» .entry)))
+        × (now («room_endpoint» .exit) ≡ endpointsAfter o (now («room_endpoint» .entry)))
         × (now («room_from» .exit) ≡ startsAfter o (now («room_from» .entry)))
         × (now («room_to» .exit) ≡ endsAfter o (now («room_to» .entry)))
         × (now («room_via» .exit) ≡ namesAfter o (now («room_via» .entry)))
         × (now (scratch .exit) ≡ scratchAfter o (now (scratch .entry))) ⌝ }
 {
-    let room = same_sizes(room_from.len(), room_to.len(), room_via.len());
-    let verdict = list_tests(n, starts, ends, early, late, listed, lengths, room);
+    let room = graph_sizes(
+        room_nodes.len(),
+        room_endpoint.len(),
+        room_from.len(),
+        room_to.len(),
+        room_via.len(),
+    );
+    let verdict = list_tests(n, starts, ends, early, late, marked, listed, lengths, room);
     if let Verdict::Refused(r) = verdict {
         return GraphMade::Refused(r);
     }
@@ -157,9 +177,11 @@ pub fn remove_from_design(
         n as usize,
         starts,
         ends,
+        marked,
         listed,
         lengths,
         room_nodes,
+        room_endpoint,
         room_from,
         room_to,
         room_via,
@@ -174,69 +196,94 @@ fn graph_tests(
     ends: &[u32],
     early: &[i32],
     late: &[i32],
+    marked: &[u32],
     listed: &[u32],
     lengths: &[u32],
     nodes: &[u32],
+    endpoint: &[u32],
     from: &[u32],
     to: &[u32],
     via: &[u32],
     room: Verdict,
 ) -> Verdict
     ensures { λ r.
-        let D = design n (now (starts .entry)) (now (ends .entry)) (now (early .entry)) (now (late .entry)) in
+        let D = design n (now (starts .entry)) (now (ends .entry)) (now (early .entry)) (now (late .entry)) (now (marked .entry)) in
         let L = pathList (now (listed .entry)) (now (lengths .entry)) in
-        let S = graphSlices (now (nodes .entry)) (now (from .entry)) (now (to .entry)) (now (via .entry)) in
+        let S = graphSlices (now (nodes .entry)) (now (endpoint .entry)) (now (from .entry)) (now (to .entry)) (now (via .entry)) in
         ⌜ r ≡ (designSizes D then listSizes L then graphSizes S then room
         then designTests D then listTests D L then graphTest D (graphOf S)) ⌝ }
 {
-    let earlier = same_sizes(from.len(), to.len(), via.len());
+    let earlier = graph_sizes(nodes.len(), endpoint.len(), from.len(), to.len(), via.len());
     let others = then(earlier, room);
-    let fit = list_tests(n, starts, ends, early, late, listed, lengths, others);
-    and_graph_test(fit, n, starts, ends, nodes, from, to, via)
+    let fit = list_tests(
+        n,
+        starts,
+        ends,
+        early,
+        late,
+        marked,
+        listed,
+        lengths,
+        others,
+    );
+    and_graph_test(fit, n, starts, ends, marked, nodes, endpoint, from, to, via)
 }
 
-// What is left of an earlier true graph (`nodes`, `from`, `to`, `via`) after a further list of paths.
+// What is left of an earlier true graph (`nodes`, `endpoint`, `from`, `to`, `via`) after a further list of paths.
 pub fn remove_from_graph(
     n: u32,
     starts: &[u32],
     ends: &[u32],
     early: &[i32],
     late: &[i32],
+    marked: &[u32],
     listed: &[u32],
     lengths: &[u32],
     nodes: &[u32],
+    endpoint: &[u32],
     from: &[u32],
     to: &[u32],
     via: &[u32],
     room_nodes: &mut [u32],
+    room_endpoint: &mut [u32],
     room_from: &mut [u32],
     room_to: &mut [u32],
     room_via: &mut [u32],
     scratch: &mut [u32],
 ) -> GraphMade
     ensures { λ r.
-        let D = design n (now (starts .entry)) (now (ends .entry)) (now (early .entry)) (now (late .entry)) in
-        let S = graphSlices (now (nodes .entry)) (now (from .entry)) (now (to .entry)) (now (via .entry)) in
+        let D = design n (now (starts .entry)) (now (ends .entry)) (now (early .entry)) (now (late .entry)) (now (marked .entry)) in
+        let S = graphSlices (now (nodes .entry)) (now (endpoint .entry)) (now (from .entry)) (now (to .entry)) (now (via .entry)) in
         let lent = lentRemoval (now (listed .entry)) (now (lengths .entry)) (now («room_nodes» .entry))
-        (now («room_from» .entry)) (now («room_to» .entry)) (now («room_via» .entry)) (now (scratch .entry)) in
+        (now («room_endpoint» .entry)) (now («room_from» .entry)) (now («room_to» .entry)) (now («room_via» .entry))
+        (now (scratch .entry)) in
         let o = removeFromGraph D S lent in
         ⌜ (r ≡ graphAnswer o)
         × (now («room_nodes» .exit) ≡ nodesAfter o (now («room_nodes» .entry)))
+        × (now («room_endpoint» .exit) ≡ endpointsAfter o (now («room_endpoint» .entry)))
         × (now («room_from» .exit) ≡ startsAfter o (now («room_from» .entry)))
         × (now («room_to» .exit) ≡ endsAfter o (now («room_to» .entry)))
         × (now («room_via» .exit) ≡ namesAfter o (now («room_via» .entry)))
         × (now (scratch .exit) ≡ scratchAfter o (now (scratch .entry))) ⌝ }
 {
-    let room = same_sizes(room_from.len(), room_to.len(), room_via.len());
+    let room = graph_sizes(
+        room_nodes.len(),
+        room_endpoint.len(),
+        room_from.len(),
+        room_to.len(),
+        room_via.len(),
+    );
     let verdict = graph_tests(
         n,
         starts,
         ends,
         early,
         late,
+        marked,
         listed,
         lengths,
         nodes,
+        endpoint,
         from,
         to,
         via,
@@ -250,10 +297,12 @@ pub fn remove_from_graph(
         listed,
         lengths,
         nodes,
+        endpoint,
         from,
         to,
         via,
         room_nodes,
+        room_endpoint,
         room_from,
         room_to,
         room_via,

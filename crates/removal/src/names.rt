@@ -3,9 +3,7 @@
 ghost use mathlib.Core.Path.{_≡_};
 ghost use Prim.Native.Nat.{ℕ, _+_, _≤_, _<_};
 ghost use lib.ListN.{length, getD};
-ghost use Rattle.removal.specs.Links.{Linkable};
-ghost use Rattle.removal.specs.Names.{Flagged, Noted, NotedAt, Named, LinkedNamed};
-use crate::chains::link_edges;
+ghost use Rattle.removal.specs.Names.{Flagged, Noted, NotedAt, Named};
 use entries::number_at;
 
 // Sets word k to 1, if there is one.
@@ -54,7 +52,7 @@ fn name_with(names: &mut [u32], listed: &[u32], via: &[u32], scratch: &mut [u32]
 }
 
 // The same, with flags for as many edges as a design has at most.
-fn name_edges(listed: &[u32], via: &[u32], scratch: &mut [u32], base: usize)
+pub(crate) fn name_edges(listed: &[u32], via: &[u32], scratch: &mut [u32], base: usize)
     requires { ⌜ base + length (now via) ≤ length (now scratch) ⌝ }
     ensures { λ r.
         ⌜ Named (now (listed .entry)) (now (via .entry)) (now (scratch .entry))
@@ -62,23 +60,4 @@ fn name_edges(listed: &[u32], via: &[u32], scratch: &mut [u32], base: usize)
 {
     let mut names = [0u32; 16384];
     name_with(&mut names, listed, via, scratch, base);
-}
-
-// Links the edges by their starts, and stores after these tables which of them name a listed edge.
-pub(crate) fn link_named(
-    scratch: &mut [u32],
-    first: usize,
-    n: usize,
-    from: &[u32],
-    listed: &[u32],
-    via: &[u32],
-)
-    requires { ⌜ Linkable (now scratch) (now from) first n
-        × (first + n + length (now from) + length (now via) ≤ length (now scratch)) ⌝ }
-    ensures { λ r.
-        ⌜ LinkedNamed (now (from .entry)) (now (listed .entry)) (now (via .entry))
-        (now (scratch .entry)) (now (scratch .exit)) first n ⌝ }
-{
-    link_edges(scratch, first, n, from);
-    name_edges(listed, via, scratch, first + n + from.len());
 }

@@ -1,9 +1,10 @@
-// Places that hold their own numbers, and these in order.
+// Places that hold their own numbers, and these in order; and the endpoint numbers of a design's nodes.
 ghost use mathlib.Core.Path.{_≡_};
 ghost use Prim.Native.Nat.{_≤_};
 ghost use lib.ListN.{length, take};
 ghost use Rattle.timing.specs.Lists.{upto};
 ghost use Rattle.sorting.specs.Places.{InOrder};
+ghost use Rattle.removal.specs.Endpoints.{storedAt, AllOnes, NodesBelow, EndpointsOf};
 use sorting::sort_places;
 
 // Writes its own number to each of the first n places.
@@ -28,4 +29,27 @@ pub(crate) fn arrange(high: &[u32], low: &[u32], places: &mut [u32])
     let n = places.len();
     number_places(places, n);
     sort_places(high, low, places);
+}
+
+// Stores v at each of some places.
+fn store_at(t: &mut [u32], places: &[u32], v: u32)
+    requires { ⌜ NodesBelow (length (now t)) (now places) ⌝ }
+    ensures { λ r. ⌜ now (t .exit) ≡ storedAt (now (places .entry)) v (now (t .entry)) ⌝ }
+{
+    let mut i = 0;
+    while i < places.len() {
+        let at = places[i] as usize;
+        t[at] = v;
+        i += 1;
+    }
+}
+
+// The endpoint numbers of n nodes, where all places are 1: 0 where an edge starts, and 1 again at marked nodes. So 1 is
+// left at sinks and at marked nodes, where paths end.
+pub(crate) fn number_endpoints(t: &mut [u32], n: usize, starts: &[u32], marked: &[u32])
+    requires { ⌜ (n ≤ length (now t)) × AllOnes n (now t) × NodesBelow n (now starts) × NodesBelow n (now marked) ⌝ }
+    ensures { λ r. ⌜ EndpointsOf n (now (starts .entry)) (now (marked .entry)) (take n (now (t .exit))) ⌝ }
+{
+    store_at(t, starts, 0);
+    store_at(t, marked, 1);
 }

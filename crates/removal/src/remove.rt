@@ -1,6 +1,6 @@
 // A whole removal of listed paths from a graph that has passed its tests: 31, the passes over the
 // slots, 33 and 34, and then the result.
-ghost use Rattle.removal.specs.Fill.{SameRooms};
+ghost use Rattle.removal.specs.Fill.{RoomsAlike};
 ghost use Rattle.removal.specs.Remove.{Workable, WorkableIn, AllFound, Found, RoomAnswered, AllRemoved};
 use crate::build::build;
 use crate::build::count_candidates;
@@ -27,20 +27,21 @@ fn search(
     listed: &[u32],
     lengths: &[u32],
     nodes: &[u32],
+    endpoint: &[u32],
     from: &[u32],
     to: &[u32],
     via: &[u32],
     scratch: &mut [u32],
 ) -> Finding
     requires { ⌜ WorkableIn (now starts) (now listed) (now lengths)
-        (now nodes) (now from) (now to) (now via) (now scratch) ⌝ }
+        (now nodes) (now endpoint) (now from) (now to) (now via) (now scratch) ⌝ }
     ensures { λ r.
-        ⌜ Found (now (starts .entry)) (now (listed .entry)) (now (lengths .entry)) (now (nodes .entry))
+        ⌜ Found (now (starts .entry)) (now (listed .entry)) (now (lengths .entry)) (now (nodes .entry)) (now (endpoint .entry))
         (now (from .entry)) (now (to .entry)) (now (via .entry)) (now (scratch .entry))
         (now (scratch .exit)) (r .layout) (r .counts .copies) (r .counts .edges) ⌝ }
 {
     let layout = build(starts, listed, lengths, nodes, from, to, via, scratch);
-    reach_all(layout, listed, from, to, via, scratch);
+    reach_all(layout, listed, endpoint, from, to, via, scratch);
     let counts = show_all(layout, listed, from, to, via, scratch);
     Finding { layout, counts }
 }
@@ -51,22 +52,24 @@ fn write_result(
     counts: Counts,
     listed: &[u32],
     nodes: &[u32],
+    endpoint: &[u32],
     from: &[u32],
     to: &[u32],
     via: &[u32],
     scratch: &[u32],
     room_nodes: &mut [u32],
+    room_endpoint: &mut [u32],
     room_from: &mut [u32],
     room_to: &mut [u32],
     room_via: &mut [u32],
 ) -> GraphMade
-    requires { ⌜ AllFound l (now listed) (now nodes) (now from) (now to)
+    requires { ⌜ AllFound l (now listed) (now nodes) (now endpoint) (now from) (now to)
         (now via) (now scratch) (counts .copies) (counts .edges)
-        × SameRooms (now «room_from») (now «room_to») (now «room_via») ⌝ }
+        × RoomsAlike (now «room_nodes») (now «room_endpoint») (now «room_from») (now «room_to») (now «room_via») ⌝ }
     ensures { λ r.
-        ⌜ RoomAnswered l (now (listed .entry)) (now (nodes .entry)) (now (from .entry)) (now (to .entry))
-        (now (via .entry)) (now (scratch .entry)) r (now («room_nodes» .entry)) (now («room_from» .entry))
-        (now («room_to» .entry)) (now («room_via» .entry)) (now («room_nodes» .exit))
+        ⌜ RoomAnswered l (now (listed .entry)) (now (nodes .entry)) (now (endpoint .entry)) (now (from .entry)) (now (to .entry))
+        (now (via .entry)) (now (scratch .entry)) r (now («room_nodes» .entry)) (now («room_endpoint» .entry)) (now («room_from» .entry))
+        (now («room_to» .entry)) (now («room_via» .entry)) (now («room_nodes» .exit)) (now («room_endpoint» .exit))
         (now («room_from» .exit)) (now («room_to» .exit)) (now («room_via» .exit)) ⌝ }
 {
     let verdict = room_tests(
@@ -82,11 +85,13 @@ fn write_result(
         l,
         listed,
         nodes,
+        endpoint,
         from,
         to,
         via,
         scratch,
         room_nodes,
+        room_endpoint,
         room_from,
         room_to,
         room_via,
@@ -104,22 +109,24 @@ pub(crate) fn remove(
     listed: &[u32],
     lengths: &[u32],
     nodes: &[u32],
+    endpoint: &[u32],
     from: &[u32],
     to: &[u32],
     via: &[u32],
     room_nodes: &mut [u32],
+    room_endpoint: &mut [u32],
     room_from: &mut [u32],
     room_to: &mut [u32],
     room_via: &mut [u32],
     scratch: &mut [u32],
 ) -> GraphMade
-    requires { ⌜ Workable (now starts) (now listed) (now lengths) (now nodes) (now from) (now to) (now via)
-        × SameRooms (now «room_from») (now «room_to») (now «room_via») ⌝ }
+    requires { ⌜ Workable (now starts) (now listed) (now lengths) (now nodes) (now endpoint) (now from) (now to) (now via)
+        × RoomsAlike (now «room_nodes») (now «room_endpoint») (now «room_from») (now «room_to») (now «room_via») ⌝ }
     ensures { λ r.
-        ⌜ AllRemoved (now (starts .entry)) (now (listed .entry)) (now (lengths .entry)) (now (nodes .entry))
-        (now (from .entry)) (now (to .entry)) (now (via .entry)) r (now («room_nodes» .entry))
+        ⌜ AllRemoved (now (starts .entry)) (now (listed .entry)) (now (lengths .entry)) (now (nodes .entry)) (now (endpoint .entry))
+        (now (from .entry)) (now (to .entry)) (now (via .entry)) r (now («room_nodes» .entry)) (now («room_endpoint» .entry))
         (now («room_from» .entry)) (now («room_to» .entry)) (now («room_via» .entry)) (now (scratch .entry))
-        (now («room_nodes» .exit)) (now («room_from» .exit)) (now («room_to» .exit))
+        (now («room_nodes» .exit)) (now («room_endpoint» .exit)) (now («room_from» .exit)) (now («room_to» .exit))
         (now («room_via» .exit)) (now (scratch .exit)) ⌝ }
 {
     let candidates = count_candidates(starts, listed, lengths, nodes);
@@ -127,17 +134,29 @@ pub(crate) fn remove(
     if let Verdict::Refused(r) = verdict {
         return GraphMade::Refused(r);
     }
-    let finding = search(starts, listed, lengths, nodes, from, to, via, scratch);
+    let finding = search(
+        starts,
+        listed,
+        lengths,
+        nodes,
+        endpoint,
+        from,
+        to,
+        via,
+        scratch,
+    );
     let made = write_result(
         finding.layout,
         finding.counts,
         listed,
         nodes,
+        endpoint,
         from,
         to,
         via,
         scratch,
         room_nodes,
+        room_endpoint,
         room_from,
         room_to,
         room_via,

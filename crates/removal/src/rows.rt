@@ -1,21 +1,21 @@
 // The slots of every copy. Where the tables stand in the scratch, and their readers.
 ghost use mathlib.Core.Path.{_≡_};
 ghost use Prim.Native.Nat.{_+_, _*_, _<_};
-ghost use lib.ListN.{length, getD, take, set};
+ghost use lib.ListN.{getD, take, set};
 ghost use Rattle.removal.specs.Slots.{slots};
 ghost use Rattle.removal.specs.Chains.{edgesAt};
 ghost use Rattle.removal.specs.Rows.{boundsIn, Held, Ready, slotPlace, flagIn};
 ghost use Rattle.removal.specs.Along.{StepAlong};
-ghost use Rattle.removal.specs.Reach.{Marking, FromSlot, FromList, FromAll, endSet, RowsReached, AllZero};
+ghost use Rattle.removal.specs.Reach.{Flagging, FromSlot, FromList, FromAll, endSet, RowsReached, AllZero};
 use crate::step::Step;
 use crate::step::slot_span;
 use crate::step::step_back;
 use entries::number_at;
 
 // `rest`, `order`, `rank` and `link` have a word for each listed edge. `low` has four tables of a word for each
-// copy: the bounds of the copy's places in the order (`Bounds` in specs/), and where its slots start. `into` and
-// `out` are the chains of edges by end and by start: a word for each copy, and then one for each edge. After
-// `out` stands a word for each edge, which is 0 if the edge names no listed one. The slots stand last.
+// copy: the bounds of the copy's places in the order (`Bounds` in specs/), and where its slots start. `into` has the
+// chains of edges by end: a word for each copy, and then one for each edge. `named` has a word for each edge, which is
+// 0 if the edge names no listed one. The slots stand last.
 pub(crate) struct Layout {
     pub(crate) copies: usize,
     pub(crate) edges: usize,
@@ -25,7 +25,7 @@ pub(crate) struct Layout {
     pub(crate) link: usize,
     pub(crate) low: usize,
     pub(crate) into: usize,
-    pub(crate) out: usize,
+    pub(crate) named: usize,
     pub(crate) slots: usize,
 }
 
@@ -124,14 +124,14 @@ pub(crate) fn step_along(
         ⌜ StepAlong l (now (listed .entry)) (now (from .entry)) (now (to .entry))
         (now (via .entry)) (take (l .slots) (now (scratch .entry))) e j r ⌝ }
 {
-    if number_at(scratch, l.out + l.copies + l.edges + e) == 0 {
+    if number_at(scratch, l.named + e) == 0 {
         return Step::Live(0);
     }
     step_listed(l, listed, from, to, via, scratch, e, j)
 }
 
-// Marks a slot as reached.
-fn mark_reached(l: Layout, scratch: &mut [u32], c: usize, j: usize)
+// Flags a slot as reached.
+fn flag_reached(l: Layout, scratch: &mut [u32], c: usize, j: usize)
     requires { ⌜ Held l (now scratch) × (c < l .copies) × (j < slots (boundsIn l (take (l .slots) (now scratch))) c) ⌝ }
     ensures { λ r.
         ⌜ now (scratch .exit) ≡ set (now (scratch .entry))
@@ -141,7 +141,7 @@ fn mark_reached(l: Layout, scratch: &mut [u32], c: usize, j: usize)
     scratch[at] = 1;
 }
 
-// Marks what slot j at the end of edge e reaches at the edge's start. The slot is reached.
+// Flags what slot j at the end of edge e reaches at the edge's start. The slot is reached.
 fn push_edge(
     l: Layout,
     listed: &[u32],
@@ -157,18 +157,18 @@ fn push_edge(
         × (j < slots (boundsIn l (take (l .slots) (now scratch))) (getD (now to) e 0))
         × (0 < flagIn l (now scratch) (getD (now to) e 0) j) ⌝ }
     ensures { λ r.
-        ⌜ Marking l (now (listed .entry)) (now (from .entry)) (now (to .entry))
+        ⌜ Flagging l (now (listed .entry)) (now (from .entry)) (now (to .entry))
         (now (via .entry)) (take (l .slots) (now (scratch .entry))) (now (scratch .entry))
         (now (scratch .exit)) (getD (now (to .entry)) e 0) (FromSlot e j) ⌝ }
 {
     let step = step_along(l, listed, from, to, via, scratch, e, j);
     if let Step::Live(r) = step {
         let a = number_at(from, e) as usize;
-        mark_reached(l, scratch, a, r);
+        flag_reached(l, scratch, a, r);
     }
 }
 
-// Marks what slot j of copy c reaches over the edges into c. The slot is reached.
+// Flags what slot j of copy c reaches over the edges into c. The slot is reached.
 fn push_edges(
     l: Layout,
     listed: &[u32],
@@ -184,7 +184,7 @@ fn push_edges(
         × (j < slots (boundsIn l (take (l .slots) (now scratch))) c)
         × (0 < flagIn l (now scratch) c j) ⌝ }
     ensures { λ r.
-        ⌜ Marking l (now (listed .entry)) (now (from .entry)) (now (to .entry))
+        ⌜ Flagging l (now (listed .entry)) (now (from .entry)) (now (to .entry))
         (now (via .entry)) (take (l .slots) (now (scratch .entry))) (now (scratch .entry))
         (now (scratch .exit)) c (FromList (edgesAt (now (to .entry)) c (l .edges) 0) j) ⌝ }
 {
@@ -196,7 +196,7 @@ fn push_edges(
     }
 }
 
-// Marks what slot j of copy c reaches. From a slot that is not reached no edge is followed, so that
+// Flags what slot j of copy c reaches. From a slot that is not reached no edge is followed, so that
 // the work is that of the reached slots.
 fn push_slot(
     l: Layout,
@@ -212,7 +212,7 @@ fn push_slot(
         × (c < l .copies)
         × (j < slots (boundsIn l (take (l .slots) (now scratch))) c) ⌝ }
     ensures { λ r.
-        ⌜ Marking l (now (listed .entry)) (now (from .entry)) (now (to .entry))
+        ⌜ Flagging l (now (listed .entry)) (now (from .entry)) (now (to .entry))
         (now (via .entry)) (take (l .slots) (now (scratch .entry))) (now (scratch .entry))
         (now (scratch .exit)) c (FromList (edgesAt (now (to .entry)) c (l .edges) 0) j) ⌝ }
 {
@@ -223,7 +223,7 @@ fn push_slot(
     push_edges(l, listed, from, to, via, scratch, c, j);
 }
 
-// Marks what the slots of copy c reach.
+// Flags what the slots of copy c reach.
 fn push_copy(
     l: Layout,
     listed: &[u32],
@@ -235,7 +235,7 @@ fn push_copy(
 )
     requires { ⌜ Ready l (now listed) (now from) (now to) (now via) (now scratch) × (c < l .copies) ⌝ }
     ensures { λ r.
-        ⌜ Marking l (now (listed .entry)) (now (from .entry)) (now (to .entry))
+        ⌜ Flagging l (now (listed .entry)) (now (from .entry)) (now (to .entry))
         (now (via .entry)) (take (l .slots) (now (scratch .entry))) (now (scratch .entry))
         (now (scratch .exit)) c (FromAll (edgesAt (now (to .entry)) c (l .edges) 0)) ⌝ }
 {
@@ -247,21 +247,23 @@ fn push_copy(
     }
 }
 
-// Marks slot 0 of copy c if no edge goes out of c: paths end there.
-fn mark_end(l: Layout, scratch: &mut [u32], c: usize)
-    requires { ⌜ Held l (now scratch) × (c < l .copies) × (l .out + c < length (now scratch)) ⌝ }
-    ensures { λ r. ⌜ now (scratch .exit) ≡ endSet l (now (scratch .entry)) c ⌝ }
+// Flags slot 0 of copy c if paths end there: what is left of such a path is empty, and so is its mark. Paths may
+// go on from there too.
+fn flag_endpoint(l: Layout, endpoint: &[u32], scratch: &mut [u32], c: usize)
+    requires { ⌜ Held l (now scratch) × (c < l .copies) ⌝ }
+    ensures { λ r. ⌜ now (scratch .exit) ≡ endSet l (now (endpoint .entry)) (now (scratch .entry)) c ⌝ }
 {
-    if number_at(scratch, l.out + c) == 0 {
-        mark_reached(l, scratch, c, 0);
+    if number_at(endpoint, c) == 1 {
+        flag_reached(l, scratch, c, 0);
     }
 }
 
-// Marks the slots of all copies that are reached, from the highest copy down. Edges go from lower
-// copies to higher ones, so all slots of a copy that are reached are marked when its turn comes.
+// Flags the slots of all copies that are reached, from the highest copy down. Edges go from lower
+// copies to higher ones, so all slots of a copy that are reached are flagged when its turn comes.
 pub(crate) fn reach_all(
     l: Layout,
     listed: &[u32],
+    endpoint: &[u32],
     from: &[u32],
     to: &[u32],
     via: &[u32],
@@ -270,13 +272,13 @@ pub(crate) fn reach_all(
     requires { ⌜ Ready l (now listed) (now from) (now to) (now via) (now scratch)
         × AllZero l (take (l .slots) (now scratch)) (now scratch) ⌝ }
     ensures { λ r.
-        ⌜ RowsReached l (now (listed .entry)) (now (from .entry)) (now (to .entry)) (now (via .entry))
-        (take (l .slots) (now (scratch .entry))) (now (scratch .entry)) (now (scratch .exit)) 0 ⌝ }
+        ⌜ RowsReached l (now (listed .entry)) (now (endpoint .entry)) (now (from .entry)) (now (to .entry))
+        (now (via .entry)) (take (l .slots) (now (scratch .entry))) (now (scratch .entry)) (now (scratch .exit)) 0 ⌝ }
 {
     let mut c = l.copies;
     while 0 < c {
         c -= 1;
-        mark_end(l, scratch, c);
+        flag_endpoint(l, endpoint, scratch, c);
         push_copy(l, listed, from, to, via, scratch, c);
     }
 }

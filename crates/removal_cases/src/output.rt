@@ -10,7 +10,7 @@ use timing::GraphMade;
 // Sets place k to first + k mod 65,536, so that a word that is moved or changed is seen; and answers
 // how many places are set, which is at most the count.
 pub(crate) fn set_pattern(first: u32, count: usize, words: &mut [u32]) -> usize
-    requires { ⌜ first ≤ 3400000000 ⌝ }
+    requires { ⌜ first ≤ 3500000000 ⌝ }
     ensures { λ r. ⌜ r ≤ length (now (words .exit)) ⌝ }
 {
     let len = least(count, words.len());
@@ -87,6 +87,7 @@ fn say_made(made: GraphMade) -> Printed {
 pub(crate) fn say(
     made: GraphMade,
     room_nodes: &[u32],
+    room_endpoint: &[u32],
     room_from: &[u32],
     room_to: &[u32],
     room_via: &[u32],
@@ -94,6 +95,7 @@ pub(crate) fn say(
 ) {
     let c = say_made(made);
     say_slice(b"\nnodes ", c.copies, room_nodes);
+    say_slice(b"endpoint ", c.copies, room_endpoint);
     say_slice(b"from ", c.edges, room_from);
     say_slice(b"to ", c.edges, room_to);
     say_slice(b"via ", c.edges, room_via);

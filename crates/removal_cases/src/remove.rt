@@ -19,6 +19,7 @@ fn from_graph(
     l: List,
     held: Held,
     room_nodes: &mut [u32],
+    room_endpoint: &mut [u32],
     room_from: &mut [u32],
     room_to: &mut [u32],
     room_via: &mut [u32],
@@ -30,13 +31,16 @@ fn from_graph(
         part(words, tables::ENDS, d.ends),
         early,
         late,
+        part(words, tables::MARKED, d.marked),
         part(words, tables::LISTED, l.listed),
         part(words, tables::LENGTHS, l.lengths),
         part(words, tables::NODES, held.nodes),
+        part(words, tables::ENDPOINT, held.endpoint),
         part(words, tables::FROM, held.from),
         part(words, tables::TO, held.to),
         part(words, tables::VIA, held.via),
         room_nodes,
+        room_endpoint,
         room_from,
         room_to,
         room_via,
@@ -51,6 +55,7 @@ fn from_design(
     late: &[i32],
     l: List,
     room_nodes: &mut [u32],
+    room_endpoint: &mut [u32],
     room_from: &mut [u32],
     room_to: &mut [u32],
     room_via: &mut [u32],
@@ -62,9 +67,11 @@ fn from_design(
         part(words, tables::ENDS, d.ends),
         early,
         late,
+        part(words, tables::MARKED, d.marked),
         part(words, tables::LISTED, l.listed),
         part(words, tables::LENGTHS, l.lengths),
         room_nodes,
+        room_endpoint,
         room_from,
         room_to,
         room_via,
@@ -80,6 +87,7 @@ fn remove(
     l: List,
     held: Held,
     room_nodes: &mut [u32],
+    room_endpoint: &mut [u32],
     room_from: &mut [u32],
     room_to: &mut [u32],
     room_via: &mut [u32],
@@ -94,6 +102,7 @@ fn remove(
             l,
             held,
             room_nodes,
+            room_endpoint,
             room_from,
             room_to,
             room_via,
@@ -107,6 +116,7 @@ fn remove(
         late,
         l,
         room_nodes,
+        room_endpoint,
         room_from,
         room_to,
         room_via,
@@ -123,6 +133,7 @@ fn remove_and_say(
     l: List,
     held: Held,
     room_nodes: &mut [u32],
+    room_endpoint: &mut [u32],
     room_from: &mut [u32],
     room_to: &mut [u32],
     room_via: &mut [u32],
@@ -136,13 +147,31 @@ fn remove_and_say(
         l,
         held,
         room_nodes,
+        room_endpoint,
         room_from,
         room_to,
         room_via,
         scratch,
     );
-    say(made, room_nodes, room_from, room_to, room_via, scratch);
-    keep(made, held, room_nodes, room_from, room_to, room_via, words)
+    say(
+        made,
+        room_nodes,
+        room_endpoint,
+        room_from,
+        room_to,
+        room_via,
+        scratch,
+    );
+    keep(
+        made,
+        held,
+        room_nodes,
+        room_endpoint,
+        room_from,
+        room_to,
+        room_via,
+        words,
+    )
 }
 
 // The same, with the room and the scratch lent as long as the case says.
@@ -156,15 +185,17 @@ pub(crate) fn lend(
     sizes: Sizes,
 ) -> Held {
     let mut room_nodes = [0u32; 2080];
+    let mut room_endpoint = [0u32; 2080];
     let mut room_from = [0u32; 2080];
     let mut room_to = [0u32; 2080];
     let mut room_via = [0u32; 2080];
     let mut scratch = [0u32; 32768];
     let a = set_pattern(3000000000, sizes.nodes, &mut room_nodes);
-    let b = set_pattern(3100000000, sizes.from, &mut room_from);
-    let c = set_pattern(3200000000, sizes.to, &mut room_to);
-    let e = set_pattern(3300000000, sizes.via, &mut room_via);
-    let k = set_pattern(3400000000, sizes.scratch, &mut scratch);
+    let b = set_pattern(3100000000, sizes.endpoint, &mut room_endpoint);
+    let c = set_pattern(3200000000, sizes.from, &mut room_from);
+    let e = set_pattern(3300000000, sizes.to, &mut room_to);
+    let f = set_pattern(3400000000, sizes.via, &mut room_via);
+    let k = set_pattern(3500000000, sizes.scratch, &mut scratch);
     remove_and_say(
         words,
         d,
@@ -173,9 +204,10 @@ pub(crate) fn lend(
         l,
         held,
         &mut room_nodes[..a],
-        &mut room_from[..b],
-        &mut room_to[..c],
-        &mut room_via[..e],
+        &mut room_endpoint[..b],
+        &mut room_from[..c],
+        &mut room_to[..e],
+        &mut room_via[..f],
         &mut scratch[..k],
     )
 }

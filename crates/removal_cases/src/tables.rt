@@ -1,5 +1,5 @@
 // All that a series reads and holds stands in one slice of words, in parts: so a function takes one
-// slice where it would take nine. A part has a place in the slice, and room for the longest that is
+// slice where it would take eleven. A part has a place in the slice, and room for the longest that is
 // read into it.
 use cases::Slice;
 use cases::fill;
@@ -8,7 +8,7 @@ use entries::least;
 use packed_lists::take_number;
 use timing::GraphMade;
 
-pub(crate) const WORDS: usize = 81080;
+pub(crate) const WORDS: usize = 101680;
 
 pub(crate) const STARTS: usize = 0;
 
@@ -16,19 +16,25 @@ pub(crate) const ENDS: usize = 16400;
 
 const CODES: usize = 32800;
 
-pub(crate) const LISTED: usize = 49200;
+pub(crate) const MARKED: usize = 49200;
 
-pub(crate) const LENGTHS: usize = 57400;
+pub(crate) const LISTED: usize = 53400;
 
-pub(crate) const NODES: usize = 58440;
+pub(crate) const LENGTHS: usize = 61600;
 
-pub(crate) const FROM: usize = 74840;
+pub(crate) const NODES: usize = 62640;
 
-pub(crate) const TO: usize = 76920;
+pub(crate) const ENDPOINT: usize = 79040;
 
-pub(crate) const VIA: usize = 79000;
+pub(crate) const FROM: usize = 95440;
+
+pub(crate) const TO: usize = 97520;
+
+pub(crate) const VIA: usize = 99600;
 
 const EDGE_ROOM: usize = 16400;
+
+const MARKED_ROOM: usize = 4200;
 
 const LISTED_ROOM: usize = 8200;
 
@@ -45,6 +51,7 @@ pub(crate) struct Design {
     pub ends: usize,
     pub early: usize,
     pub late: usize,
+    pub marked: usize,
     pub next: usize,
 }
 
@@ -58,6 +65,7 @@ pub(crate) struct List {
 // The lengths of the room's slices and of the scratch; and the place behind them.
 pub(crate) struct Sizes {
     pub nodes: usize,
+    pub endpoint: usize,
     pub from: usize,
     pub to: usize,
     pub via: usize,
@@ -69,6 +77,7 @@ pub(crate) struct Sizes {
 pub(crate) struct Held {
     pub any: bool,
     pub nodes: usize,
+    pub endpoint: usize,
     pub from: usize,
     pub to: usize,
     pub via: usize,
@@ -119,13 +128,15 @@ pub(crate) fn read_design(
     let b = fill_part(s, a.next, words, ENDS, EDGE_ROOM);
     let c = fill_delays(s, b.next, words, early);
     let d = fill_delays(s, c.next, words, late);
+    let e = fill_part(s, d.next, words, MARKED, MARKED_ROOM);
     Design {
         n: n.value,
         starts: a.len,
         ends: b.len,
         early: c.len,
         late: d.len,
-        next: d.next,
+        marked: e.len,
+        next: e.next,
     }
 }
 
@@ -145,13 +156,15 @@ pub(crate) fn read_sizes(s: &[u8], at: usize) -> Sizes {
     let c = take_number(s, b.next);
     let d = take_number(s, c.next);
     let e = take_number(s, d.next);
+    let f = take_number(s, e.next);
     Sizes {
         nodes: a.value as usize,
-        from: b.value as usize,
-        to: c.value as usize,
-        via: d.value as usize,
-        scratch: e.value as usize,
-        next: e.next,
+        endpoint: b.value as usize,
+        from: c.value as usize,
+        to: d.value as usize,
+        via: e.value as usize,
+        scratch: f.value as usize,
+        next: f.next,
     }
 }
 
@@ -159,6 +172,7 @@ pub(crate) fn nothing() -> Held {
     Held {
         any: false,
         nodes: 0,
+        endpoint: 0,
         from: 0,
         to: 0,
         via: 0,
@@ -168,17 +182,19 @@ pub(crate) fn nothing() -> Held {
 // The graph at a place becomes the graph held.
 pub(crate) fn hold_given(s: &[u8], at: usize, words: &mut [u32]) -> Step {
     let a = fill_part(s, at, words, NODES, COPY_ROOM);
-    let b = fill_part(s, a.next, words, FROM, COPY_EDGE_ROOM);
-    let c = fill_part(s, b.next, words, TO, COPY_EDGE_ROOM);
-    let d = fill_part(s, c.next, words, VIA, COPY_EDGE_ROOM);
+    let b = fill_part(s, a.next, words, ENDPOINT, COPY_ROOM);
+    let c = fill_part(s, b.next, words, FROM, COPY_EDGE_ROOM);
+    let d = fill_part(s, c.next, words, TO, COPY_EDGE_ROOM);
+    let e = fill_part(s, d.next, words, VIA, COPY_EDGE_ROOM);
     let held = Held {
         any: true,
         nodes: a.len,
-        from: b.len,
-        to: c.len,
-        via: d.len,
+        endpoint: b.len,
+        from: c.len,
+        to: d.len,
+        via: e.len,
     };
-    Step { held, next: d.next }
+    Step { held, next: e.next }
 }
 
 fn copy(count: usize, source: &[u32], target: &mut [u32]) {
@@ -201,6 +217,7 @@ pub(crate) fn keep(
     made: GraphMade,
     held: Held,
     room_nodes: &[u32],
+    room_endpoint: &[u32],
     room_from: &[u32],
     room_to: &[u32],
     room_via: &[u32],
@@ -209,12 +226,14 @@ pub(crate) fn keep(
     match made {
         GraphMade::Counts { copies, edges } => {
             copy_to(copies, room_nodes, words, NODES);
+            copy_to(copies, room_endpoint, words, ENDPOINT);
             copy_to(edges, room_from, words, FROM);
             copy_to(edges, room_to, words, TO);
             copy_to(edges, room_via, words, VIA);
             Held {
                 any: true,
                 nodes: copies,
+                endpoint: copies,
                 from: edges,
                 to: edges,
                 via: edges,

@@ -15,10 +15,10 @@ use Rattle.timing.specs.Graphs.{Design, design}
 use Rattle.timing.specs.Marks.{PathList, pathList, cut}
 use Rattle.timing.specs.Delays.{packedDelay, delayOf}
 use Rattle.timing.specs.Refusals.{unless, _then_}
-use Rattle.timing.specs.Parsing.{Parsed, found, stopped, _>>=_, _>>_, return, tested, number, repeated, ended}
+use Rattle.timing.specs.Parsing.{Parsed, found, stopped, Reader, _>>=_, _>>_, return, tested, number, repeated, ended}
 use Rattle.timing.specs.Decks.{Deck, Tables, EdgeRow, edgeRow, designOf, edgeNumbers, pathNumbers, deckNumbers, packedDeck, paths, readDeck}
 use Rattle.timing.specs.declared.Verdict.the-variants.{Refused as NotPassed}
-use Rattle.timing.specs.Tests.{edgeSizes}
+use Rattle.timing.specs.Tests.{edgeSizes, markedCount}
 use Rattle.timing.specs.Calls.{made, parsed, guarded, deckRead}
 use Rattle.packed.proofs.Numbers.{Bytes}
 use Rattle.packed_delays.proofs.Delays.{delay-packed, packed-delay}
@@ -50,17 +50,18 @@ rows-there s at (x ∷ a) (y ∷ b) (z ∷ d) (w ∷ l) ys f g h i e =
     let t = rows-there s (v .next) a b d l ys (omega arith) (omega arith) (omega arith) (i .1 .1 .1 .1) (v .left) in
     record { next = t .next; reads = rw (p .reads, q .reads, u .reads, v .reads, t .reads); left = t .left }
 
-rows-design : (n : ℕ) (a b : List ℕ) (d l : List ℤ) → length b ≡ length a → length d ≡ length a → length l ≡ length a → designOf n (rowsOf a b d l) ≡ design n a b d l
-rows-design n [] [] [] [] f g h = refl
-rows-design n [] (y ∷ b) d l f g h = absurd (omega arith)
-rows-design n [] [] (z ∷ d) l f g h = absurd (omega arith)
-rows-design n [] [] [] (w ∷ l) f g h = absurd (omega arith)
-rows-design n (x ∷ a) [] d l f g h = absurd (omega arith)
-rows-design n (x ∷ a) (y ∷ b) [] l f g h = absurd (omega arith)
-rows-design n (x ∷ a) (y ∷ b) (z ∷ d) [] f g h = absurd (omega arith)
-rows-design n (x ∷ a) (y ∷ b) (z ∷ d) (w ∷ l) f g h =
-    let e = rows-design n a b d l (omega arith) (omega arith) (omega arith) in
-    rw (delay-packed z, delay-packed w) (ap (λ (D : Design). design n (x ∷ D .starts) (y ∷ D .ends) (z ∷ D .early) (w ∷ D .late)) e)
+rows-design : (n : ℕ) (a b : List ℕ) (d l : List ℤ) (marked : List ℕ) → length b ≡ length a → length d ≡ length a → length l ≡ length a
+    → designOf n (rowsOf a b d l) marked ≡ design n a b d l marked
+rows-design n [] [] [] [] marked f g h = refl
+rows-design n [] (y ∷ b) d l marked f g h = absurd (omega arith)
+rows-design n [] [] (z ∷ d) l marked f g h = absurd (omega arith)
+rows-design n [] [] [] (w ∷ l) marked f g h = absurd (omega arith)
+rows-design n (x ∷ a) [] d l marked f g h = absurd (omega arith)
+rows-design n (x ∷ a) (y ∷ b) [] l marked f g h = absurd (omega arith)
+rows-design n (x ∷ a) (y ∷ b) (z ∷ d) [] marked f g h = absurd (omega arith)
+rows-design n (x ∷ a) (y ∷ b) (z ∷ d) (w ∷ l) marked f g h =
+    let e = rows-design n a b d l marked (omega arith) (omega arith) (omega arith) in
+    rw (delay-packed z, delay-packed w) (ap (λ (D : Design). design n (x ∷ D .starts) (y ∷ D .ends) (z ∷ D .early) (w ∷ D .late) marked) e)
 
 paths-there : (s : List ℕ) (at table before : ℕ) (edges lengths ys : List ℕ) → sum lengths ≡ length edges → before + length edges ≤ 8192 → before + length edges ≤ table
     → Small (flatMap pathNumbers (cut edges lengths)) → drop at s ≡ bytesOf (flatMap pathNumbers (cut edges lengths) ++ ys)
@@ -84,25 +85,48 @@ paths-there s at table before edges (k ∷ lengths) ys a l m h e =
       left = v .left;
     }
 
+-- the marked nodes, T and the end, behind the edges and the list
+abbrev lastReader : List ℕ → Tables → ℕ → List EdgeRow → PathList → Reader Deck
+lastReader s tables n rows list = do
+  marks ← number s
+  tested (markedCount n marks then unless 36 (leb marks (tables .marked)))
+  marked ← repeated marks (number s)
+  allowed ← number s
+  ended s
+  return (record { design = designOf n rows marked; list = list; allowed = allowed })
+
+last-there : (s : List ℕ) (at : ℕ) (tables : Tables) (n : ℕ) (rows : List EdgeRow) (list : PathList) (marked : List ℕ) (allowed : ℕ)
+    → length marked ≤ n → length marked ≤ tables .marked → Small (length marked ∷ (marked ++ (allowed ∷ [])))
+    → drop at s ≡ bytesOf (length marked ∷ (marked ++ (allowed ∷ [])))
+    → parsed (lastReader s tables n rows list at) ≡ made (record { design = designOf n rows marked; list = list; allowed = allowed })
+unfolding bytesOf flatMap
+last-there s at tables n rows list marked allowed f g h e =
+    let k = small-append marked (allowed ∷ []) (h .1) in
+    let a = number-there s at (length marked) (marked ++ (allowed ∷ [])) (h .0) e in
+    let b = numbers-there s (a .next) marked (allowed ∷ []) (k .0) (a .left) in
+    let t = number-there s (b .next) allowed [] (k .1 .0) (b .left) in
+    let d : length s ≤ t .next = omega (arith, length-drop (t .next) s, ap length (t .left)) in
+    rw (a .reads, le-leb (length marked) n f, le-leb (length marked) (tables .marked) g, b .reads, t .reads, le-leb (length s) (t .next) d)
+
 deck-there : (d : Deck) (tables : Tables) (s : List ℕ) → s ≡ bytesOf (deckNumbers d) → Fit d → Small (deckNumbers d)
-    → length (d .design .starts) ≤ tables .edges → length (d .list .lengths) ≤ tables .paths → length (d .list .edges) ≤ tables .listed → parsed (readDeck s tables) ≡ made d
+    → length (d .design .starts) ≤ tables .edges → length (d .list .lengths) ≤ tables .paths → length (d .list .edges) ≤ tables .listed
+    → length (d .design .marked) ≤ tables .marked → parsed (readDeck s tables) ≡ made d
 unfolding readDeck bytesOf flatMap
-deck-there d tables s e f h te tp tl =
+deck-there d tables s e f h te tp tl tm =
     let D = d .design in
     let es = edgeNumbers (D .starts) (D .ends) (D .early) (D .late) in
     let ps = flatMap pathNumbers (cut (d .list .edges) (d .list .lengths)) in
-    let q : deckNumbers d ≡ D .nodes ∷ length (D .starts) ∷ (es ++ (length (d .list .lengths) ∷ (ps ++ (d .allowed ∷ [])))) =
-    deck-parts d ∙ ap (λ (l : List ℕ). D .nodes ∷ length (D .starts) ∷ l) (append-assoc es (length (d .list .lengths) ∷ ps) (d .allowed ∷ [])) in
+    let last = length (D .marked) ∷ (D .marked ++ (d .allowed ∷ [])) in
+    let q : deckNumbers d ≡ D .nodes ∷ length (D .starts) ∷ (es ++ (length (d .list .lengths) ∷ (ps ++ last))) =
+    deck-parts d ∙ ap (λ (l : List ℕ). D .nodes ∷ length (D .starts) ∷ l) (append-assoc es (length (d .list .lengths) ∷ ps) last) in
     let g = rw q at h in
-    let ge = small-append es (length (d .list .lengths) ∷ (ps ++ (d .allowed ∷ []))) (g .1 .1) in
-    let gp = small-append ps (d .allowed ∷ []) (ge .1 .1) in
-    let a = number-there s 0 (D .nodes) (length (D .starts) ∷ (es ++ (length (d .list .lengths) ∷ (ps ++ (d .allowed ∷ []))))) (g .0) (e ∙ ap bytesOf q) in
-    let b = number-there s (a .next) (length (D .starts)) (es ++ (length (d .list .lengths) ∷ (ps ++ (d .allowed ∷ [])))) (g .1 .0) (a .left) in
-    let c = rows-there s (b .next) (D .starts) (D .ends) (D .early) (D .late) (length (d .list .lengths) ∷ (ps ++ (d .allowed ∷ []))) (f .ends) (f .early) (f .late) (ge .0) (b .left) in
-    let k = number-there s (c .next) (length (d .list .lengths)) (ps ++ (d .allowed ∷ [])) (ge .1 .0) (c .left) in
-    let l = paths-there s (k .next) (tables .listed) 0 (d .list .edges) (d .list .lengths) (d .allowed ∷ []) (f .adds) (omega (arith, f .listed)) (omega arith) (gp .0) (k .left) in
-    let t = number-there s (l .next) (d .allowed) [] (gp .1 .0) (l .left) in
-    let n : length s ≤ t .next = omega (arith, length-drop (t .next) s, ap length (t .left)) in
+    let ge = small-append es (length (d .list .lengths) ∷ (ps ++ last)) (g .1 .1) in
+    let gp = small-append ps last (ge .1 .1) in
+    let a = number-there s 0 (D .nodes) (length (D .starts) ∷ (es ++ (length (d .list .lengths) ∷ (ps ++ last)))) (g .0) (e ∙ ap bytesOf q) in
+    let b = number-there s (a .next) (length (D .starts)) (es ++ (length (d .list .lengths) ∷ (ps ++ last))) (g .1 .0) (a .left) in
+    let c = rows-there s (b .next) (D .starts) (D .ends) (D .early) (D .late) (length (d .list .lengths) ∷ (ps ++ last)) (f .ends) (f .early) (f .late) (ge .0) (b .left) in
+    let k = number-there s (c .next) (length (d .list .lengths)) (ps ++ last) (ge .1 .0) (c .left) in
+    let l = paths-there s (k .next) (tables .listed) 0 (d .list .edges) (d .list .lengths) last (f .adds) (omega (arith, f .listed)) (omega arith) (gp .0) (k .left) in
     rw (
       a .reads,
       le-leb (D .nodes) 4096 (f .nodes),
@@ -114,18 +138,20 @@ deck-there d tables s e f h te tp tl =
       le-leb (length (d .list .lengths)) 1024 (f .paths),
       le-leb (length (d .list .lengths)) (tables .paths) tp,
       l .reads,
-      t .reads,
-      le-leb (length s) (t .next) n,
-      rows-design (D .nodes) (D .starts) (D .ends) (D .early) (D .late) (f .ends) (f .early) (f .late),
     )
+    (last-there s (l .next) tables (D .nodes) (rowsOf (D .starts) (D .ends) (D .early) (D .late)) (d .list) (D .marked) (d .allowed) (f .marked) tm (gp .1) (l .left)
+    ∙ ap (λ (E : Design). made (record { design = E; list = d .list; allowed = d .allowed }))
+    (rows-design (D .nodes) (D .starts) (D .ends) (D .early) (D .late) (D .marked) (f .ends) (f .early) (f .late)))
 
 -- Reading a deck's packed form gives the deck, for every deck whose counts are within the limits and the tables and whose
 -- numbers fit 32 bits.
-pub read-written : (d : Deck) (edges listed paths : ℕ) → Fit d → Small (deckNumbers d)
-    → length (d .design .starts) ≤ edges → length (d .list .edges) ≤ listed → length (d .list .lengths) ≤ paths → deckRead (packedDeck d) edges edges edges edges listed paths ≡ made d
+pub read-written : (d : Deck) (edges listed paths marked : ℕ) → Fit d → Small (deckNumbers d)
+    → length (d .design .starts) ≤ edges → length (d .list .edges) ≤ listed → length (d .list .lengths) ≤ paths → length (d .design .marked) ≤ marked
+    → deckRead (packedDeck d) edges edges edges edges listed paths marked ≡ made d
 unfolding deckRead
-read-written d edges listed paths f h te tl tp =
-    rw (eq-eqb edges edges refl) (deck-there d (record { edges = edges; listed = listed; paths = paths }) (packedDeck d) (packed-deck d) f h te tp tl)
+read-written d edges listed paths marked f h te tl tp tm =
+    rw (eq-eqb edges edges refl)
+    (deck-there d (record { edges = edges; listed = listed; paths = paths; marked = marked }) (packedDeck d) (packed-deck d) f h te tp tl tm)
 
 -- 2. Writing what was read.
 module _ (s : List ℕ) (bytes : Bytes s) where
@@ -180,26 +206,29 @@ module _ (s : List ℕ) (bytes : Bytes s) where
       )))))
 
   -- the parts of a deck, put together
-  took-parts : (n m count e : ℕ) (rows : List EdgeRow) (list : PathList) (a b c p t f : ℕ) → Took s 0 (n ∷ []) a → Took s a (m ∷ []) b → TookRows m b rows c → Took s c (count ∷ []) p
-      → TookPaths count p list t → Took s t (e ∷ []) f → length s ≤ f
-      → packedDeck (record { design = designOf n rows; list = list; allowed = e }) ≡ s
-  took-parts n m count e rows list a b c p t f hn hm hr hc hp ht he =
-      let d : Deck = record { design = designOf n rows; list = list; allowed = e } in
+  took-parts : (n m count marks e : ℕ) (rows : List EdgeRow) (list : PathList) (marked : List ℕ) (a b c p t x y f : ℕ)
+      → Took s 0 (n ∷ []) a → Took s a (m ∷ []) b → TookRows m b rows c → Took s c (count ∷ []) p
+      → TookPaths count p list t → Took s t (marks ∷ []) x → TookNumbers s bytes marks x marked y → Took s y (e ∷ []) f → length s ≤ f
+      → packedDeck (record { design = designOf n rows marked; list = list; allowed = e }) ≡ s
+  took-parts n m count marks e rows list marked a b c p t x y f hn hm hr hc hp hk hv ht he =
+      let d : Deck = record { design = designOf n rows marked; list = list; allowed = e } in
       let k : length (map (λ (r : EdgeRow). r .start) rows) ≡ m = length-map rows (λ (r : EdgeRow). r .start) ∙ hr .1 in
       let ps = flatMap pathNumbers (cut (list .edges) (list .lengths)) in
+      let tail = (marks ∷ marked) ++ (e ∷ []) in
       packed-deck d ∙ ap bytesOf (deck-parts d)
-      ∙ rw (k, hp .1)
-      (whole s bytes f ((n ∷ m ∷ rowNumbers rows) ++ (count ∷ ps) ++ (e ∷ []))
-      (took-both s 0 t f ((n ∷ m ∷ rowNumbers rows) ++ (count ∷ ps)) (e ∷ [])
+      ∙ rw (k, hp .1, hv .1)
+      (whole s bytes f ((n ∷ m ∷ rowNumbers rows) ++ (count ∷ ps) ++ tail)
+      (took-both s 0 t f ((n ∷ m ∷ rowNumbers rows) ++ (count ∷ ps)) tail
       (took-both s 0 c t (n ∷ m ∷ rowNumbers rows) (count ∷ ps) (took-both s 0 a c (n ∷ []) (m ∷ rowNumbers rows) hn (took-both s a b c (m ∷ []) (rowNumbers rows) hm (hr .0)))
       (took-both s c p t (count ∷ []) ps hc (hp .0)))
-      ht)
+      (took-both s t y f (marks ∷ marked) (e ∷ []) (took-both s t x y (marks ∷ []) marked hk (hv .0)) ht))
       he)
 
   took-deck : (tables : Tables) → Is (λ d next. packedDeck d ≡ s) (readDeck s tables)
   unfolding readDeck
   took-deck tables =
       let Q : Deck → ℕ → Type 0 = λ d next. packedDeck d ≡ s in
+      let markTest : ℕ → ℕ → Verdict = λ n marks. markedCount n marks then unless 36 (leb marks (tables .marked)) in
       is-onward (λ x next. Took s 0 (x ∷ []) next) Q (number s 0) _ (took-number s bytes 0)
       (λ n a hn. is-onward (TestIs (unless 10 (leb n 4096)) a) Q (tested (unless 10 (leb n 4096)) a) _ (is-tested (unless 10 (leb n 4096)) a)
       (λ u a' ta. is-onward (λ x next. Took s a' (x ∷ []) next) Q (number s a') _ (took-number s bytes a')
@@ -211,18 +240,25 @@ module _ (s : List ℕ) (bytes : Bytes s) where
       (is-tested (unless 20 (leb count 1024) then unless 36 (leb count (tables .paths))) p)
       (λ u″ p' tp. is-onward (TookPaths count p') Q (paths s (tables .listed) count 0 p') _ (took-paths (tables .listed) count 0 p')
       (λ list t hp. is-onward (λ x next. Took s t (x ∷ []) next) Q (number s t) _ (took-number s bytes t)
+      (λ marks x hk. is-onward (TestIs (markTest n marks) x) Q (tested (markTest n marks) x) _ (is-tested (markTest n marks) x)
+      (λ u‴ x' tx. is-onward (TookNumbers s bytes marks x') Q (repeated marks (number s) x') _ (took-numbers s bytes marks x')
+      (λ marked y hv. is-onward (λ x next. Took s y (x ∷ []) next) Q (number s y) _ (took-number s bytes y)
       (λ e f ht. is-onward (λ v z. length s ≤ f) Q (ended s f) _ (is-ended s bytes f)
-      (λ v z he. took-parts n m count e rows list a' b' c p' t f (rw (ta .1) hn) (rw (tb .1) hm) hr (rw (tp .1) hc) hp ht he))))))))))
+      (λ v z he. took-parts n m count marks e rows list marked a' b' c p' t x' y f (rw (ta .1) hn) (rw (tb .1) hm) hr (rw (tp .1) hc) hp (rw (tx .1) hk) hv ht he)))))))))))))
 
 -- Packing a deck that was read gives the bytes that were read, all of them.
-pub written-read : (s : List ℕ) (starts ends early late listed lengths : ℕ) (d : Deck) → Bytes s → deckRead s starts ends early late listed lengths ≡ made d → packedDeck d ≡ s
+pub written-read : (s : List ℕ) (starts ends early late listed lengths marked : ℕ) (d : Deck) → Bytes s
+    → deckRead s starts ends early late listed lengths marked ≡ made d → packedDeck d ≡ s
 unfolding deckRead
-written-read s starts ends early late listed lengths d bytes e = by (edgeSizes starts ends early late) e
+written-read s starts ends early late listed lengths marked d bytes e = by (edgeSizes starts ends early late) e
   where
+    tables : Tables
+    tables = record { edges = starts; listed = listed; paths = lengths; marked = marked }
+
     two : (p : Parsed Deck) → Is (λ d next. packedDeck d ≡ s) p → parsed p ≡ made d → packedDeck d ≡ s
     two (found x at) h q = let g : x ≡ d = cc in rw (← g) h
     two (stopped r) h q = absurd (let z : _≡_ {A = ℕ} 0 1 = cc in omega arith)
 
-    by : (v : Verdict) → guarded v (parsed (readDeck s (record { edges = starts; listed = listed; paths = lengths }))) ≡ made d → packedDeck d ≡ s
-    by Passed q = two (readDeck s (record { edges = starts; listed = listed; paths = lengths })) (took-deck s bytes (record { edges = starts; listed = listed; paths = lengths })) q
+    by : (v : Verdict) → guarded v (parsed (readDeck s (record { edges = starts; listed = listed; paths = lengths; marked = marked }))) ≡ made d → packedDeck d ≡ s
+    by Passed q = two (readDeck s tables) (took-deck s bytes tables) q
     by (NotPassed r) q = absurd (let z : _≡_ {A = ℕ} 0 1 = cc in omega arith)

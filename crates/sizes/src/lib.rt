@@ -1,6 +1,7 @@
 // Tests of lengths. 30: lent slices that belong together, and the lengths of the paths against the flat list. 31: the scratch. 33 and
 // 34: a result against its room.
 ghost use mathlib.Core.Path.{_≡_};
+ghost use mathlib.Core.List.{List};
 ghost use Prim.Native.Nat.{ℕ, min};
 ghost use lib.Dec.{leb};
 ghost use Rattle.timing.specs.Refusals.{_then_};
@@ -26,12 +27,12 @@ pub fn edge_sizes(starts: usize, ends: usize, early: usize, late: usize) -> Verd
     then(joined, delays)
 }
 
-// 30 for the four slices of a design.
+// 30 for the four edge slices of a design.
 pub fn design_sizes(starts: &[u32], ends: &[u32], early: &[i32], late: &[i32]) -> Verdict
     ensures { λ r.
-        ⌜ ((n : ℕ)
+        ⌜ ((n : ℕ) (marked : List ℕ)
         → r ≡ designSizes (design n
-        (now (starts .entry)) (now (ends .entry)) (now (early .entry)) (now (late .entry)))) ⌝ }
+        (now (starts .entry)) (now (ends .entry)) (now (early .entry)) (now (late .entry)) marked)) ⌝ }
 {
     edge_sizes(starts.len(), ends.len(), early.len(), late.len())
 }

@@ -3,18 +3,19 @@
 use Prim.Native.Nat.{ℕ, _<_}
 use mathlib.Core.Path.{_≡_, refl, sym, ap, _∙_, subst}
 use mathlib.Core.Logic.{_⊎_, inl, inr, _↔_}
-use mathlib.Core.Bool.{Bool, false, not}
-use mathlib.Core.List.{List, [], _∷_, _++_, List·Memᴰ, List·Memᴰ·head, List·Memᴰ·tail, append-assoc}
+use mathlib.Core.Bool.{Bool, false, not, _&&_}
+use mathlib.Core.List.{List, [], _∷_, _++_, List·Memᴰ, List·Memᴰ·head, List·Memᴰ·tail, append-assoc, append-nil}
 use lib.Dec.{T}
 use lib.ListN.{length}
 use Rattle.timing.specs.Lists.{isNil, anyOf}
 use Rattle.timing.specs.Graphs.{Edge, Graph, startsAt, endsAt, names}
 use Rattle.timing.specs.Marks.{occurs, permitted, mark}
-use Rattle.timing.specs.TrueGraphs.{Copy, Join, copyBefore, edgeBefore, copies, numbered, trueGraph}
-use Rattle.theorems.proofs.Marks.{Prefix, begins, mark-prefix, mark-reads, splice, permitted-front, front-permitted}
+use Rattle.timing.specs.TrueGraphs.{Copy, Join, copyBefore, edgeBefore, copies, pathEnds, numbered, trueGraph}
+use Rattle.theorems.proofs.Lists.{and-intro, and-left, and-right, same-test, nil-is}
+use Rattle.theorems.proofs.Marks.{Prefix, begins, mark-prefix, mark-reads, splice, permitted-rest, permitted-front, front-permitted}
 use Rattle.theorems.proofs.Sorting.{Sorted, sorted-unique}
 use Rattle.theorems.proofs.Runs.{Rising, Leads, Way, leads-then, leads-last}
-use Rattle.theorems.proofs.Copies.{Passes, Shown, Joined, copy-order, edge-order, names-append, rest-permitted, mem-copies}
+use Rattle.theorems.proofs.Copies.{Passes, Shown, Joined, copy-order, edge-order, names-append, rest-permitted, mem-copies, path-ends}
 use Rattle.theorems.proofs.Stands.{copies-sorted, true-edges}
 use Rattle.theorems.proofs.Kept.{edges-sorted}
 
@@ -35,7 +36,7 @@ none-permitted (p ∷ L) h = go p (h p (List·Memᴰ·head refl)) (none-permitte
     go [] e t = absurd (subst (λ (b : Bool). T b) e tt)
     go (a ∷ p) e t = t
 
-mark-empty : (L : List (List ℕ)) → mark L [] ≡ []
+pub mark-empty : (L : List (List ℕ)) → mark L [] ≡ []
 mark-empty L = go (mark L []) (mark-prefix L [])
   where
     go : (s : List ℕ) → Prefix s [] → s ≡ []
@@ -129,6 +130,33 @@ module _ (G : Graph) (L : List (List ℕ)) where
             ap (λ (y : List ℕ). begins L (f .name ∷ y)) x ∙ front-permitted L (f .name) (names q) (rest-permitted b) .0,
             (f ∷ q, b, sym z),
           )
+
+  -- Whether paths end at a copy shows there: its mark is empty, and paths end at what it is a copy of. For then the head of a path that shows
+  -- it is a complete path, and permitted as a part of one.
+  pub ends-locally : Rising G → (p : Copy) → Shown G L p → pathEnds L G p ≡ (isNil (p .mark) && endsAt G (p .at))
+  ends-locally up p (q, s, x) =
+      same-test (pathEnds L G p) (isNil (p .mark) && endsAt G (p .at))
+      (λ t.
+      let r = path-ends G L up p .0 t in
+      and-intro (isNil (p .mark)) (endsAt G (p .at)) (subst (λ (m : List ℕ). T (isNil m)) (sym (r .1 ∙ mark-empty L)) tt) (r .0 .way))
+      (λ t.
+      let m = nil-is (p .mark) (and-left (isNil (p .mark)) (endsAt G (p .at)) t) in
+      let n = names-append (s .head) q in
+      let whole : T (permitted L (names (s .head) ++ names q)) = subst (λ (w : List ℕ). T (permitted L w)) n (s .permits) in
+      let none : T (permitted L []) = permitted-rest L (names (s .head ++ q)) [] (subst (λ (w : List ℕ). T (permitted L w)) (sym (append-nil (names (s .head ++ q)))) (s .permits)) in
+      let w = splice L (names q) [] (sym x ∙ m ∙ sym (mark-empty L)) none (names (s .head)) whole in
+      path-ends G L up p .1 (
+        record {
+          first = s .first;
+          head = s .head;
+          inside = s .inside;
+          starts = s .starts;
+          leads = s .leads;
+          way = and-right (isNil (p .mark)) (endsAt G (p .at)) t;
+          permits = subst (λ (w : List ℕ). T (permitted L w)) (sym (names-append (s .head) [])) (w .0);
+        },
+        m ∙ sym (mark-empty L),
+      ))
 
   -- N: a list in the order of copies that holds just what is shown is the list of copies, and the same for the edges
   pub copies-are : Rising G → (cs : List Copy) → Sorted copyBefore cs → ((p : Copy) → List·Memᴰ p cs ↔ Shown G L p) → cs ≡ copies L G

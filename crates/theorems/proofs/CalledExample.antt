@@ -13,7 +13,7 @@ use Rattle.timing.specs.declared.GraphMade.the-variants.{Refused as NoGraph}
 use Rattle.timing.specs.Lists.{upto}
 use Rattle.timing.specs.Graphs.{designGraph, edgesIn, edgesOut, runsFrom, completeRuns}
 use Rattle.timing.specs.Marks.{pathList, permitted, tails, mark}
-use Rattle.timing.specs.TrueGraphs.{permittedRuns, copies, joins, trueGraph}
+use Rattle.timing.specs.TrueGraphs.{permittedRuns, copies, pathEnds, joins, trueGraph}
 use Rattle.timing.specs.WellFormed.{wellFormed}
 use Rattle.timing.specs.Refusals.{refusal, refusalWithin}
 use Rattle.timing.specs.Tests.{designTests, listTests, candidates, scratchWords, scratchTest, roomTests}
@@ -28,7 +28,7 @@ words n x = map (λ i. x) (upto n 0)
 
 -- room for some copies and six edges
 abbrev pub roomFor : ℕ → GraphSlices
-roomFor n = graphSlices (words n 9) (words 6 9) (words 6 9) (words 6 9)
+roomFor n = graphSlices (words n 9) (words n 9) (words 6 9) (words 6 9) (words 6 9)
 
 -- a call with n words of scratch, which hold x afterwards
 abbrev pub calledWith : ℕ → List ℕ → List ℕ → GraphSlices → GraphMade → GraphSlices → ℕ → Called
@@ -47,7 +47,7 @@ abbrev pub called : List ℕ → List ℕ → GraphSlices → GraphMade → Grap
 called = calledWith 120
 
 abbrev pub afterA : GraphSlices
-afterA = graphSlices (0 ∷ 1 ∷ 2 ∷ 2 ∷ 3 ∷ 4 ∷ []) (0 ∷ 1 ∷ 0 ∷ 3 ∷ 2 ∷ 9 ∷ []) (2 ∷ 2 ∷ 3 ∷ 4 ∷ 5 ∷ 9 ∷ []) (0 ∷ 1 ∷ 0 ∷ 2 ∷ 3 ∷ 9 ∷ [])
+afterA = graphSlices (0 ∷ 1 ∷ 2 ∷ 2 ∷ 3 ∷ 4 ∷ []) (0 ∷ 0 ∷ 0 ∷ 0 ∷ 1 ∷ 1 ∷ []) (0 ∷ 1 ∷ 0 ∷ 3 ∷ 2 ∷ 9 ∷ []) (2 ∷ 2 ∷ 3 ∷ 4 ∷ 5 ∷ 9 ∷ []) (0 ∷ 1 ∷ 0 ∷ 2 ∷ 3 ∷ 9 ∷ [])
 
 abbrev pub series : List Called
 series =
@@ -55,18 +55,18 @@ series =
     ∷ called (1 ∷ 2 ∷ []) (2 ∷ []) (roomFor 6) (Counts 6 5) afterA 0
     ∷ called (0 ∷ 3 ∷ []) (2 ∷ []) (roomFor 5) (NoGraph (refusal 33 0)) (roomFor 5) 0
     ∷ called (0 ∷ 3 ∷ []) (2 ∷ []) (roomFor 6) (Counts 6 4)
-    (graphSlices (0 ∷ 1 ∷ 2 ∷ 2 ∷ 3 ∷ 4 ∷ []) (1 ∷ 0 ∷ 3 ∷ 2 ∷ 9 ∷ 9 ∷ []) (2 ∷ 3 ∷ 4 ∷ 5 ∷ 9 ∷ 9 ∷ []) (1 ∷ 0 ∷ 2 ∷ 3 ∷ 9 ∷ 9 ∷ [])) 0
+    (graphSlices (0 ∷ 1 ∷ 2 ∷ 2 ∷ 3 ∷ 4 ∷ []) (0 ∷ 0 ∷ 0 ∷ 0 ∷ 1 ∷ 1 ∷ []) (1 ∷ 0 ∷ 3 ∷ 2 ∷ 9 ∷ 9 ∷ []) (2 ∷ 3 ∷ 4 ∷ 5 ∷ 9 ∷ 9 ∷ []) (1 ∷ 0 ∷ 2 ∷ 3 ∷ 9 ∷ 9 ∷ [])) 0
     ∷ []
 
 pub series-ran : Ran deckA none series
-unfolding flatMap designGraph edgesIn edgesOut runsFrom completeRuns permitted tails mark permittedRuns copies joins trueGraph wellFormed designTests listTests candidates scratchTest roomTests removeFromDesign removeFromGraph
+unfolding flatMap designGraph edgesIn edgesOut runsFrom completeRuns permitted tails mark permittedRuns copies pathEnds joins trueGraph wellFormed designTests listTests candidates scratchTest roomTests removeFromDesign removeFromGraph
 series-ran = (
-  record { answer = refl; nodes = refl; starts = refl; ends = refl; names = refl; scratch = refl },
+  record { answer = refl; nodes = refl; endpoints = refl; starts = refl; ends = refl; names = refl; scratch = refl },
   (
-    record { answer = refl; nodes = refl; starts = refl; ends = refl; names = refl; scratch = refl },
+    record { answer = refl; nodes = refl; endpoints = refl; starts = refl; ends = refl; names = refl; scratch = refl },
     (
-      record { answer = refl; nodes = refl; starts = refl; ends = refl; names = refl; scratch = refl },
-      (record { answer = refl; nodes = refl; starts = refl; ends = refl; names = refl; scratch = refl }, tt),
+      record { answer = refl; nodes = refl; endpoints = refl; starts = refl; ends = refl; names = refl; scratch = refl },
+      (record { answer = refl; nodes = refl; endpoints = refl; starts = refl; ends = refl; names = refl; scratch = refl }, tt),
     ),
   ),
 )
@@ -79,10 +79,10 @@ abbrev pub madeWith : ℕ → Called
 madeWith n = calledWith n (1 ∷ 2 ∷ []) (2 ∷ []) (roomFor 6) (Counts 6 5) afterA 0
 
 pub half-answers : (madeWith 96 .answer ≡ madeWith 192 .answer) × (madeWith 96 .after ≡ madeWith 192 .after)
-unfolding flatMap designGraph edgesIn edgesOut runsFrom completeRuns permitted tails mark permittedRuns copies joins trueGraph wellFormed designTests listTests candidates scratchTest roomTests removeFromDesign removeFromGraph
+unfolding flatMap designGraph edgesIn edgesOut runsFrom completeRuns permitted tails mark permittedRuns copies pathEnds joins trueGraph wellFormed designTests listTests candidates scratchTest roomTests removeFromDesign removeFromGraph
 half-answers =
     same-answers deckA none (madeWith 192) (madeWith 96)
-    (record { answer = refl; nodes = refl; starts = refl; ends = refl; names = refl; scratch = refl })
-    (record { answer = refl; nodes = refl; starts = refl; ends = refl; names = refl; scratch = refl })
+    (record { answer = refl; nodes = refl; endpoints = refl; starts = refl; ends = refl; names = refl; scratch = refl })
+    (record { answer = refl; nodes = refl; endpoints = refl; starts = refl; ends = refl; names = refl; scratch = refl })
     (λ e. absurd (let z : _≡_ {A = ℕ} 0 1 = cc in omega arith)) refl refl refl
     (leb→le (scratchWords (candidates deckA (designGraph deckA) (pathList (1 ∷ 2 ∷ []) (2 ∷ []))) 2 4) 96 tt)

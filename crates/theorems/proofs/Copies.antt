@@ -2,14 +2,14 @@
 use Prim.Native.Nat.{ℕ, _<_}
 use mathlib.Core.Path.{_≡_, refl, sym, ap, _∙_, subst}
 use mathlib.Core.Logic.{⊎-elim, _↔_}
-use mathlib.Core.Bool.{false}
+use mathlib.Core.Bool.{Bool, true, false, not, _||_}
 use mathlib.Core.List.{List, [], _∷_, _++_, flatMap, List·Memᴰ, List·Memᴰ·head, List·Memᴰ·tail, List·Memᴰ·not-nil, List·Memᴰ·cases-cons, append-assoc}
 use lib.Dec.{T}
 use lib.ListN.{length}
 use Rattle.timing.specs.Graphs.{Edge, edge, Graph, startsAt, Run, completeRuns, names}
 use Rattle.timing.specs.Marks.{permitted, mark}
-use Rattle.timing.specs.TrueGraphs.{Copy, Join, copyBefore, edgeBefore, copyAt, copiesOn, joinsOn, permittedRuns, copies, joins}
-use Rattle.theorems.proofs.Lists.{mem-flatMap, of-flatMap, mem-keep, of-keep}
+use Rattle.timing.specs.TrueGraphs.{Copy, Join, copyBefore, edgeBefore, sameCopy, copyAt, copiesOn, joinsOn, lastOn, permittedRuns, copies, pathEnds, joins}
+use Rattle.theorems.proofs.Lists.{anyOf-intro, anyOf-elim, mem-flatMap, of-flatMap, mem-keep, of-keep}
 use Rattle.theorems.proofs.Marks.{begins, mark-reads, splice, permitted-rest, permitted-front, front-permitted}
 use Rattle.theorems.proofs.Sorting.{Linear, by-key, sort-mem}
 use Rattle.theorems.proofs.Runs.{Rising, Leads, Way, leads-then, way-then, complete-runs}
@@ -53,6 +53,23 @@ edge-order = by-key (λ (e : Edge). e .end ∷ e .name ∷ e .start ∷ []) same
         let t : e .end ≡ f .end = cc in
         let k : e .name ≡ f .name = cc in
         λ i. record { start = s i; end = t i; name = k i }
+
+-- two copies of which neither comes before the other are one
+neither : (a b : Bool) → T (not (a || b)) → (T a → ⊥) × (T b → ⊥)
+neither true b t = absurd t
+neither false true t = absurd t
+neither false false t = (λ h. h, λ h. h)
+
+both-fail : (a b : Bool) → (T a → ⊥) → (T b → ⊥) → T (not (a || b))
+both-fail true b f g = f tt
+both-fail false true f g = g tt
+both-fail false false f g = tt
+
+same-copy : (c d : Copy) → T (sameCopy c d) → c ≡ d
+same-copy c d t = let r = neither (copyBefore c d) (copyBefore d c) t in copy-order .total c d (r .0) (r .1)
+
+copy-same : (c : Copy) → T (sameCopy c c)
+copy-same c = both-fail (copyBefore c c) (copyBefore c c) (copy-order .irrefl c) (copy-order .irrefl c)
 
 -- names of a path in two parts
 pub names-append : (p q : List Edge) → names (p ++ q) ≡ names p ++ names q
@@ -156,6 +173,36 @@ module _ (G : Graph) (L : List (List ℕ)) (up : Rising G) where
           let p = s .2 in
           mem-flatMap on (passes-run (s .0 .start) (s .0 ∷ s .1) p)
           (subst (λ (x : Join). List·Memᴰ x (joinsOn L (p .first) (p .head ++ (s .0 ∷ s .1)))) (sym (s .3)) (joins-on G L (p .first) (s .0) (p .head) (s .1) (p .leads)))
+
+-- Where paths end: the copy that a permitted path shows last has a path that passes it with nothing left to go, and the other way round.
+module _ (G : Graph) (L : List (List ℕ)) (up : Rising G) where
+  last-passes : (c : ℕ) (q : List Edge) → Passes G L c q → (d : ℕ) × Passes G L d [] × (lastOn L c q ≡ copyAt L d [])
+  last-passes c [] p = (c, p, refl)
+  last-passes c (e ∷ q) p = last-passes (e .end) q (pass-on p)
+
+  last-leads : (a c : ℕ) (p : List Edge) → Leads G a p c → lastOn L a (p ++ []) ≡ copyAt L c []
+  last-leads a c [] l = ap (λ (x : ℕ). copyAt L x []) l
+  last-leads a c (e ∷ p) l = last-leads (e .end) c p (l .2)
+
+  pub path-ends : (p : Copy) → T (pathEnds L G p) ↔ (Passes G L (p .at) [] × (p .mark ≡ mark L []))
+  unfolding pathEnds
+  path-ends p = (there, back)
+    where
+      ends : Run → Bool
+      ends r = sameCopy (lastOn L (r .first) (r .edges)) p
+
+      there : T (pathEnds L G p) → Passes G L (p .at) [] × (p .mark ≡ mark L [])
+      there t =
+          let r = anyOf-elim ends (permittedRuns L G) t in
+          let w = last-passes (r .0 .first) (r .0 .edges) (run-passes G L up (r .0) (r .1)) in
+          let e : copyAt L (w .0) [] ≡ p = sym (w .2) ∙ same-copy (lastOn L (r .0 .first) (r .0 .edges)) p (r .2) in
+          (subst (λ (x : Copy). Passes G L (x .at) []) e (w .1), ap (λ (x : Copy). x .mark) (sym e))
+
+      back : Passes G L (p .at) [] × (p .mark ≡ mark L []) → T (pathEnds L G p)
+      back (s, m) =
+          let e : copyAt L (p .at) [] ≡ p = λ i. record { at = p .at; mark = sym m i } in
+          anyOf-intro ends (passes-run G L up (p .at) [] s)
+          (subst (λ (x : Copy). T (sameCopy x p)) (sym (last-leads (s .first) (p .at) (s .head) (s .leads) ∙ e)) (copy-same p))
 
 -- A join taken apart: it goes along an edge between two shown copies, no listed path begins at it, and the mark at its start
 -- is read off the edge and the mark at its end. (Splicing gives the way back: the head of a path that shows the start, the

@@ -1,20 +1,16 @@
 -- Counting in lists: a list with no repeats is no longer than a list that holds its members, and lists that never fall
 -- are one where each number stands as often in one as in the other.
 use Prim.Native.Nat.{ℕ, zero, suc, _+_, _≤_, _<_}
-use mathlib.Core.Path.{_≡_, refl, sym, ap, ap₂, subst}
-use mathlib.Core.Logic.{⊎-elim, _↔_}
+use mathlib.Core.Path.{_≡_, refl, sym, ap, ap₂, _∙_, subst}
+use mathlib.Core.Logic.{_⊎_, inl, inr, ⊎-elim, _↔_}
 use mathlib.Core.Bool.{Bool, true, false, cond}
 use mathlib.Core.List.{List, [], _∷_, _++_, map, flatMap, List·Memᴰ, List·Memᴰ·head, List·Memᴰ·tail, List·Memᴰ·not-nil, List·Memᴰ·cases-cons, Memᴰ·append-left, Memᴰ·append-right, List·Memᴰ·append-cases, Memᴰ·of-map}
 use native.Mathlib.Omega.{arith}
 use lib.Dec.{T, eqb, leb, eqb→eq, eqb-refl, leb→le, le→leb}
 use lib.ListN.{length}
-use Rattle.timing.specs.Lists.{keep, countOf, eachNext, upto}
+use Rattle.timing.specs.Lists.{oneIf, keep, countOf, eachNext, upto}
 use Rattle.theorems.proofs.Lists.{and-intro, and-left, and-right, mem-keep, of-keep, of-flatMap, of-upto}
 use Rattle.theorems.proofs.Sorting.{Linear, Sorted}
-
--- what one element adds to a count
-abbrev pub one : Bool → ℕ
-one b = cond b 1 0
 
 -- a list has a first element where it has a member
 pub mem-positive : {A : Type 0} {x : A} (l : List A) → List·Memᴰ x l → 0 < length l
@@ -22,10 +18,10 @@ mem-positive [] m = absurd (List·Memᴰ·not-nil m)
 mem-positive (y ∷ l) m = omega arith
 
 module _ {A : Type 0} (p : A → Bool) where
-  pub count-cons : (x : A) (l : List A) → countOf p (x ∷ l) ≡ one (p x) + countOf p l
+  pub count-cons : (x : A) (l : List A) → countOf p (x ∷ l) ≡ oneIf (p x) + countOf p l
   count-cons x l = go (p x)
     where
-      go : (b : Bool) → length (cond b (x ∷ keep p l) (keep p l)) ≡ one b + length (keep p l)
+      go : (b : Bool) → length (cond b (x ∷ keep p l) (keep p l)) ≡ oneIf b + length (keep p l)
       go true = omega arith
       go false = omega arith
 
@@ -94,6 +90,38 @@ module _ {A : Type 0} where
 
   pub length-same : (xs ys : List A) → Nodup xs → Nodup ys → ((x : A) → List·Memᴰ x xs ↔ List·Memᴰ x ys) → length xs ≡ length ys
   length-same xs ys d d′ f = omega (arith, length-le xs ys d (λ x. f x .0), length-le ys xs d′ (λ x. f x .1))
+
+-- in a list that repeats nothing a test that at most one element passes is passed at most once; and two elements that pass it are counted
+pub count-single : {A : Type 0} (p : A → Bool) (l : List A) → Nodup l → ((x y : A) → List·Memᴰ x l → List·Memᴰ y l → T (p x) → T (p y) → x ≡ y) → countOf p l ≤ 1
+count-single p [] d h = omega arith
+count-single {A} p (x ∷ l) d h = go (p x) refl (count-single p l (d .1) (λ y z m n. h y z (List·Memᴰ·tail m) (List·Memᴰ·tail n)))
+  where
+    none : (n : ℕ) → n ≡ countOf p l → T (p x) → n ≡ 0
+    none zero e t = refl
+    none (suc n) e t =
+        let r = of-count p l (omega arith) in
+        absurd (d .0 (subst (λ (y : A). List·Memᴰ y l) (h (r .0) x (List·Memᴰ·tail (r .1)) (List·Memᴰ·head refl) (r .2) t) (r .1)))
+
+    go : (b : Bool) → p x ≡ b → countOf p l ≤ 1 → countOf p (x ∷ l) ≤ 1
+    go true e below = omega (arith, count-cons p x l, ap oneIf e, none (countOf p l) refl (rw e tt))
+    go false e below = omega (arith, count-cons p x l, ap oneIf e)
+
+pub count-two : {A : Type 0} (p : A → Bool) {x y : A} (l : List A) → List·Memᴰ x l → List·Memᴰ y l → T (p x) → T (p y) → (x ≡ y → ⊥) → 1 < countOf p l
+count-two p [] m n s t d = absurd (List·Memᴰ·not-nil m)
+count-two {A} p {x} {y} (z ∷ l) m n s t d = go (List·Memᴰ·cases-cons m) (List·Memᴰ·cases-cons n) (λ a b. count-two p l a b s t d)
+  where
+    passes : (u : A) → T (p u) → u ≡ z → oneIf (p z) ≡ 1
+    passes u h e = yes (p z) (subst (λ (v : A). T (p v)) e h)
+      where
+        yes : (b : Bool) → T b → oneIf b ≡ 1
+        yes true h = refl
+        yes false h = absurd h
+
+    go : (x ≡ z) ⊎ List·Memᴰ x l → (y ≡ z) ⊎ List·Memᴰ y l → (List·Memᴰ x l → List·Memᴰ y l → 1 < countOf p l) → 1 < countOf p (z ∷ l)
+    go (inl e) (inl f) below = absurd (d (e ∙ sym f))
+    go (inl e) (inr k) below = omega (arith, count-cons p z l, passes x s e, count-positive p l k t)
+    go (inr h) (inl f) below = omega (arith, count-cons p z l, passes y t f, count-positive p l h s)
+    go (inr h) (inr k) below = omega (arith, count-cons p z l, below h k)
 
 pub nodup-map : {A B : Type 0} (f : A → B) (l : List A) → ((x y : A) → List·Memᴰ x l → List·Memᴰ y l → f x ≡ f y → x ≡ y) → Nodup l → Nodup (map f l)
 nodup-map f [] inj d = tt
@@ -164,7 +192,7 @@ rises-same (x ∷ xs) [] r s f = absurd (no-more x xs (f x))
 rises-same (x ∷ xs) (y ∷ ys) r s f =
     let e : x ≡ y = omega (arith, first-least x y xs ys s (f x), first-least y x ys xs r (sym (f y))) in
     let rest : (v : ℕ) → countOf (eqb v) xs ≡ countOf (eqb v) ys
-    = λ v. omega (arith, f v, count-cons (eqb v) x xs, count-cons (eqb v) y ys, ap (λ (u : ℕ). one (eqb v u)) e) in
+    = λ v. omega (arith, f v, count-cons (eqb v) x xs, count-cons (eqb v) y ys, ap (λ (u : ℕ). oneIf (eqb v u)) e) in
     ap₂ _∷_ e (rises-same xs ys (r .1) (s .1) rest)
 
 -- what keeps a list free of repeats

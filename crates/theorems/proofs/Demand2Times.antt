@@ -20,7 +20,7 @@ use Rattle.timing.specs.Demands.{PathBest, PathTimes}
 use Rattle.theorems.proofs.Lists.{of-keep}
 use Rattle.theorems.proofs.Runs.{Rising, Leads, Way, runs-to, runs-from, way-then, complete-runs}
 use Rattle.theorems.proofs.Copies.{Passes, passes-run}
-use Rattle.theorems.proofs.Stands.{Stands, passes-inside, lowered, names-lowered, way-down, way-up, leads-lift, start-up}
+use Rattle.theorems.proofs.Stands.{Stands, passes-inside, stands-onward, lowered, names-lowered, way-down, way-up, leads-lift, start-up}
 use Rattle.theorems.proofs.Legal.{length-design, node-design}
 use Rattle.theorems.proofs.Extremes.{AtMost, AtLeast, best-moved, best-on, largest-of, smallest-of}
 use Rattle.theorems.proofs.Times.{To, Through, runs-to-some, runs-from-some, arrival-best, required-best, slack-best, earliest-best}
@@ -152,7 +152,7 @@ module _ (G H : Graph) (L : List (List ℕ)) (up : Rising G) (S : Stands G L H) 
   some-to h k = let r = runs-to-some H (S .rising) h k in (r .0, runs-to H (S .rising) h (r .0) k .0 (r .1))
 
   some-way : (h : ℕ) → h < length (H .nodes) → (q : List Edge) × Way H h q
-  some-way h k = let r = runs-from-some H (S .rising) h k in (r .0, runs-from H (S .rising) h (r .0) k .0 (r .1))
+  some-way h k = let r = runs-from-some H (S .rising) h k (stands-onward G H L up S) in (r .0, runs-from H (S .rising) h (r .0) k .0 (r .1))
 
   -- The best values of the runs at some copies C of H are those of the paths P of G, where these are the runs at C taken down.
   module _ (C : ℕ → Type 0) (P : List Edge → List Edge → Type 0)
@@ -201,8 +201,8 @@ module _ (G H : Graph) (L : List (List ℕ)) (up : Rising G) (S : Stands G L H) 
       (λ p q (m, e).
       let same : copyAt L (S .label h .at) q ≡ S .label h = λ i. record { at = S .label h .at; mark = e i } in
       (h, refl, subst (λ (x : ℕ). Lifted x p q) (ap (S .number) same ∙ S .every h k .1) (cut-up (S .label h .at) p q m .2)))
-      early late t (only (To H) (arrival-best late t H (S .rising) h k)) (only (Way H) (required-best late t H (S .rising) h k))
-      (only (Through H) (slack-best late t H (S .rising) h k)) (only (To H) (earliest-best early H (S .rising) h k))
+      early late t (only (To H) (arrival-best late t H (S .rising) h k)) (only (Way H) (required-best late t H (S .rising) (stands-onward G H L up S) h k))
+      (only (Through H) (slack-best late t H (S .rising) (stands-onward G H L up S) h k)) (only (To H) (earliest-best early H (S .rising) h k))
     where
       only : {le : ℤ → ℤ → Type 0} {f : List Edge → ℤ} {m : ℤ} (R : ℕ → List Edge → Type 0) → Best le (R h) f m → Best le (At (λ i. i ≡ h) R) f m
       only R b = best-on (λ es. (λ r. (h, refl, r), λ (i, e, r). subst (λ (x : ℕ). R x es) e r)) b
@@ -239,7 +239,7 @@ module _ (G H : Graph) (L : List (List ℕ)) (up : Rising G) (S : Stands G L H) 
               → (a : ℤ) × (r : ℤ) × (s : ℤ) × (e : ℤ) × (nodeTimesAt early late t H n v ≡ Times a r s e) × PathBest early late t (PassesNode G L v) a r s e
           some p q m =
               let o = node-up p q m in
-              let b = node-times early late t H n v (S .rising) (below p q m) (o .0, mem-copies H v (o .0) .1 (o .1)) in
+              let b = node-times early late t H n v (S .rising) (stands-onward G H L up S) (below p q m) (o .0, mem-copies H v (o .0) .1 (o .1)) in
               let best = b .5 in
               (b .0, b .1, b .2, b .3, b .4, paths-best (CopyOf H v) (PassesNode G L v) (λ h k. k .0) node-down node-up early late t (best .arrival) (best .required) (best .slack) (best .earliest))
 

@@ -1,5 +1,5 @@
 -- The hypotheses of the theorems can be met: deck A passes every test, its true graph is well formed, and both parts of M6
--- pass in a series.
+-- pass in a series; deck A with a marked node passes them, too.
 use Prim.Native.Nat.{ℕ}
 use mathlib.Core.Path.{_≡_, refl}
 use mathlib.Core.List.{List, [], _∷_, flatMap}
@@ -10,14 +10,14 @@ use lib.IntN.{ℤ, pos}
 use Rattle.timing.specs.declared.Verdict.the-variants.{Passed}
 use Rattle.timing.specs.Graphs.{Design, design, Graph, designGraph, edgesIn, edgesOut, runsFrom, completeRuns}
 use Rattle.timing.specs.Marks.{PathList, pathList, pathsOf, permitted, tails, mark}
-use Rattle.timing.specs.TrueGraphs.{permittedRuns, copies, joins, trueGraph}
+use Rattle.timing.specs.TrueGraphs.{permittedRuns, copies, pathEnds, joins, trueGraph}
 use Rattle.timing.specs.WellFormed.{wellFormed}
 use Rattle.timing.specs.Tests.{designSizes, listSizes, designTests, listTests, candidates, scratchTest, roomTests}
 use Rattle.timing.specs.Calls.{slicesOf, made, Removal, removal, removeFromDesign, removeFromGraph, testTimes}
 use Rattle.timing.specs.Series.{verdicts, HeldIs, heldAfter, wholeAfter}
 use Rattle.timing.specs.Paths.{PassesAt, Shows}
 use Rattle.timing.specs.Demands.{Demand2, AllPassed, listsOf, TimesOfPaths, RecordOfPaths}
-use Rattle.timing.proofs.Marked.{deckA, listA}
+use Rattle.timing.proofs.Marked.{deckA, listA, observed, observedGraph}
 use Rattle.theorems.proofs.Stands.{Stands, true-stands}
 use Rattle.theorems.proofs.Legal.{Legal, design-legal}
 use Rattle.theorems.proofs.Demand2.{design-demand2, graph-demand2}
@@ -45,7 +45,7 @@ pub deckA-demand2 : Demand2 (designGraph deckA) (pathsOf listA) graphA
 deckA-demand2 = design-demand2 deckA (pathsOf listA) (fits .0) (fits .1)
 
 formed : T (wellFormed deckA graphA)
-unfolding flatMap designGraph edgesIn edgesOut runsFrom completeRuns permitted tails mark permittedRuns copies joins trueGraph wellFormed
+unfolding flatMap designGraph edgesIn edgesOut runsFrom completeRuns permitted tails mark permittedRuns copies pathEnds joins trueGraph wellFormed
 formed = tt
 
 -- and 0,3 removed from that graph
@@ -54,25 +54,33 @@ deckA-further = graph-demand2 deckA graphA ((0 ∷ 3 ∷ []) ∷ []) (fits .0) (
 
 -- the call makes this graph
 abbrev part : PathList → Removal
-part L = removal L (record { nodes = 512; starts = 2048; ends = 2048; names = 2048 }) 16384
+part L = removal L (record { nodes = 512; endpoints = 512; starts = 2048; ends = 2048; names = 2048 }) 16384
 
 made-A : removeFromDesign deckA (part listA) ≡ made graphA
-unfolding flatMap designGraph edgesIn edgesOut runsFrom completeRuns permitted tails mark permittedRuns copies joins trueGraph wellFormed designTests listTests candidates scratchTest roomTests removeFromDesign
+unfolding flatMap designGraph edgesIn edgesOut runsFrom completeRuns permitted tails mark permittedRuns copies pathEnds joins trueGraph wellFormed designTests listTests candidates scratchTest roomTests removeFromDesign
 made-A = refl
 
 pub deckA-made : Demand2 (designGraph deckA) (pathsOf listA) graphA
 deckA-made = removed-demand2 deckA (part listA) graphA made-A
+
+-- and with node 2 marked that of the marked table, in which paths end at copy 2 and go on from it
+made-observed : removeFromDesign observed (part listA) ≡ made observedGraph
+unfolding flatMap designGraph edgesIn edgesOut runsFrom completeRuns permitted tails mark permittedRuns copies pathEnds joins trueGraph wellFormed designTests listTests candidates scratchTest roomTests removeFromDesign
+made-observed = refl
+
+pub observed-made : Demand2 (designGraph observed) (pathsOf listA) observedGraph
+observed-made = removed-demand2 observed (part listA) observedGraph made-observed
 
 -- the times of copy 3, which is node 2 with mark 2, and the record of node 2, after the removal and `times` in slices of six places
 abbrev six : List ℤ
 six = pos 0 ∷ pos 0 ∷ pos 0 ∷ pos 0 ∷ pos 0 ∷ pos 0 ∷ []
 
 tested-A : testTimes deckA (slicesOf graphA) 10 6 6 6 6 ≡ Passed
-unfolding flatMap designGraph edgesIn edgesOut runsFrom completeRuns permitted tails mark permittedRuns copies joins trueGraph wellFormed designTests testTimes
+unfolding flatMap designGraph edgesIn edgesOut runsFrom completeRuns permitted tails mark permittedRuns copies pathEnds joins trueGraph wellFormed designTests testTimes
 tested-A = refl
 
 pub deckA-copy : TimesOfPaths deckA graphA 10 six six six six 3 (Shows (designGraph deckA) (pathsOf listA) (record { at = 2; mark = 2 ∷ [] }))
-unfolding flatMap designGraph edgesIn edgesOut runsFrom completeRuns permitted tails mark permittedRuns copies joins trueGraph
+unfolding flatMap designGraph edgesIn edgesOut runsFrom completeRuns permitted tails mark permittedRuns copies pathEnds joins trueGraph
 deckA-copy = removed-copy-times deckA graphA 10 six six six six tested-A (part listA) made-A 3 (omega arith)
 
 pub deckA-record : RecordOfPaths deckA graphA 10 six six six six 2 (PassesAt deckA (pathsOf listA) 2)
@@ -83,14 +91,14 @@ abbrev m6 : List Removal
 m6 = part listA ∷ part (pathList (0 ∷ 3 ∷ []) (2 ∷ [])) ∷ []
 
 m6-passed : AllPassed (verdicts deckA none m6)
-unfolding flatMap designGraph edgesIn edgesOut runsFrom completeRuns permitted tails mark permittedRuns copies joins trueGraph wellFormed designTests listTests candidates scratchTest roomTests removeFromDesign removeFromGraph
+unfolding flatMap designGraph edgesIn edgesOut runsFrom completeRuns permitted tails mark permittedRuns copies pathEnds joins trueGraph wellFormed designTests listTests candidates scratchTest roomTests removeFromDesign removeFromGraph
 m6-passed = tt
 
 pub m6-parts : HeldIs deckA (some (listsOf m6)) (heldAfter deckA none m6)
 m6-parts = cut-list deckA (part listA) (part (pathList (0 ∷ 3 ∷ []) (2 ∷ [])) ∷ []) m6-passed
 
 m6-held : heldAfter deckA none m6 ≡ some graphM6
-unfolding flatMap designGraph edgesIn edgesOut runsFrom completeRuns permitted tails mark permittedRuns copies joins trueGraph wellFormed designTests listTests candidates scratchTest roomTests removeFromDesign removeFromGraph
+unfolding flatMap designGraph edgesIn edgesOut runsFrom completeRuns permitted tails mark permittedRuns copies pathEnds joins trueGraph wellFormed designTests listTests candidates scratchTest roomTests removeFromDesign removeFromGraph
 m6-held = refl
 
 pub m6-demand2 : (L : List (List ℕ)) × (wholeAfter deckA none m6 ≡ some L) × Demand2 (designGraph deckA) L graphM6

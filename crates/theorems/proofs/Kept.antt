@@ -3,23 +3,24 @@ use Prim.Native.Nat.{ℕ, zero, suc, _≤_, _<_}
 use mathlib.Core.Path.{_≡_, refl, sym, ap, _∙_, subst}
 use mathlib.Core.Logic.{⊎-elim}
 use mathlib.Core.Bool.{Bool, true, false, not, _&&_, _||_}
-use mathlib.Core.List.{List, [], _∷_, map, List·Memᴰ, List·Memᴰ·head, List·Memᴰ·tail, List·Memᴰ·not-nil, List·Memᴰ·cases-cons, Memᴰ·of-map}
+use mathlib.Core.List.{List, [], _∷_, map, List·Memᴰ, List·Memᴰ·head, List·Memᴰ·tail, List·Memᴰ·not-nil, Memᴰ·of-map}
 use native.Mathlib.Omega.{arith}
 use lib.Dec.{T, eqb, ltb, leb, eqb→eq, ltb→lt, lt→ltb, le→leb}
 use lib.ListN.{length, getD}
-use Rattle.timing.specs.Lists.{countOf}
-use Rattle.timing.specs.Graphs.{Design, designGraph, Edge, edge, Graph, nodeOf, startsAt, endsAt}
+use Rattle.timing.specs.Lists.{isNil, oneIf, countOf, upto}
+use Rattle.timing.specs.Graphs.{Design, isSink, isEndpoint, designGraph, Edge, edge, Graph, nodeOf, edgesOut, startsAt, endsAt}
 use Rattle.timing.specs.Marks.{mark}
 use Rattle.timing.specs.Sorting.{before}
-use Rattle.timing.specs.TrueGraphs.{Copy, copyBefore, edgeBefore, copies, joins, numbered, trueGraph}
-use Rattle.timing.specs.WellFormed.{fewEnough, edgeRises, isSource, isSink, oneSinkCopy, linked, wellFormed}
-use Rattle.theorems.proofs.Lists.{and-intro, and-left, and-right, or-cases, or-left, or-right, allOf-intro, getD-mem}
-use Rattle.theorems.proofs.Counting.{Nodup, sorted-nodup, Rises, rises-next, sorted-next, count-cons, of-count, one}
+use Rattle.timing.specs.TrueGraphs.{Copy, copyBefore, edgeBefore, copies, pathEnds, joins, numbered, trueGraph}
+use Rattle.timing.specs.WellFormed.{fewEnough, edgeRises, isSource, endsOnlyAtEndpoints, sinkEnds, oneEndpoint, enteredOrSource, leftOrEndpoint, copyFits, wellFormed}
+use Rattle.theorems.proofs.Lists.{and-intro, and-left, and-right, or-cases, or-left, or-right, of-upto, allOf-intro, getD-mem}
+use Rattle.theorems.proofs.Counting.{Nodup, sorted-nodup, nodup-upto, Rises, rises-next, sorted-next, count-single}
+use Rattle.theorems.proofs.Runs.{mem-out}
 use Rattle.theorems.proofs.Sorting.{Sorted, sort-sorted}
 use Rattle.theorems.proofs.Copies.{Link, edge-order, joined-link, mem-copies}
-use Rattle.theorems.proofs.Stands.{joinOf, Stands, ends-none, no-out, end-shown, start-shown, passes-inside, true-stands, copies-sorted}
+use Rattle.theorems.proofs.Stands.{joinOf, Stands, none-out, stands-onward, end-shown, start-shown, passes-inside, true-stands, copies-sorted}
 use Rattle.theorems.proofs.Tested.{DesignFits, formed-passes}
-use Rattle.theorems.proofs.Legal.{Legal, designEdge, mem-design-edges}
+use Rattle.theorems.proofs.Legal.{Legal, designEdge, mem-design-edges, one-small, small-at, sink-out}
 
 -- a later place of a list that rises holds no less
 pub rises-at : (xs : List ℕ) → Rises xs → (i j : ℕ) → i ≤ j → j < length xs → getD xs i 0 ≤ getD xs j 0
@@ -46,34 +47,6 @@ sorted-by lt le [] s h = tt
 sorted-by lt le (x ∷ l) s h =
     (λ y m. h x y (List·Memᴰ·head refl) (List·Memᴰ·tail m) (s .0 y m), sorted-by lt le l (s .1) (λ u v m n t. h u v (List·Memᴰ·tail m) (List·Memᴰ·tail n) t))
 
--- a member stands at some place
-mem-at : (v : ℕ) (l : List ℕ) → List·Memᴰ v l → (i : ℕ) × (i < length l) × (getD l i 0 ≡ v)
-mem-at v [] m = absurd (List·Memᴰ·not-nil m)
-mem-at v (x ∷ l) m =
-    ⊎-elim (λ e. (0, omega arith, sym e)) (λ h. let r = mem-at v l h in (suc (r .0), omega (arith, r .1), r .2)) (List·Memᴰ·cases-cons m)
-
--- a number that stands at one place at most is counted at most once
-count-once : (v : ℕ) (l : List ℕ) → ((i j : ℕ) → i < length l → j < length l → getD l i 0 ≡ v → getD l j 0 ≡ v → i ≡ j) → countOf (eqb v) l ≤ 1
-count-once v [] h = omega arith
-count-once v (x ∷ l) h = go (eqb v x) refl (count-once v l (λ i j a b p q. let e = h (suc i) (suc j) (omega arith) (omega arith) p q in omega arith))
-  where
-    none : T (eqb v x) → 0 < countOf (eqb v) l → ⊥
-    none t k =
-        let r = of-count (eqb v) l k in
-        let i = mem-at (r .0) l (r .1) in
-        let e = h 0 (suc (i .0)) (omega arith) (omega (arith, i .1)) (sym (eqb→eq v x t)) (i .2 ∙ sym (eqb→eq v (r .0) (r .2))) in
-        omega arith
-
-    go : (b : Bool) → eqb v x ≡ b → countOf (eqb v) l ≤ 1 → countOf (eqb v) (x ∷ l) ≤ 1
-    go true e below =
-        let z : countOf (eqb v) l ≡ 0 = zero-if (countOf (eqb v) l) (none (rw e tt)) in
-        omega (arith, count-cons (eqb v) x l, ap one e, z)
-      where
-        zero-if : (n : ℕ) → (0 < n → ⊥) → n ≡ 0
-        zero-if zero f = refl
-        zero-if (suc n) f = absurd (f (omega arith))
-    go false e below = omega (arith, count-cons (eqb v) x l, ap one e)
-
 -- a copy that comes before another is of a copy that does not come after
 before-at : (p q : Copy) → T (copyBefore p q) → p .at ≤ q .at
 before-at p q t =
@@ -81,6 +54,13 @@ before-at p q t =
     (λ h. omega (arith, ltb→lt (p .at) (q .at) h))
     (λ h. omega (arith, eqb→eq (p .at) (q .at) (and-left (eqb (p .at) (q .at)) (before (length (p .mark) ∷ p .mark) (length (q .mark) ∷ q .mark)) h)))
     (or-cases (ltb (p .at) (q .at)) (eqb (p .at) (q .at) && before (length (p .mark) ∷ p .mark) (length (q .mark) ∷ q .mark)) t)
+
+-- the endpoint numbers of a true graph
+pub flag-small : (G : Graph) (L : List (List ℕ)) (x : ℕ) → List·Memᴰ x (trueGraph G L .endpoints) → x ≤ 1
+unfolding trueGraph
+flag-small G L x m =
+    let r = Memᴰ·of-map (λ (p : Copy). oneIf (pathEnds L G p)) (copies L G) m in
+    subst (λ (y : ℕ). y ≤ 1) (r .2) (one-small (pathEnds L G (r .0)))
 
 module _ (D : Design) (G : Graph) (L : List (List ℕ)) (legal : Legal D G) where
   S : Stands G L (trueGraph G L)
@@ -138,6 +118,7 @@ module _ (D : Design) (G : Graph) (L : List (List ℕ)) (legal : Legal D G) wher
   true-legal =
       record {
         rising = S .rising;
+        onward = stands-onward G (trueGraph G L) L (legal .rising) S;
         oneStart = one-start;
         oneEnd = one-end;
         starts = λ e m. S .every (e .start) (start-inside e m) .2 ∙ legal .starts _ (link e m .along);
@@ -149,10 +130,11 @@ module _ (D : Design) (G : Graph) (L : List (List ℕ)) (legal : Legal D G) wher
             let v = S .every c h in
             subst (λ (x : ℕ). T (isSource D x)) (sym (v .2))
             (legal .sources (S .label c .at) (passes-inside (legal .rising) (v .0 .1)) (start-shown G (trueGraph G L) L (legal .rising) S c h t));
-        sinks = λ c h t.
+        endpoints = λ c h t.
             let v = S .every c h in
-            subst (λ (x : ℕ). T (isSink D x)) (sym (v .2))
-            (legal .sinks (S .label c .at) (passes-inside (legal .rising) (v .0 .1)) (end-shown G (trueGraph G L) L (legal .rising) S c h t .0));
+            subst (λ (x : ℕ). T (isEndpoint D x)) (sym (v .2))
+            (legal .endpoints (S .label c .at) (passes-inside (legal .rising) (v .0 .1)) (end-shown G (trueGraph G L) L (legal .rising) S c h t .0));
+        flags = λ c. small-at (trueGraph G L .endpoints) c (flag-small G L);
       }
 
   -- the edges rise strictly: the end copy and the design edge settle the start copy
@@ -172,36 +154,56 @@ module _ (D : Design) (G : Graph) (L : List (List ℕ)) (legal : Legal D G) wher
       (and-right (eqb (e .end) (f .end)) (before (e .name ∷ e .start ∷ []) (f .name ∷ f .start ∷ [])) h)))
       (or-cases (ltb (e .end) (f .end)) (eqb (e .end) (f .end) && before (e .name ∷ e .start ∷ []) (f .name ∷ f .start ∷ [])) t)
 
--- a legal graph links its copies, and has one copy of a sink
-implied : (a b : Bool) → (T a → T b) → T (b || not a)
-implied true true h = tt
-implied true false h = h tt
-implied false true h = tt
-implied false false h = tt
+-- a legal graph has the clauses of 32 for its copies, and at most one copy of a node where paths end
+implied : (a b : Bool) → (T a → T b) → T (not a || b)
+implied true b h = h tt
+implied false b h = tt
 
-pub legal-linked : (D : Design) (G : Graph) → Legal D G → (c : ℕ) → c < length (G .nodes) → T (linked D G c)
-legal-linked D G legal c h =
-    and-intro (isSource D (nodeOf G c) || not (startsAt G c)) (isSink D (nodeOf G c) || not (endsAt G c))
-    (implied (startsAt G c) (isSource D (nodeOf G c)) (legal .sources c h))
-    (implied (endsAt G c) (isSink D (nodeOf G c)) (legal .sinks c h))
+-- no edge leaves a copy of a sink, and so paths end there
+pub sink-ends : (D : Design) (G : Graph) → DesignFits D → Legal D G → (c : ℕ) → c < length (G .nodes) → T (isSink D (nodeOf G c)) → T (endsAt G c)
+sink-ends D G fit legal c h t =
+    ⊎-elim
+    (λ s. s)
+    (λ r.
+    absurd
+    (none-out (designGraph D) (nodeOf G c) (designEdge D (r .0 .name)) (subst T (sink-out D (nodeOf G c)) t)
+    (mem-design-edges D fit (r .0 .name) (legal .named (r .0) (r .1))) (sym (legal .starts (r .0) (r .1)) ∙ ap (nodeOf G) (r .2))))
+    (legal .onward c h)
 
--- no edge leaves a copy of a sink
-pub sink-ends : (D : Design) (G : Graph) → DesignFits D → Legal D G → (c : ℕ) → T (isSink D (nodeOf G c)) → T (endsAt G c)
-sink-ends D G fit legal c t =
-    no-out G c (λ e m s.
-    ends-none (designGraph D) (nodeOf G c) (designEdge D (e .name)) t (mem-design-edges D fit (e .name) (legal .named e m))
-    (sym (legal .starts e m) ∙ ap (nodeOf G) s))
-
-pub legal-one-sink : (D : Design) (G : Graph) → DesignFits D → Legal D G → (v : ℕ) → T (oneSinkCopy D G v)
-legal-one-sink D G fit legal v = go (isSink D v) refl
+pub legal-copy : (D : Design) (G : Graph) → DesignFits D → Legal D G → (c : ℕ) → c < length (G .nodes) → T (copyFits D G c)
+legal-copy D G fit legal c h =
+    let x = endsOnlyAtEndpoints D G c in
+    let y = sinkEnds D G c in
+    let u = enteredOrSource D G c in
+    and-intro (x && y && u) (leftOrEndpoint G c)
+    (and-intro (x && y) u
+    (and-intro x y (implied (endsAt G c) (isEndpoint D (nodeOf G c)) (legal .endpoints c h)) (implied (isSink D (nodeOf G c)) (endsAt G c) (sink-ends D G fit legal c h)))
+    (source (startsAt G c) (legal .sources c h)))
+    (⊎-elim
+    (or-left (endsAt G c) (not (isNil (edgesOut G c))))
+    (λ r. or-right (endsAt G c) (not (isNil (edgesOut G c))) (not-nil (edgesOut G c) (mem-out G c (r .0) .1 (r .1, r .2))))
+    (legal .onward c h))
   where
-    go : (b : Bool) → isSink D v ≡ b → T (not b || leb (countOf (eqb v) (G .nodes)) 1)
-    go true e =
-        le→leb (countOf (eqb v) (G .nodes)) 1
-        (count-once v (G .nodes) (λ i j a b p q.
-        legal .oneEnd i j a b (sink-ends D G fit legal i (subst (λ (x : ℕ). T (isSink D x)) (sym p) (rw e tt)))
-        (sink-ends D G fit legal j (subst (λ (x : ℕ). T (isSink D x)) (sym q) (rw e tt))) (p ∙ sym q)))
-    go false e = tt
+    source : (b : Bool) → (T b → T (isSource D (nodeOf G c))) → T (isSource D (nodeOf G c) || not b)
+    source true f = or-left (isSource D (nodeOf G c)) false (f tt)
+    source false f = or-right (isSource D (nodeOf G c)) true tt
+
+    not-nil : (l : List Edge) {e : Edge} → List·Memᴰ e l → T (not (isNil l))
+    not-nil [] m = absurd (List·Memᴰ·not-nil m)
+    not-nil (f ∷ l) m = tt
+
+pub legal-one-end : (D : Design) (G : Graph) → Legal D G → (v : ℕ) → T (oneEndpoint G v)
+legal-one-end D G legal v =
+    le→leb (countOf p (upto (length (G .nodes)) 0)) 1
+    (count-single p (upto (length (G .nodes)) 0) (nodup-upto (length (G .nodes)) 0) (λ c d m n s t.
+    legal .oneEnd c d (in-range c m) (in-range d n) (and-right (eqb (nodeOf G c) v) (endsAt G c) s) (and-right (eqb (nodeOf G d) v) (endsAt G d) t)
+    (eqb→eq (nodeOf G c) v (and-left (eqb (nodeOf G c) v) (endsAt G c) s) ∙ sym (eqb→eq (nodeOf G d) v (and-left (eqb (nodeOf G d) v) (endsAt G d) t)))))
+  where
+    p : ℕ → Bool
+    p c = eqb (nodeOf G c) v && endsAt G c
+
+    in-range : (c : ℕ) → List·Memᴰ c (upto (length (G .nodes)) 0) → c < length (G .nodes)
+    in-range c m = omega (arith, of-upto (length (G .nodes)) 0 c m .1)
 
 pub edges-sorted : (G : Graph) (L : List (List ℕ)) → Sorted edgeBefore (trueGraph G L .edges)
 unfolding trueGraph
@@ -230,6 +232,7 @@ true-formed D G L fit legal few =
             ends = kept .ends e m;
           };
       rises = sorted-next edgeRises (R .edges) (sorted-by edgeBefore edgeRises (R .edges) (edges-sorted G L) (edge-rises D G L legal));
-      one-sink = λ v h. legal-one-sink D R fit kept v;
-      links = legal-linked D R kept;
+      flags = allOf-intro (λ x. leb x 1) (R .endpoints) (λ x m. le→leb x 1 (flag-small G L x m));
+      one-end = λ v h. legal-one-end D R kept v;
+      copies = legal-copy D R fit kept;
     })

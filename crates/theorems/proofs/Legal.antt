@@ -1,27 +1,28 @@
--- What the theory asks of a graph of a design. The design as a graph has it, where tests 10 to 15 pass, and
+-- What the theory asks of a graph of a design. The design as a graph has it, where tests 10 to 16 pass, and
 -- so has every well-formed true graph (32).
 use Prim.Native.Nat.{ℕ, zero, suc, _+_, _≤_, _<_}
 use mathlib.Core.Path.{_≡_, refl, sym, ap, _∙_, subst}
-use mathlib.Core.Logic.{_⊎_, inl, inr, ⊎-elim}
+use mathlib.Core.Logic.{_⊎_, inl, inr, ⊎-elim, _↔_}
 use mathlib.Core.Bool.{Bool, true, false, not, _&&_, _||_}
-use mathlib.Core.List.{List, [], _∷_, List·Memᴰ, List·Memᴰ·head, List·Memᴰ·tail, List·Memᴰ·not-nil, List·Memᴰ·cases-cons}
+use mathlib.Core.List.{List, [], _∷_, map, List·Memᴰ, List·Memᴰ·head, List·Memᴰ·tail, List·Memᴰ·not-nil, List·Memᴰ·cases-cons, Memᴰ·of-map}
 use native.Mathlib.Omega.{arith}
-use native.Mathlib.Decide.{decLt}
+use native.Mathlib.Decide.{decLt, ℕ-discrete}
 use lib.Dec.{T, eqb, ltb, leb, eqb→eq, eqb-refl, leb→le, ltb→lt, lt→ltb}
 use lib.ListN.{length, getD}
 use Rattle.timing.specs.declared.Verdict.the-variants.{Passed}
-use Rattle.timing.specs.Lists.{countOf, eachNext, upto}
-use Rattle.timing.specs.Graphs.{Design, edgeStart, edgeEnd, Edge, edge, Graph, edgesOf, designGraph, nodeOf, startsAt, endsAt}
-use Rattle.timing.specs.WellFormed.{edgeRises, isSource, isSink, wellFormed}
+use Rattle.timing.specs.Lists.{isNil, oneIf, countOf, eachNext, upto}
+use Rattle.timing.specs.Graphs.{Design, edgeStart, edgeEnd, Edge, edge, Graph, edgesOf, isSink, isEndpoint, designGraph, nodeOf, endpointOf, edgesOut, startsAt, endsAt}
+use Rattle.timing.specs.WellFormed.{edgeRises, isSource, endsOnlyAtEndpoints, sinkEnds, enteredOrSource, leftOrEndpoint, wellFormed}
 use Rattle.timing.specs.Tests.{designSizes, designTests}
-use Rattle.theorems.proofs.Lists.{and-intro, and-left, and-right, or-cases, or-left, or-right, of-upto, allOf-elim, getD-mem, length-upto, getD-upto}
+use Rattle.theorems.proofs.Lists.{and-intro, and-left, and-right, or-cases, or-left, or-right, mem-upto, of-upto, allOf-elim, getD-mem, getD-map, length-upto, getD-upto}
 use Rattle.theorems.proofs.Sorting.{Sorted}
-use Rattle.theorems.proofs.Runs.{Rising}
-use Rattle.theorems.proofs.Counting.{one, count-cons, count-positive, Rises, rises-next, next-sorted}
+use Rattle.theorems.proofs.Runs.{Rising, Onward, mem-out}
+use Rattle.theorems.proofs.Counting.{count-two, Rises, rises-next, next-sorted}
 use Rattle.theorems.proofs.Tested.{DesignFits, design-fits, Formed, formed}
 
 pub record Legal (D : Design) (G : Graph) : Type 0 where
   pub rising : Rising G
+  pub onward : Onward G
   pub oneStart : (e f : Edge) → List·Memᴰ e (G .edges) → List·Memᴰ f (G .edges) → e .end ≡ f .end → e .name ≡ f .name → e ≡ f
   pub oneEnd : (c d : ℕ) → c < length (G .nodes) → d < length (G .nodes) → T (endsAt G c) → T (endsAt G d) → nodeOf G c ≡ nodeOf G d → c ≡ d
   pub starts : (e : Edge) → List·Memᴰ e (G .edges) → nodeOf G (e .start) ≡ edgeStart D (e .name)
@@ -30,7 +31,8 @@ pub record Legal (D : Design) (G : Graph) : Type 0 where
   pub below : (v : ℕ) → List·Memᴰ v (G .nodes) → v < D .nodes
   pub order : Rises (G .nodes)
   pub sources : (c : ℕ) → c < length (G .nodes) → T (startsAt G c) → T (isSource D (nodeOf G c))
-  pub sinks : (c : ℕ) → c < length (G .nodes) → T (endsAt G c) → T (isSink D (nodeOf G c))
+  pub endpoints : (c : ℕ) → c < length (G .nodes) → T (endsAt G c) → T (isEndpoint D (nodeOf G c))
+  pub flags : (c : ℕ) → endpointOf G c ≤ 1
 
 rises-upto : (n i : ℕ) → Rises (upto n i)
 rises-upto zero i = tt
@@ -100,10 +102,61 @@ design-nodes-rise : (D : Design) → Rises (designGraph D .nodes)
 unfolding designGraph
 design-nodes-rise D = rises-upto (D .nodes) 0
 
+-- where paths end in it: at its endpoints
+one-is : (b : Bool) → T (eqb (oneIf b) 1) ↔ T b
+one-is true = (λ t. t, λ t. t)
+one-is false = (λ t. t, λ t. t)
+
+pub one-small : (b : Bool) → oneIf b ≤ 1
+one-small true = omega arith
+one-small false = omega arith
+
+endpoint-design : (D : Design) (c : ℕ) → c < D .nodes → endpointOf (designGraph D) c ≡ oneIf (isEndpoint D c)
+unfolding designGraph
+endpoint-design D c h =
+    getD-map (λ v. oneIf (isEndpoint D v)) (upto (D .nodes) 0) 0 0 c (omega (arith, length-upto (D .nodes) 0))
+    ∙ ap (λ (v : ℕ). oneIf (isEndpoint D v)) (omega (arith, getD-upto (D .nodes) 0 c 0 h))
+
+pub ends-design : (D : Design) (c : ℕ) → c < D .nodes → T (endsAt (designGraph D) c) ↔ T (isEndpoint D c)
+ends-design D c h = subst (λ (x : ℕ). T (eqb x 1) ↔ T (isEndpoint D c)) (sym (endpoint-design D c h)) (one-is (isEndpoint D c))
+
+-- a list of numbers that are at most 1, by places
+pub small-at : (l : List ℕ) (c : ℕ) → ((x : ℕ) → List·Memᴰ x l → x ≤ 1) → getD l c 0 ≤ 1
+small-at l c h = elim (decLt c (length l)) [
+  | yes k ↦ h (getD l c 0) (getD-mem l c 0 k)
+  | no k ↦ omega (arith, getD-beyond l c k)
+]
+  where
+    getD-beyond : (l : List ℕ) (c : ℕ) → (c < length l → ⊥) → getD l c 0 ≡ 0
+    getD-beyond [] c k = refl
+    getD-beyond (x ∷ l) zero k = absurd (k (omega arith))
+    getD-beyond (x ∷ l) (suc c) k = getD-beyond l c (λ h. k (omega arith))
+
+flags-design : (D : Design) (c : ℕ) → endpointOf (designGraph D) c ≤ 1
+unfolding designGraph
+flags-design D c =
+    small-at (map (λ v. oneIf (isEndpoint D v)) (upto (D .nodes) 0)) c (λ x m.
+    let r = Memᴰ·of-map (λ v. oneIf (isEndpoint D v)) (upto (D .nodes) 0) m in
+    subst (λ (y : ℕ). y ≤ 1) (r .2) (one-small (isEndpoint D (r .0))))
+
+-- a sink is a node that no edge leaves
+pub sink-out : (D : Design) (v : ℕ) → isSink D v ≡ isNil (edgesOut (designGraph D) v)
+unfolding designGraph edgesOut
+sink-out D v = refl
+
+no-sink : (D : Design) (v : ℕ) → isSink D v ≡ false → (e : Edge) × List·Memᴰ e (designGraph D .edges) × (e .start ≡ v)
+no-sink D v q = first (edgesOut (designGraph D) v) (sym (sink-out D v) ∙ q) (λ e m. mem-out (designGraph D) v e .0 m)
+  where
+    first : (l : List Edge) → isNil l ≡ false → ((e : Edge) → List·Memᴰ e l → List·Memᴰ e (designGraph D .edges) × (e .start ≡ v))
+        → (e : Edge) × List·Memᴰ e (designGraph D .edges) × (e .start ≡ v)
+    first [] z f = absurd (subst T z tt)
+    first (e ∷ l) z f = let r = f e (List·Memᴰ·head refl) in (e, r .0, r .1)
+
 pub fits-legal : (D : Design) → DesignFits D → Legal D (designGraph D)
 fits-legal D fit =
     record {
       rising = record { up = λ e m. go-up e (of-design-edges D e m); inside = λ e m. omega (arith, length-design D, end-in e m) };
+      onward = onward;
       oneStart = λ e f m n p q. of-design-edges D e m .1 ∙ ap (designEdge D) q ∙ sym (of-design-edges D f n .1);
       oneEnd = λ c d h k s t q. sym (self c h) ∙ q ∙ self d k;
       starts = λ e m. node-design D (e .start) (start-in e m) ∙ ap (λ (x : Edge). x .start) (of-design-edges D e m .1);
@@ -112,9 +165,18 @@ fits-legal D fit =
       below = design-nodes-in D;
       order = design-nodes-rise D;
       sources = λ c h t. subst (λ (x : ℕ). T (startsAt (designGraph D) x)) (sym (self c h)) t;
-      sinks = λ c h t. subst (λ (x : ℕ). T (endsAt (designGraph D) x)) (sym (self c h)) t;
+      endpoints = λ c h t. subst (λ (x : ℕ). T (isEndpoint D x)) (sym (self c h)) (ends-design D c (rw (length-design D) at h) .0 t);
+      flags = flags-design D;
     }
   where
+    -- from a node that is no endpoint, and so no sink, an edge leads on
+    onward : Onward (designGraph D)
+    onward c h = go (isSink D c) refl
+      where
+        go : (b : Bool) → isSink D c ≡ b → T (endsAt (designGraph D) c) ⊎ ((e : Edge) × List·Memᴰ e (designGraph D .edges) × (e .start ≡ c))
+        go true q = inl (ends-design D c (rw (length-design D) at h) .1 (or-left (isSink D c) _ (rw q tt)))
+        go false q = inr (no-sink D c q)
+
     go-up : (e : Edge) → (e .name < length (D .starts)) × (e ≡ designEdge D (e .name)) → e .start < e .end
     go-up e r = omega (arith, fit .rises (e .name) (r .0), ap (λ (x : Edge). x .start) (r .1), ap (λ (x : Edge). x .end) (r .1))
 
@@ -137,30 +199,6 @@ rises-getD (x ∷ l) zero zero r h k = omega arith
 rises-getD (x ∷ l) zero (suc j) r h k = r .0 (getD l j 0) (getD-mem l j 0 (omega arith))
 rises-getD (x ∷ l) (suc i) zero r h k = absurd (omega arith)
 rises-getD (x ∷ l) (suc i) (suc j) r h k = rises-getD l i j (r .1) (omega arith) (omega arith)
-
--- a number that stands at most once has one place
-count-at : (v : ℕ) (l : List ℕ) (c : ℕ) → c < length l → getD l c 0 ≡ v → 0 < countOf (eqb v) l
-count-at v l c h e = count-positive (eqb v) l (getD-mem l c 0 h) (rw e (eqb-refl v))
-
-count-first : (v x : ℕ) (l : List ℕ) (c : ℕ) → x ≡ v → c < length l → getD l c 0 ≡ v → countOf (eqb v) (x ∷ l) ≤ 1 → ⊥
-count-first v x l c e h q k =
-    let here : one (eqb v x) ≡ 1 = rw e (ones v) in
-    omega (arith, count-cons (eqb v) x l, count-at v l c h q)
-  where
-    ones : (v : ℕ) → one (eqb v v) ≡ 1
-    ones v = go (eqb v v) (eqb-refl v)
-      where
-        go : (b : Bool) → T b → one b ≡ 1
-        go true t = refl
-        go false t = absurd t
-
-count-once : (v : ℕ) (l : List ℕ) (c d : ℕ) → c < length l → d < length l → getD l c 0 ≡ v → getD l d 0 ≡ v → countOf (eqb v) l ≤ 1 → c ≡ d
-count-once v [] c d h k p q n = absurd (omega arith)
-count-once v (x ∷ l) zero zero h k p q n = refl
-count-once v (x ∷ l) zero (suc d) h k p q n = absurd (count-first v x l d p (omega arith) q n)
-count-once v (x ∷ l) (suc c) zero h k p q n = absurd (count-first v x l c q (omega arith) p n)
-count-once v (x ∷ l) (suc c) (suc d) h k p q n =
-    ap suc (count-once v l c d (omega arith) (omega arith) p q (omega (arith, count-cons (eqb v) x l)))
 
 -- two members of a sorted list are one or in order
 sorted-two : {A : Type 0} (lt : A → A → Bool) (l : List A) → Sorted lt l → (x y : A) → List·Memᴰ x l → List·Memᴰ y l → (x ≡ y) ⊎ (T (lt x y) ⊎ T (lt y x))
@@ -229,21 +267,17 @@ pub formed-legal : (D : Design) (G : Graph) → DesignFits D → Formed D G → 
 formed-legal D G fit w =
     record {
       rising = record { up = up; inside = λ e m. w .fits e m .end-in };
+      onward = onward;
       oneStart = rises-one (G .edges) (w .rises);
-      oneEnd = λ c d h k s t q.
-          count-once (nodeOf G d) (G .nodes) c d h k q refl
-          (leb→le (countOf (eqb (nodeOf G d)) (G .nodes)) 1
-          (not-or (isSink D (nodeOf G d)) (leb (countOf (eqb (nodeOf G d)) (G .nodes)) 1)
-          (w .one-sink (nodeOf G d) (under (nodeOf G d) (getD-mem (G .nodes) d 0 k))) (sinks d k t)));
+      oneEnd = one-end;
       starts = λ e m. w .fits e m .starts;
       ends = λ e m. w .fits e m .ends;
       named = λ e m. w .fits e m .named;
       below = under;
       order = order;
-      sources = λ c h t.
-          or-not (isSource D (nodeOf G c)) (startsAt G c)
-          (and-left (isSource D (nodeOf G c) || not (startsAt G c)) (isSink D (nodeOf G c) || not (endsAt G c)) (w .links c h)) t;
-      sinks = sinks;
+      sources = λ c h t. or-not (isSource D (nodeOf G c)) (startsAt G c) (copy c h .2) t;
+      endpoints = λ c h t. not-or (endsAt G c) (isEndpoint D (nodeOf G c)) (copy c h .0) t;
+      flags = λ c. small-at (G .endpoints) c (λ x m. leb→le x 1 (allOf-elim (λ x. leb x 1) (G .endpoints) (w .flags) m));
     }
   where
     under : (v : ℕ) → List·Memᴰ v (G .nodes) → v < D .nodes
@@ -252,10 +286,42 @@ formed-legal D G fit w =
     order : Rises (G .nodes)
     order = rises-next (G .nodes) .1 (w .order)
 
-    sinks : (c : ℕ) → c < length (G .nodes) → T (endsAt G c) → T (isSink D (nodeOf G c))
-    sinks c h t =
-        or-not (isSink D (nodeOf G c)) (endsAt G c)
-        (and-right (isSource D (nodeOf G c) || not (startsAt G c)) (isSink D (nodeOf G c) || not (endsAt G c)) (w .links c h)) t
+    -- the clauses for a copy
+    copy : (c : ℕ) → c < length (G .nodes) → T (endsOnlyAtEndpoints D G c) × T (sinkEnds D G c) × T (enteredOrSource D G c) × T (leftOrEndpoint G c)
+    copy c h =
+        let x = endsOnlyAtEndpoints D G c in
+        let y = sinkEnds D G c in
+        let u = enteredOrSource D G c in
+        let v = leftOrEndpoint G c in
+        let t = w .copies c h in
+        let t₁ = and-left (x && y && u) v t in
+        let t₂ = and-left (x && y) u t₁ in
+        (and-left x y t₂, and-right x y t₂, and-right (x && y) u t₁, and-right (x && y && u) v t)
+
+    onward : Onward G
+    onward c h =
+        ⊎-elim
+        inl
+        (λ t. inr (first (edgesOut G c) t (λ e m. mem-out G c e .0 m)))
+        (or-cases (endsAt G c) (not (isNil (edgesOut G c))) (copy c h .3))
+      where
+        first : (l : List Edge) → T (not (isNil l)) → ((e : Edge) → List·Memᴰ e l → List·Memᴰ e (G .edges) × (e .start ≡ c))
+            → (e : Edge) × List·Memᴰ e (G .edges) × (e .start ≡ c)
+        first [] t f = absurd t
+        first (e ∷ l) t f = let r = f e (List·Memᴰ·head refl) in (e, r .0, r .1)
+
+    one-end : (c d : ℕ) → c < length (G .nodes) → d < length (G .nodes) → T (endsAt G c) → T (endsAt G d) → nodeOf G c ≡ nodeOf G d → c ≡ d
+    one-end c d h k s t q =
+        elim (ℕ-discrete c d) [
+          | yes e ↦ e
+          | no f ↦
+              let v = nodeOf G d in
+              let p : ℕ → Bool = λ c. eqb (nodeOf G c) v && endsAt G c in
+              let few = leb→le (countOf p (upto (length (G .nodes)) 0)) 1 (w .one-end v (under v (getD-mem (G .nodes) d 0 k))) in
+              let two = count-two p {x = c} {y = d} (upto (length (G .nodes)) 0) (mem-upto (length (G .nodes)) 0 c (omega arith) (omega arith)) (mem-upto (length (G .nodes)) 0 d (omega arith) (omega arith))
+              (and-intro (eqb (nodeOf G c) v) (endsAt G c) (rw q (eqb-refl v)) s) (and-intro (eqb v v) (endsAt G d) (eqb-refl v) t) f in
+              absurd (omega arith)
+        ]
 
     -- nodes rise along an edge, and never fall along copies
     up : (e : Edge) → List·Memᴰ e (G .edges) → e .start < e .end

@@ -161,6 +161,10 @@ getD-upto (suc n) i zero d h = omega arith
 getD-upto (suc n) i (suc c) d h = omega (arith, getD-upto n (suc i) c d (omega arith))
 
 -- an empty list has no member
+pub nil-is : {A : Type 0} (l : List A) → T (isNil l) → l ≡ []
+nil-is [] t = refl
+nil-is (x ∷ l) t = absurd t
+
 pub none-of-nil : {A : Type 0} (l : List A) (x : A) → T (isNil l) → List·Memᴰ x l → ⊥
 none-of-nil [] x t m = List·Memᴰ·not-nil m
 none-of-nil (y ∷ l) x t m = t

@@ -16,7 +16,7 @@ use Rattle.timing.specs.Graphs.{Edge, Graph, nodeOf, delayAlong}
 use Rattle.timing.specs.Times.{largest, smallest, arrivalAt, requiredAt, slackAt, earliestAt, nodeTimes}
 use Rattle.timing.specs.Paths.{Best}
 use Rattle.theorems.proofs.Lists.{and-intro, and-left, and-right, mem-keep, of-keep, mem-upto, of-upto}
-use Rattle.theorems.proofs.Runs.{Rising, Way}
+use Rattle.theorems.proofs.Runs.{Rising, Onward, Way}
 use Rattle.theorems.proofs.Extremes.{AtMost, AtLeast, Some, not-nil, Picks, best-moved, best-nested, best-value, larges, smalls}
 use Rattle.theorems.proofs.Times.{To, Through, arrival-best, required-best, slack-best, earliest-best}
 
@@ -87,10 +87,10 @@ module _ (early late : ℕ → ℤ) (t : ℤ) (G : Graph) (n v : ℕ) where
       (λ c m. at-copy (pos 0) f (length (G .nodes)) 0 c (mem-copies G v c .0 m .0) ∙ ap f (omega arith))
 
   -- a node below n that has copies
-  pub node-times : Rising G → v < n → Some (copiesOf G v)
+  pub node-times : Rising G → Onward G → v < n → Some (copiesOf G v)
       → (a : ℤ) × (r : ℤ) × (s : ℤ) × (e : ℤ) × (nodeTimesAt early late t G n v ≡ Times a r s e) × NodeBest early late t G v a r s e
   unfolding nodeTimes
-  node-times R h s = (
+  node-times R O h s = (
     largest (map (arrivalAt late t G) (copiesOf G v)),
     smallest (map (requiredAt late t G) (copiesOf G v)),
     smallest (map (slackAt late t G) (copiesOf G v)),
@@ -98,8 +98,8 @@ module _ (early late : ℕ → ℤ) (t : ℤ) (G : Graph) (n v : ℕ) where
     rw (read-back (arrivalAt late t G), read-back (requiredAt late t G), read-back (slackAt late t G), read-back (earliestAt early G)) (taken (ltb v n && not (isNil (copiesOf G v))) _ None (and-intro (ltb v n) (not (isNil (copiesOf G v))) (lt→ltb v n h) (not-nil (copiesOf G v) .1 s))),
     record {
       arrival = node-best larges G v (To G) (delayAlong late) (arrivalAt late t G) (arrival-best late t G R) s;
-      required = node-best smalls G v (Way G) (λ es. t -ℤ delayAlong late es) (requiredAt late t G) (required-best late t G R) s;
-      slack = node-best smalls G v (Through G) (λ es. t -ℤ delayAlong late es) (slackAt late t G) (slack-best late t G R) s;
+      required = node-best smalls G v (Way G) (λ es. t -ℤ delayAlong late es) (requiredAt late t G) (required-best late t G R O) s;
+      slack = node-best smalls G v (Through G) (λ es. t -ℤ delayAlong late es) (slackAt late t G) (slack-best late t G R O) s;
       earliest = node-best smalls G v (To G) (delayAlong early) (earliestAt early G) (earliest-best early G R) s;
     },
   )

@@ -2,16 +2,17 @@
 -- h of H with a mark of K; its label has the longer of the two marks, from which both can be read again.
 use Prim.Native.Nat.{ℕ, _<_}
 use mathlib.Core.Path.{_≡_, refl, sym, ap, _∙_, subst}
-use mathlib.Core.List.{List, [], _∷_, _++_, map, List·Memᴰ, nil≢cons, head-eq-of-cons-eq, tail-eq-of-cons-eq}
+use mathlib.Core.List.{List, [], _∷_, _++_, map, List·Memᴰ, nil≢cons, cons≢nil, head-eq-of-cons-eq, tail-eq-of-cons-eq}
 use lib.Dec.{T}
 use lib.ListN.{length}
-use Rattle.timing.specs.Graphs.{Edge, Graph, nodeOf, names}
+use Rattle.timing.specs.Lists.{oneIf}
+use Rattle.timing.specs.Graphs.{Edge, Graph, nodeOf, endpointOf, names}
 use Rattle.timing.specs.Marks.{permitted, mark, longer}
-use Rattle.timing.specs.TrueGraphs.{Copy, Join, copyAt, trueGraph}
-use Rattle.theorems.proofs.Lists.{and-intro, and-left, and-right}
+use Rattle.timing.specs.TrueGraphs.{Copy, Join, copyAt, pathEnds, trueGraph}
+use Rattle.theorems.proofs.Lists.{and-intro, and-left, and-right, same-test}
 use Rattle.theorems.proofs.Marks.{mark-append, mark-through-left, mark-through-right, permitted-append}
 use Rattle.theorems.proofs.Runs.{Rising, way-then}
-use Rattle.theorems.proofs.Copies.{Passes, Shown, Joined, pass-on}
+use Rattle.theorems.proofs.Copies.{Passes, Shown, Joined, pass-on, path-ends}
 use Rattle.theorems.proofs.Stands.{joinOf, Stands, passes-inside, lowered, names-lowered, start-shown, way-down, leads-down, way-up, leads-lift, start-up, true-stands}
 
 map-append : {A B : Type 0} (f : A → B) (xs ys : List A) → map f (xs ++ ys) ≡ map f xs ++ map f ys
@@ -121,6 +122,8 @@ module _ (G H : Graph) (L K : List (List ℕ)) (up : Rising G) (S : Stands G L H
         rising = T′ .rising;
         shown = shown₂;
         every = every₂;
+        sizes = T′ .sizes;
+        ends = ends₂;
         joined = joined₂;
         edges = edges₂;
       }
@@ -160,6 +163,36 @@ module _ (G H : Graph) (L K : List (List ℕ)) (up : Rising G) (S : Stands G L H
             v .2 ∙ S .every h i .2,
           )
 
+      -- a copy of the result is the one whose number its label has
+      at : (c : ℕ) (d : ℕ) (w es : List Edge) → c < length (trueGraph H K .nodes) → label₂ c ≡ copyAt (L ++ K) d w → map (lowered G H L up S) es ≡ w
+          → Shown H K (copyAt K (S .number (copyAt L d w)) es) → T′ .label c ≡ copyAt K (S .number (copyAt L d w)) es
+      at c d w es l z v s =
+          ap (T′ .label) (sym (every₂ c l .1) ∙ ap number₂ z ∙ number-path d w es v) ∙ T′ .shown (copyAt K (S .number (copyAt L d w)) es) s .1
+
+      -- a path that ends at a copy of the result ends at the copy of H, and so at that of G; and the other way round
+      ends₂ : (c : ℕ) → c < length (trueGraph H K .nodes) → endpointOf (trueGraph H K) c ≡ oneIf (pathEnds (L ++ K) G (label₂ c))
+      ends₂ c l = T′ .ends c l ∙ ap oneIf (same-test (pathEnds K H (T′ .label c)) (pathEnds (L ++ K) G (label₂ c)) there back)
+        where
+          there : T (pathEnds K H (T′ .label c)) → T (pathEnds (L ++ K) G (label₂ c))
+          there t =
+              let r = path-ends H K (S .rising) (T′ .label c) .0 t in
+              let h = T′ .label c .at in
+              let e = label-path h [] (r .0) c (λ i. record { at = h; mark = r .1 i }) in
+              subst (λ (p : Copy). T (pathEnds (L ++ K) G p)) (sym e) (path-ends G (L ++ K) up (copyAt (L ++ K) (S .label h .at) []) .1 (down h [] (r .0) .0, refl))
+
+          back : T (pathEnds (L ++ K) G (label₂ c)) → T (pathEnds K H (T′ .label c))
+          back t =
+              let r = path-ends G (L ++ K) up (label₂ c) .0 t in
+              let d = label₂ c .at in
+              let s = lift d [] (r .0) in
+              go d (s .0) (s .1) (s .2) (λ i. record { at = d; mark = r .1 i })
+            where
+              go : (d : ℕ) (es : List Edge) → Passes H K (S .number (copyAt L d [])) es → map (lowered G H L up S) es ≡ [] → label₂ c ≡ copyAt (L ++ K) d [] → T (pathEnds K H (T′ .label c))
+              go d [] p v e =
+                  subst (λ (x : Copy). T (pathEnds K H x)) (sym (at c d [] [] l e v ([], p, refl)))
+                  (path-ends H K (S .rising) (copyAt K (S .number (copyAt L d [])) []) .1 (p, refl))
+              go d (f ∷ es) p v e = absurd (cons≢nil v)
+
       joined₂ : (e : Edge) → List·Memᴰ e (trueGraph H K .edges) → Joined G (L ++ K) (joinOf label₂ e)
       joined₂ e m = go (T′ .joined e m)
         where
@@ -176,12 +209,6 @@ module _ (G H : Graph) (L K : List (List ℕ)) (up : Rising G) (S : Stands G L H
           let r = lift (g .start) (g ∷ q) p in
           go (r .0) (r .1) (r .2)
         where
-          -- a copy of the result is the one whose number its label has
-          at : (c : ℕ) (d : ℕ) (w es : List Edge) → c < length (trueGraph H K .nodes) → label₂ c ≡ copyAt (L ++ K) d w → map (lowered G H L up S) es ≡ w
-              → Shown H K (copyAt K (S .number (copyAt L d w)) es) → T′ .label c ≡ copyAt K (S .number (copyAt L d w)) es
-          at c d w es l z v s =
-              ap (T′ .label) (sym (every₂ c l .1) ∙ ap number₂ z ∙ number-path d w es v) ∙ T′ .shown (copyAt K (S .number (copyAt L d w)) es) s .1
-
           go : (es : List Edge) → Passes H K (S .number (copyAt L (g .start) (g ∷ q))) es → map (lowered G H L up S) es ≡ g ∷ q
               → List·Memᴰ e (trueGraph H K .edges)
           go [] s v = absurd (nil≢cons v)

@@ -18,8 +18,8 @@ use Rattle.timing.specs.Marks.{PathList, pathsOf}
 use Rattle.timing.specs.TrueGraphs.{trueGraph}
 use Rattle.timing.specs.WellFormed.{wellFormed}
 use Rattle.timing.specs.Refusals.{unless, firstFault, _then_}
-use Rattle.timing.specs.Tests.{sameSizes, designSizes, listSizes, designTests, listCounts, meets, emptyAt, firstUnknown, firstBreak, listTests, allowedTest, graphTest, candidates, scratchWords, scratchTest, roomSizes, roomTests}
-use Rattle.timing.specs.Calls.{GraphSlices, graphOf, graphSizes, testList, testDeck, refused, outcome, Removal, removalTests, removeFromDesign, removeFromGraph}
+use Rattle.timing.specs.Tests.{sameSizes, designSizes, listSizes, designTests, listCounts, meets, emptyAt, firstUnknown, firstBreak, listTests, allowedTest, graphTest, candidates, scratchWords, scratchTest, Room, roomSizes, roomTests}
+use Rattle.timing.specs.Calls.{GraphSlices, graphOf, roomOf, graphSizes, testList, testDeck, refused, outcome, Removal, removalTests, removeFromDesign, removeFromGraph}
 use Rattle.timing.specs.Called.{removeOn}
 use Rattle.timing.specs.Faults.{Empty, Unknown, Broken, Placed}
 use Rattle.timing.proofs.Verdicts.{refused-passed, then-assoc, Every, every-then, every-unless, every-fault}
@@ -73,6 +73,11 @@ module _ (n : ℕ) (low : 22 ≤ n) (high : n ≤ 24) where
       other-then n (sameSizes m m (length (D .ends))) (sameSizes m (length (D .early)) (length (D .late)))
       (other-same m m (length (D .ends))) (other-same m (length (D .early)) (length (D .late)))
 
+  other-room : (R : Room) → Other n (roomSizes R)
+  other-room R =
+      other-then n (sameSizes (R .nodes) (R .nodes) (R .endpoints)) (sameSizes (R .starts) (R .ends) (R .names))
+      (other-same (R .nodes) (R .nodes) (R .endpoints)) (other-same (R .starts) (R .ends) (R .names))
+
   other-sums : (L : PathList) → Other n (listSizes L)
   other-sums L = other-unless n 30 (λ h. omega arith) (eqb (sum (L .lengths)) (length (L .edges)))
 
@@ -107,7 +112,7 @@ module _ (n : ℕ) (low : 22 ≤ n) (high : n ≤ 24) where
     unfolding removeFromDesign
     design-list D r e =
         let G = designGraph D in
-        from-list D (r .list) (roomSizes (r .room)) (removalTests D G r) (other-same (r .room .starts) (r .room .ends) (r .room .names)) (other-removal D G r)
+        from-list D (r .list) (roomSizes (r .room)) (removalTests D G r) (other-room (r .room)) (other-removal D G r)
         (outcome-refused (designSizes D then (listSizes (r .list) then (roomSizes (r .room) then (designTests D then (listTests D (r .list) then removalTests D G r))))) (trueGraph G (pathsOf (r .list))) e)
 
     graph-list : (D : Design) (S : GraphSlices) (r : Removal) → removeFromGraph D S r ≡ refused x → listTests D (r .list) ≡ Refused x
@@ -117,7 +122,7 @@ module _ (n : ℕ) (low : 22 ≤ n) (high : n ≤ 24) where
         let L = r .list in
         let rest : Verdict = designTests D then (listTests D L then (graphTest D G then removalTests D G r)) in
         from-list D L (graphSizes S then roomSizes (r .room)) (graphTest D G then removalTests D G r)
-        (other-then n (graphSizes S) (roomSizes (r .room)) (other-same (length (S .starts)) (length (S .ends)) (length (S .names))) (other-same (r .room .starts) (r .room .ends) (r .room .names)))
+        (other-then n (graphSizes S) (roomSizes (r .room)) (other-room (roomOf S)) (other-room (r .room)))
         (other-then n (graphTest D G) (removalTests D G r) (other-unless n 32 (λ h. omega arith) (wellFormed D G)) (other-removal D G r))
         (ap (λ (v : Verdict). designSizes D then (listSizes L then v)) (then-assoc (graphSizes S) (roomSizes (r .room)) rest)
         ∙ outcome-refused (designSizes D then (listSizes L then (graphSizes S then (roomSizes (r .room) then rest)))) (trueGraph G (pathsOf L)) e)

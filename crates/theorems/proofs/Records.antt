@@ -24,7 +24,7 @@ use Rattle.timing.specs.Times.{arrivalAt, requiredAt, slackAt, earliestAt, node
 use Rattle.timing.specs.WellFormed.{wellFormed}
 use Rattle.timing.specs.Refusals.{unless}
 use Rattle.timing.specs.Tests.{sameSizes, timeSizes, nodeCount, allowedTest, designSizes, designTests, listSizes, listTests, graphTest, roomSizes}
-use Rattle.timing.specs.Calls.{GraphSlices, graphSlices, graphOf, slicesOf, graphSizes, made, Removal, removalTests, removeFromDesign, removeFromGraph, nodesAfter, startsAfter, endsAfter, namesAfter, testTimes, arrivalsAfter, requiredsAfter, slacksAfter, earliestsAfter, recordOf, recordsAfter}
+use Rattle.timing.specs.Calls.{GraphSlices, graphSlices, graphOf, slicesOf, graphSizes, made, Removal, removalTests, removeFromDesign, removeFromGraph, nodesAfter, endpointsAfter, startsAfter, endsAfter, namesAfter, testTimes, arrivalsAfter, requiredsAfter, slacksAfter, earliestsAfter, recordOf, recordsAfter}
 use Rattle.timing.specs.Series.{heldAfter, wholeAfter, Renumbered}
 use Rattle.timing.specs.Paths.{PassesNode, PassesAt, Shows, pairOf}
 use Rattle.timing.specs.Demands.{Demand2, PathBest, TimesOfPaths, recordAfter, RecordOfPaths}
@@ -43,17 +43,23 @@ use Rattle.theorems.proofs.Demand2Times.{copy-times, cut-inside, record
 use Rattle.theorems.proofs.Series.{graph-slices, slices-sizes, removal-few, outcome-made, held-renumbered, held-pair, series-held}
 
 -- A caller lends on the front of each room, as long as the removal answered: it holds the graph that was made.
-pub front-made : (H : Graph) (room : GraphSlices)
+pub front-made : (H : Graph) (room : GraphSlices) → length (H .endpoints) ≡ length (H .nodes)
     → graphSlices
     (take (length (H .nodes)) (nodesAfter (made H) (room .nodes)))
+    (take (length (H .nodes)) (endpointsAfter (made H) (room .endpoints)))
     (take (length (H .edges)) (startsAfter (made H) (room .starts)))
     (take (length (H .edges)) (endsAfter (made H) (room .ends)))
     (take (length (H .edges)) (namesAfter (made H) (room .names)))
     ≡ slicesOf H
-front-made H room =
+front-made H room same =
     λ i.
-    graphSlices (take-append-seam (H .nodes) (drop (length (H .nodes)) (room .nodes)) i) (edges (λ e. e .start) (room .starts) i) (edges (λ e. e .end) (room .ends) i) (edges (λ e. e .name) (room .names) i)
+    graphSlices (take-append-seam (H .nodes) (drop (length (H .nodes)) (room .nodes)) i) (ends i) (edges (λ e. e .start) (room .starts) i) (edges (λ e. e .end) (room .ends) i) (edges (λ e. e .name) (room .names) i)
   where
+    ends : take (length (H .nodes)) (placed (H .endpoints) (room .endpoints)) ≡ H .endpoints
+    ends =
+        ap (λ (k : ℕ). take k (placed (H .endpoints) (room .endpoints))) (sym same)
+        ∙ take-append-seam (H .endpoints) (drop (length (H .endpoints)) (room .endpoints))
+
     edges : (f : Edge → ℕ) (room : List ℕ) → take (length (H .edges)) (placed (map f (H .edges)) room) ≡ map f (H .edges)
     edges f room =
         ap (λ (k : ℕ). take k (placed (map f (H .edges)) room)) (sym (length-map (H .edges) f))
@@ -154,7 +160,7 @@ pub removed-times : (D : Design) (G : Graph) (L : List (List ℕ)) (H : Graph) (
     → a ≡ length (H .nodes) → r ≡ length (H .nodes) → s ≡ length (H .nodes) → e ≡ length (H .nodes) → testTimes D (slicesOf H) t a r s e ≡ Passed
 unfolding testTimes
 removed-times D G L H t a r s e m h p q o l =
-    rw (m .sizes, slices-sizes H, time-sizes (length (H .nodes)) a r s e p q o l, m .tests, fit-passed 25 (leb t 1000000000) (le→leb t 1000000000 h))
+    rw (m .sizes, slices-sizes H (m .stands .sizes), time-sizes (length (H .nodes)) a r s e p q o l, m .tests, fit-passed 25 (leb t 1000000000) (le→leb t 1000000000 h))
     (ap (graphTest D) (graph-slices H) ∙ fit-passed 32 (wellFormed D H) (m .formed))
 
 -- Whatever true graph `times` passes, it leaves at no copy an earliest arrival above the arrival.

@@ -7,9 +7,9 @@ use mathlib.Core.List.{List, [], _∷_, map, List·Memᴰ, Memᴰ·map, Memᴰ·
 use native.Mathlib.Omega.{arith}
 use lib.Dec.{eqb}
 use lib.ListN.{length, getD, length-map}
-use Rattle.timing.specs.Lists.{countOf, upto}
-use Rattle.timing.specs.Graphs.{Edge, edge, Graph, nodeOf}
-use Rattle.timing.specs.TrueGraphs.{Copy}
+use Rattle.timing.specs.Lists.{countOf, oneIf, upto}
+use Rattle.timing.specs.Graphs.{Edge, edge, Graph, nodeOf, endpointOf}
+use Rattle.timing.specs.TrueGraphs.{Copy, pathEnds}
 use Rattle.timing.specs.Series.{renumbered, Renumbered}
 use Rattle.theorems.proofs.Lists.{mem-upto, of-upto}
 use Rattle.theorems.proofs.Counting.{Nodup, count-map, count-same, length-same, nodup-map, nodup-upto, Rises, rises-same}
@@ -89,6 +89,12 @@ module _ (G H K : Graph) (L : List (List ℕ)) (up : Rising G) (S : Stands G L H
       let r = Q .shown (S .label c) (v .0) in
       (r .0, ap (S .number) (r .1) ∙ v .1, Q .every (to c) (r .0) .2 ∙ ap (λ (p : Copy). nodeOf G (p .at)) (r .1) ∙ sym (v .2))
 
+  -- whether paths end at a copy follows from its label
+  same-ends : (c : ℕ) → c < length (H .nodes) → endpointOf K (to c) ≡ endpointOf H c
+  same-ends c h =
+      let r = Q .shown (S .label c) (S .every c h .0) in
+      Q .ends (to c) (r .0) ∙ ap (λ (p : Copy). oneIf (pathEnds L G p)) (r .1) ∙ sym (S .ends c h)
+
   forth : (e : Edge) → List·Memᴰ e (H .edges) → List·Memᴰ (renumbered to e) (K .edges)
   forth e m = join-edge G K L up Q (joinOf (S .label) e) (S .joined e m)
 
@@ -97,10 +103,12 @@ pub stands-renumbered : (G H K : Graph) (L : List (List ℕ)) → Rising G → S
 stands-renumbered G H K L up S Q rh rk eh ek =
     record {
       nodes = nodes;
+      sizes = S .sizes ∙ size ∙ sym (Q .sizes);
       edges = sym (length-map (H .edges) (renumbered t)) ∙ length-same (map (renumbered t) (H .edges)) (K .edges) moved ek members;
       to = t;
       back = b;
       there = λ c h. let r = to-there G H K L up S Q c h in (subst (λ (n : ℕ). t c < n) (sym size) (r .0), r .1, r .2);
+      endpoints = same-ends G H K L up S Q;
       here = λ c h. let r = from c (subst (λ (n : ℕ). c < n) size h) in (r .0, r .1);
       forth = forth G H K L up S Q;
       return = forth G K H L up Q S;

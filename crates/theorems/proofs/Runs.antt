@@ -1,20 +1,24 @@
 -- Runs as statements: what `runsTo`, `runsFrom` and `completeRuns` list, in a graph whose edges rise.
 use Prim.Native.Nat.{ℕ, zero, suc, _+_, _≤_, _<_}
 use mathlib.Core.Path.{_≡_, refl, sym, ap, subst}
-use mathlib.Core.Logic.{⊎-elim, _↔_}
+use mathlib.Core.Logic.{_⊎_, ⊎-elim, _↔_}
 use mathlib.Core.Bool.{Bool, true, false, cond}
 use mathlib.Core.List.{List, [], _∷_, _++_, map, flatMap, List·Memᴰ, List·Memᴰ·head, List·Memᴰ·not-nil, List·Memᴰ·cases-cons, List·Memᴰ·append-cases, Memᴰ·append-left, Memᴰ·append-right, Memᴰ·map, Memᴰ·of-map}
 use native.Mathlib.Omega.{arith}
 use lib.Dec.{T, eqb, eqb→eq, eqb-refl}
 use lib.ListN.{length, length-append}
 use Rattle.timing.specs.Lists.{keep, upto}
-use Rattle.timing.specs.Graphs.{Edge, Graph, edgesIn, edgesOut, startsAt, endsAt, runsTo, runsFrom, Run, completeRuns}
+use Rattle.timing.specs.Graphs.{Edge, Graph, graph, edgesIn, edgesOut, startsAt, endsAt, runsTo, runsFrom, Run, completeRuns}
 use Rattle.theorems.proofs.Lists.{mem-flatMap, of-flatMap, mem-keep, of-keep, mem-upto, of-upto}
 
 -- what the theory asks of a graph: every edge joins existing copies and goes up
 pub record Rising (G : Graph) : Type 0 where
   pub up : (e : Edge) → List·Memᴰ e (G .edges) → e .start < e .end
   pub inside : (e : Edge) → List·Memᴰ e (G .edges) → e .end < length (G .nodes)
+
+-- and where no path ends an edge leads on
+abbrev pub Onward : Graph → Type 0
+Onward G = (c : ℕ) → c < length (G .nodes) → T (endsAt G c) ⊎ ((e : Edge) × List·Memᴰ e (G .edges) × (e .start ≡ c))
 
 -- es leads from a to c
 abbrev pub Leads : Graph → ℕ → List Edge → ℕ → Type 0
@@ -167,3 +171,12 @@ module _ (G : Graph) (up : Rising G) where
 pub way-then : (G : Graph) (a c : ℕ) (es fs : List Edge) → Leads G a es c → Way G c fs → Way G a (es ++ fs)
 way-then G a c [] fs p w = subst (λ (x : ℕ). Way G x fs) (sym p) w
 way-then G a c (e ∷ es) fs p w = (p .0, p .1, way-then G (e .end) c es fs (p .2) w)
+
+-- which runs lead to a copy is no matter of where paths end
+pub runs-to-ends : (nodes ends fins : List ℕ) (es : List Edge) (k c : ℕ) → runsTo (graph nodes ends es) k c ≡ runsTo (graph nodes fins es) k c
+unfolding runsTo edgesIn
+runs-to-ends nodes ends fins es zero c = refl
+runs-to-ends nodes ends fins es (suc k) c =
+    λ i.
+    cond (startsAt (graph nodes ends es) c) ([] ∷ []) []
+    ++ flatMap (λ e. map (λ r. r ++ (e ∷ [])) (runs-to-ends nodes ends fins es k (e .start) i)) (edgesIn (graph nodes ends es) c)

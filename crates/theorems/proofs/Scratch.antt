@@ -15,7 +15,7 @@ use Rattle.timing.specs.Marks.{PathList, pathList, pathsOf}
 use Rattle.timing.specs.TrueGraphs.{trueGraph}
 use Rattle.timing.specs.Refusals.{refusal, unless, _then_}
 use Rattle.timing.specs.Tests.{designSizes, listSizes, designTests, listTests, graphTest, candidates, scratchWords, scratchTest, Room, roomSizes, roomTests}
-use Rattle.timing.specs.Calls.{GraphSlices, graphSlices, graphOf, graphSizes, roomOf, refused, outcome, removal, removalTests, removeFromDesign, removeFromGraph, graphAnswer, nodesAfter, startsAfter, endsAfter, namesAfter}
+use Rattle.timing.specs.Calls.{GraphSlices, graphSlices, graphOf, graphSizes, roomOf, refused, outcome, removal, removalTests, removeFromDesign, removeFromGraph, graphAnswer, nodesAfter, endpointsAfter, startsAfter, endsAfter, namesAfter}
 use Rattle.timing.specs.Called.{Called, removalOf, Meets, removeOn, graphOn, SameAnswers}
 
 abbrev short : Refusal
@@ -81,7 +81,7 @@ pub same-answers : (D : Design) (held : Option GraphSlices) (a b : Called)
     → Meets (removeOn D held (removalOf a)) a → Meets (removeOn D held (removalOf b)) b → SameAnswers D held a b
 same-answers D held a b m n p listed lengths room enough = (
   n .answer ∙ ap graphAnswer e ∙ sym (m .answer),
-  λ i. graphSlices (nodes i) (starts i) (ends i) (names i),
+  λ i. graphSlices (nodes i) (endpoints i) (starts i) (ends i) (names i),
 )
   where
     L : PathList
@@ -99,6 +99,9 @@ same-answers D held a b m n p listed lengths room enough = (
 
     nodes : b .after .nodes ≡ a .after .nodes
     nodes = n .nodes ∙ (λ i. nodesAfter (e i) (room i .nodes)) ∙ sym (m .nodes)
+
+    endpoints : b .after .endpoints ≡ a .after .endpoints
+    endpoints = n .endpoints ∙ (λ i. endpointsAfter (e i) (room i .endpoints)) ∙ sym (m .endpoints)
 
     starts : b .after .starts ≡ a .after .starts
     starts = n .starts ∙ (λ i. startsAfter (e i) (room i .starts)) ∙ sym (m .starts)

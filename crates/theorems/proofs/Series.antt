@@ -24,7 +24,7 @@ use Rattle.timing.specs.Demands.{AllPassed, listsOf}
 use Rattle.theorems.proofs.Lists.{holds, and-intro}
 use Rattle.theorems.proofs.Counting.{Nodup}
 use Rattle.timing.proofs.Verdicts.{then-passed, unless-passed}
-use Rattle.theorems.proofs.Stands.{Stands, true-stands, true-label}
+use Rattle.theorems.proofs.Stands.{Stands, true-sizes, true-stands, true-label}
 use Rattle.theorems.proofs.Parts.{parts-stand}
 use Rattle.theorems.proofs.Renumbering.{stands-renumbered, renumbered-label}
 use Rattle.theorems.proofs.Tested.{DesignFits, design-fits, list-fits, formed}
@@ -38,14 +38,16 @@ slices-edges [] = refl
 slices-edges (e ∷ es) = ap (λ (l : List Edge). e ∷ l) (slices-edges es)
 
 pub graph-slices : (G : Graph) → graphOf (slicesOf G) ≡ G
-graph-slices G = λ i. graph (G .nodes) (slices-edges (G .edges) i)
+graph-slices G = λ i. graph (G .nodes) (G .endpoints) (slices-edges (G .edges) i)
 
-pub slices-sizes : (G : Graph) → graphSizes (slicesOf G) ≡ Passed
-slices-sizes G =
+pub slices-sizes : (G : Graph) → length (G .endpoints) ≡ length (G .nodes) → graphSizes (slicesOf G) ≡ Passed
+slices-sizes G same =
     let a = length-map (G .edges) (λ (e : Edge). e .start) in
     let b = length-map (G .edges) (λ (e : Edge). e .end) in
     let c = length-map (G .edges) (λ (e : Edge). e .name) in
-    rw (a, b, c) (passes (eqb (length (G .edges)) (length (G .edges))) (eqb-refl (length (G .edges))))
+    rw (same, a, b, c)
+    (rw (passes (eqb (length (G .nodes)) (length (G .nodes))) (eqb-refl (length (G .nodes))))
+    (passes (eqb (length (G .edges)) (length (G .edges))) (eqb-refl (length (G .edges)))))
   where
     passes : (b : Bool) → T b → unless 30 (b && b) ≡ Passed
     passes true t = refl
@@ -61,21 +63,21 @@ pub record Held (D : Design) (L : List (List ℕ)) (H : Graph) : Type 0 where
   pub paths : Paths D L
 
 -- the tests of a removal, as one verdict
-designVerdict : Design → Removal → Verdict
+pub designVerdict : Design → Removal → Verdict
 designVerdict D r =
     designSizes D then listSizes (r .list) then roomSizes (r .room)
     then designTests D then listTests D (r .list) then removalTests D (designGraph D) r
 
-graphVerdict : Design → GraphSlices → Removal → Verdict
+pub graphVerdict : Design → GraphSlices → Removal → Verdict
 graphVerdict D S r =
     designSizes D then listSizes (r .list) then graphSizes S then roomSizes (r .room)
     then designTests D then listTests D (r .list) then graphTest D (graphOf S) then removalTests D (graphOf S) r
 
-from-design : (D : Design) (r : Removal) → removeFromDesign D r ≡ outcome (designVerdict D r) (trueGraph (designGraph D) (pathsOf (r .list)))
+pub from-design : (D : Design) (r : Removal) → removeFromDesign D r ≡ outcome (designVerdict D r) (trueGraph (designGraph D) (pathsOf (r .list)))
 unfolding removeFromDesign designVerdict
 from-design D r = refl
 
-from-graph : (D : Design) (H : Graph) (r : Removal) → removeFromGraph D (slicesOf H) r ≡ outcome (graphVerdict D (slicesOf H) r) (trueGraph H (pathsOf (r .list)))
+pub from-graph : (D : Design) (H : Graph) (r : Removal) → removeFromGraph D (slicesOf H) r ≡ outcome (graphVerdict D (slicesOf H) r) (trueGraph H (pathsOf (r .list)))
 unfolding removeFromGraph graphVerdict
 from-graph D H r = λ i. outcome (graphVerdict D (slicesOf H) r) (trueGraph (graph-slices H i) (pathsOf (r .list)))
 
@@ -224,7 +226,7 @@ module _ (D : Design) (L : List (List ℕ)) (H : Graph) (held : Held D L H) wher
   same-verdict : (r : Removal) → graphVerdict D (slicesOf H) r ≡ graphVerdict D (slicesOf (trueGraph (designGraph D) L)) r
   unfolding graphVerdict
   same-verdict r =
-      let s = slices-sizes H ∙ sym (slices-sizes (trueGraph (designGraph D) L)) in
+      let s = slices-sizes H (held .stands .sizes) ∙ sym (slices-sizes (trueGraph (designGraph D) L) (true-sizes (designGraph D) L)) in
       let t = well H (held .formed) ∙ sym (well (trueGraph (designGraph D) L) whole-formed) in
       λ i.
       designSizes D then listSizes (r .list) then s i then roomSizes (r .room)

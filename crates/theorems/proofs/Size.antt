@@ -10,7 +10,7 @@ use lib.Dec.{T, eqb, eqb-refl}
 use lib.ListN.{length, getD, take, drop, length-append, length-map, length-take, length-drop}
 use borrow.Author.Tests.{eqb-true, eqb-false}
 use Rattle.timing.specs.declared.Verdict.the-variants.{Passed}
-use Rattle.timing.specs.Lists.{isNil, keep, countOf, upto, sum}
+use Rattle.timing.specs.Lists.{oneIf, isNil, keep, countOf, upto, sum}
 use Rattle.timing.specs.Graphs.{Design, edgeStart, Edge, Graph, designGraph, nodeOf, Run, completeRuns, names}
 use Rattle.timing.specs.Marks.{PathList, cut, pathsOf, permitted, suffixes, tailsOf, tails, mark}
 use Rattle.timing.specs.TrueGraphs.{Copy, copyBefore, copyAt, copiesOn, permittedRuns, copies, trueGraph}
@@ -19,7 +19,7 @@ use Rattle.theorems.proofs.Lists.{of-flatMap, mem-keep, of-keep, length
 use Rattle.theorems.proofs.Marks.{Prefix, Tail, mark-tail, mark-prefix}
 use Rattle.theorems.proofs.Sorting.{sort-mem, sort-sorted}
 use Rattle.theorems.proofs.Runs.{Rising, Way, complete-runs}
-use Rattle.theorems.proofs.Counting.{one, count-cons, count-append, Nodup, length-le, sorted-nodup}
+use Rattle.theorems.proofs.Counting.{count-cons, count-append, Nodup, length-le, sorted-nodup}
 use Rattle.theorems.proofs.Tested.{DesignFits, design-fits, ListFits, list-fits}
 use Rattle.theorems.proofs.Legal.{Legal, fits-legal}
 use Rattle.theorems.proofs.Copies.{copy-order}
@@ -168,20 +168,20 @@ unfolding candidates
 size-candidates D G PL legal = size D G legal (pathsOf PL)
 
 -- one of the numbers from i on is x, and just one
-sum-miss : (x n i : ℕ) → x < i → sum (map (λ v. one (eqb x v)) (upto n i)) ≡ 0
+sum-miss : (x n i : ℕ) → x < i → sum (map (λ v. oneIf (eqb x v)) (upto n i)) ≡ 0
 sum-miss x zero i h = refl
 sum-miss x (suc n) i h = go (eqb x i) refl (sum-miss x n (suc i) (omega arith))
   where
-    go : (b : Bool) → eqb x i ≡ b → sum (map (λ v. one (eqb x v)) (upto n (suc i))) ≡ 0 → one b + sum (map (λ v. one (eqb x v)) (upto n (suc i))) ≡ 0
+    go : (b : Bool) → eqb x i ≡ b → sum (map (λ v. oneIf (eqb x v)) (upto n (suc i))) ≡ 0 → oneIf b + sum (map (λ v. oneIf (eqb x v)) (upto n (suc i))) ≡ 0
     go true q f = absurd (omega (arith, eqb-true x i q))
     go false q f = omega arith
 
-sum-hit : (x n i : ℕ) → i ≤ x → x < i + n → sum (map (λ v. one (eqb x v)) (upto n i)) ≡ 1
+sum-hit : (x n i : ℕ) → i ≤ x → x < i + n → sum (map (λ v. oneIf (eqb x v)) (upto n i)) ≡ 1
 sum-hit x zero i h k = absurd (omega arith)
 sum-hit x (suc n) i h k = go (eqb x i) refl (λ l. sum-hit x n (suc i) l (omega arith))
   where
-    go : (b : Bool) → eqb x i ≡ b → (suc i ≤ x → sum (map (λ v. one (eqb x v)) (upto n (suc i))) ≡ 1)
-        → one b + sum (map (λ v. one (eqb x v)) (upto n (suc i))) ≡ 1
+    go : (b : Bool) → eqb x i ≡ b → (suc i ≤ x → sum (map (λ v. oneIf (eqb x v)) (upto n (suc i))) ≡ 1)
+        → oneIf b + sum (map (λ v. oneIf (eqb x v)) (upto n (suc i))) ≡ 1
     go true q f = let e : x ≡ i = eqb-true x i q in omega (arith, sum-miss x n (suc i) (omega arith))
     go false q f = let d : x ≡ i → ⊥ = eqb-false x i q in omega (arith, f (omega arith))
 
@@ -196,9 +196,9 @@ spread f n (x ∷ l) h =
       arith,
       below,
       sum-hit (f x) n 0 (omega arith) (omega arith),
-      sum-same (λ v. countOf (λ y. eqb (f y) v) (x ∷ l)) (λ v. one (eqb (f x) v) + countOf (λ y. eqb (f y) v) l) (upto n 0)
+      sum-same (λ v. countOf (λ y. eqb (f y) v) (x ∷ l)) (λ v. oneIf (eqb (f x) v) + countOf (λ y. eqb (f y) v) l) (upto n 0)
           (λ v. count-cons (λ y. eqb (f y) v) x l),
-      sum-add (λ v. one (eqb (f x) v)) (λ v. countOf (λ y. eqb (f y) v) l) (upto n 0),
+      sum-add (λ v. oneIf (eqb (f x) v)) (λ v. countOf (λ y. eqb (f y) v) l) (upto n 0),
     )
 
 -- paths that are not empty, of edges of the design

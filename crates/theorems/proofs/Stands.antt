@@ -1,23 +1,24 @@
--- H stands for (G, L): its copies are labelled one to one by the copies that G and L show, and its edges are their joins.
+-- H stands for (G, L): its copies are labelled one to one by the copies that G and L show, its edges are their joins, and paths end at those
+-- copies where they end in G.
 -- The true graph of G and L does; and what stands for (G, L) has the permitted paths of G, each once (theorem R).
 use Prim.Native.Nat.{ℕ, _<_}
 use mathlib.Core.Path.{_≡_, refl, sym, ap, _∙_, subst}
-use mathlib.Core.Logic.{_↔_}
-use mathlib.Core.Bool.{false, _&&_}
+use mathlib.Core.Logic.{_⊎_, inl, inr, _↔_}
+use mathlib.Core.Bool.{Bool, true, false, _&&_}
 use mathlib.Core.List.{List, [], _∷_, _++_, map, flatMap, List·Memᴰ, List·Memᴰ·head, append-assoc, Memᴰ·map, Memᴰ·of-map}
 use lib.Dec.{T, eqb, ltb, lt→ltb}
 use lib.ListN.{length, length-map}
-use Rattle.timing.specs.Lists.{isNil}
-use Rattle.timing.specs.Graphs.{Edge, edge, Graph, nodeOf, edgesIn, edgesOut, startsAt, endsAt, names}
+use Rattle.timing.specs.Lists.{isNil, oneIf}
+use Rattle.timing.specs.Graphs.{Edge, edge, Graph, nodeOf, endpointOf, edgesIn, edgesOut, startsAt, endsAt, names}
 use Rattle.timing.specs.Marks.{permitted, mark}
 use Rattle.timing.specs.Sorting.{before, place}
-use Rattle.timing.specs.TrueGraphs.{Copy, Join, copyBefore, edgeBefore, copyAt, copiesOn, copies, joins, numbered, permittedRuns, trueGraph}
+use Rattle.timing.specs.TrueGraphs.{Copy, Join, copyBefore, edgeBefore, copyAt, copiesOn, copies, pathEnds, joins, numbered, permittedRuns, trueGraph}
 use Rattle.timing.specs.Paths.{pairOf}
 use Rattle.theorems.proofs.Lists.{or-left, getD-mem, getD-map, none-of-nil}
 use Rattle.theorems.proofs.Marks.{begins, mark-reads, permitted-front}
 use Rattle.theorems.proofs.Sorting.{Sorted, sort-mem, sort-sorted, place-stands, place-getD, place-less}
-use Rattle.theorems.proofs.Runs.{Rising, Leads, Way, mem-in, mem-out, leads-last}
-use Rattle.theorems.proofs.Copies.{Passes, Shown, Joined, copy-order, edge-order, pass-on, rest-permitted, joined-link, mem-copies, mem-joins}
+use Rattle.theorems.proofs.Runs.{Rising, Onward, Leads, Way, mem-in, mem-out, leads-last}
+use Rattle.theorems.proofs.Copies.{Passes, Shown, Joined, copy-order, edge-order, pass-on, rest-permitted, joined-link, mem-copies, path-ends, mem-joins}
 
 -- an edge as a join of labelled copies
 abbrev pub joinOf : (ℕ → Copy) → Edge → Join
@@ -29,11 +30,13 @@ pub record Stands (G : Graph) (L : List (List ℕ)) (H : Graph) : Type 0 where
   pub rising : Rising H
   pub shown : (p : Copy) → Shown G L p → (number p < length (H .nodes)) × (label (number p) ≡ p)
   pub every : (c : ℕ) → c < length (H .nodes) → Shown G L (label c) × (number (label c) ≡ c) × (nodeOf H c ≡ nodeOf G (label c .at))
+  pub sizes : length (H .endpoints) ≡ length (H .nodes)
+  pub ends : (c : ℕ) → c < length (H .nodes) → endpointOf H c ≡ oneIf (pathEnds L G (label c))
   pub joined : (e : Edge) → List·Memᴰ e (H .edges) → Joined G L (joinOf label e)
   pub edges : (e : Edge) → e .start < length (H .nodes) → e .end < length (H .nodes) → Joined G L (joinOf label e) → List·Memᴰ e (H .edges)
 
--- where paths end there is no edge out, and the other way round; the same for where they start
-pub no-out : (G : Graph) (c : ℕ) → ((e : Edge) → List·Memᴰ e (G .edges) → e .start ≡ c → ⊥) → T (endsAt G c)
+-- a copy that no edge leaves; where paths start there is no edge in, and the other way round
+pub no-out : (G : Graph) (c : ℕ) → ((e : Edge) → List·Memᴰ e (G .edges) → e .start ≡ c → ⊥) → T (isNil (edgesOut G c))
 no-out G c f = go (edgesOut G c) (λ e m. let r = mem-out G c e .0 m in f e (r .0) (r .1))
   where
     go : (l : List Edge) → ((e : Edge) → List·Memᴰ e l → ⊥) → T (isNil l)
@@ -47,11 +50,20 @@ no-in G c f = go (edgesIn G c) (λ e m. let r = mem-in G c e .0 m in f e (r .0) 
     go [] f = tt
     go (e ∷ l) f = absurd (f e (List·Memᴰ·head refl))
 
-pub ends-none : (G : Graph) (c : ℕ) (e : Edge) → T (endsAt G c) → List·Memᴰ e (G .edges) → e .start ≡ c → ⊥
-ends-none G c e t m q = none-of-nil (edgesOut G c) e t (mem-out G c e .1 (m, q))
+pub none-out : (G : Graph) (c : ℕ) (e : Edge) → T (isNil (edgesOut G c)) → List·Memᴰ e (G .edges) → e .start ≡ c → ⊥
+none-out G c e t m q = none-of-nil (edgesOut G c) e t (mem-out G c e .1 (m, q))
 
 pub starts-none : (G : Graph) (c : ℕ) (e : Edge) → T (startsAt G c) → List·Memᴰ e (G .edges) → e .end ≡ c → ⊥
 starts-none G c e t m q = none-of-nil (edgesIn G c) e t (mem-in G c e .1 (m, q))
+
+-- the endpoint number of a copy, and whether paths end there
+pub one-ends : (G : Graph) (c : ℕ) (b : Bool) → endpointOf G c ≡ oneIf b → T b → T (endsAt G c)
+one-ends G c true e t = rw e tt
+one-ends G c false e t = absurd t
+
+pub ends-one : (G : Graph) (c : ℕ) (b : Bool) → endpointOf G c ≡ oneIf b → T (endsAt G c) → T b
+ends-one G c true e t = tt
+ends-one G c false e t = rw e at t
 
 -- a copy that passes lies inside
 pub passes-inside : {G : Graph} {L : List (List ℕ)} {c : ℕ} {q : List Edge} → Rising G → Passes G L c q → c < length (G .nodes)
@@ -67,6 +79,11 @@ passes-inside {G} {L} {c} {q} up p = go (p .first) (p .head) (p .inside) (p .lea
 lower-before : (p q : Copy) → p .at < q .at → T (copyBefore p q)
 lower-before p q h =
     or-left (ltb (p .at) (q .at)) (eqb (p .at) (q .at) && before (length (p .mark) ∷ p .mark) (length (q .mark) ∷ q .mark)) (lt→ltb (p .at) (q .at) h)
+
+-- a true graph has an endpoint number for each copy
+pub true-sizes : (G : Graph) (L : List (List ℕ)) → length (trueGraph G L .endpoints) ≡ length (trueGraph G L .nodes)
+unfolding trueGraph
+true-sizes G L = length-map (copies L G) (λ (c : Copy). oneIf (pathEnds L G c)) ∙ sym (length-map (copies L G) (λ (c : Copy). nodeOf G (c .at)))
 
 -- the true graph stands for what it is made of
 module _ (G : Graph) (L : List (List ℕ)) (up : Rising G) where
@@ -104,6 +121,13 @@ module _ (G : Graph) (L : List (List ℕ)) (up : Rising G) where
       let b = shown-number (r .0 .end) (k .to) .0 in
       (subst (λ (x : Edge). x .start < x .end) (r .2) a, rw size (subst (λ (x : Edge). x .end < length (copies L G)) (r .2) b))
 
+  number-label : (c : ℕ) → c < length (copies L G) → at-number (pairOf G L c) ≡ c
+  number-label c h = place-getD copyBefore copy-order (copies L G) (record { at = 0; mark = [] }) c copies-sorted h
+
+  ends-at : (c : ℕ) → c < length (copies L G) → endpointOf (trueGraph G L) c ≡ oneIf (pathEnds L G (pairOf G L c))
+  unfolding trueGraph
+  ends-at c h = getD-map (λ (x : Copy). oneIf (pathEnds L G x)) (copies L G) (record { at = 0; mark = [] }) 0 c h
+
   pub true-rising : Rising (trueGraph G L)
   true-rising = record { up = λ e m. edge-rises e m .0; inside = λ e m. edge-rises e m .1 }
 
@@ -113,9 +137,6 @@ module _ (G : Graph) (L : List (List ℕ)) (up : Rising G) where
       let a = shown-number (j .start) (k .from) .1 in
       let b = shown-number (j .end) (k .to) .1 in
       λ i. record { start = a i; end = b i; name = j .name }
-
-  number-label : (c : ℕ) → c < length (copies L G) → at-number (pairOf G L c) ≡ c
-  number-label c h = place-getD copyBefore copy-order (copies L G) (record { at = 0; mark = [] }) c copies-sorted h
 
   node-at : (c : ℕ) → c < length (copies L G) → nodeOf (trueGraph G L) c ≡ nodeOf G (pairOf G L c .at)
   unfolding trueGraph
@@ -131,6 +152,8 @@ module _ (G : Graph) (L : List (List ℕ)) (up : Rising G) where
         every = λ c h.
             let k : c < length (copies L G) = rw size at h in
             (mem-copies G L up (pairOf G L c) .0 (getD-mem (copies L G) c (record { at = 0; mark = [] }) k), number-label c k, node-at c k);
+        sizes = true-sizes G L;
+        ends = λ c h. ends-at c (rw size at h);
         joined = λ e m.
             let r = true-edges e .0 m in
             subst (Joined G L) (sym (label-join (r .0) (r .1)) ∙ ap (joinOf (pairOf G L)) (r .2)) (r .1);
@@ -168,19 +191,25 @@ module _ (G H : Graph) (L : List (List ℕ)) (up : Rising G) (S : Stands G L H) 
 
   -- a copy of H where paths end shows a path that ends, and one where paths start a path that starts
   pub end-shown : (h : ℕ) → h < length (H .nodes) → T (endsAt H h) → T (endsAt G (S .label h .at)) × T (permitted L []) × (S .label h .mark ≡ mark L [])
-  end-shown h l t = go (v .0 .0) (v .0 .1) (v .0 .2)
+  end-shown h l t =
+      let r = path-ends G L up (S .label h) .0 (ends-one H h (pathEnds L G (S .label h)) (S .ends h l) t) in
+      (r .0 .way, rest-permitted (r .0), r .1)
+
+  -- a copy of H is shown by a path that ends there, or goes on along an edge
+  pub stands-onward : Onward H
+  stands-onward h l = go (v .0 .0) (v .0 .1) (v .0 .2)
     where
       v : Shown G L (S .label h) × (S .number (S .label h) ≡ h) × (nodeOf H h ≡ nodeOf G (S .label h .at))
       v = S .every h l
 
       go : (q : List Edge) → Passes G L (S .label h .at) q → S .label h .mark ≡ mark L (names q)
-          → T (endsAt G (S .label h .at)) × T (permitted L []) × (S .label h .mark ≡ mark L [])
-      go [] p m = (p .way, rest-permitted p, m)
+          → T (endsAt H h) ⊎ ((e : Edge) × List·Memᴰ e (H .edges) × (e .start ≡ h))
+      go [] p m = inl (one-ends H h (pathEnds L G (S .label h)) (S .ends h l) (path-ends G L up (S .label h) .1 (p, m)))
       go (e ∷ q) p m =
           let j : Join = record { start = copyAt L (e .start) (e ∷ q); end = copyAt L (e .end) q; name = e .name } in
           let x : Joined G L j = (e, q, subst (λ (y : ℕ). Passes G L y (e ∷ q)) (sym (p .way .1)) p, refl) in
           let f : j .start ≡ S .label h = λ i. record { at = p .way .1 i; mark = sym m i } in
-          absurd (ends-none H h (edge (S .number (j .start)) (S .number (j .end)) (j .name)) t (join-edge j x) (ap (S .number) f ∙ v .1))
+          inr (edge (S .number (j .start)) (S .number (j .end)) (j .name), join-edge j x, ap (S .number) f ∙ v .1)
 
   pub start-shown : (h : ℕ) → h < length (H .nodes) → T (startsAt H h) → T (startsAt G (S .label h .at))
   start-shown h l t = go (v .0 .1 .head) (v .0 .1) refl
@@ -248,14 +277,10 @@ module _ (G H : Graph) (L : List (List ℕ)) (up : Rising G) (S : Stands G L H) 
   -- so a permitted path of G from c on is lifted to H, and so is a run to c
   pub way-up : (c : ℕ) (q : List Edge) → Passes G L c q → (es : List Edge) × Way H (S .number (copyAt L c q)) es × (map lowered es ≡ q)
   unfolding lifted
-  way-up c [] p = (
-    [],
-    no-out H (S .number (copyAt L c [])) (λ e m s.
-        let k = joined-link G L (joinOf (S .label) e) (S .joined e m) in
-        let f : S .label (e .start) ≡ copyAt L c [] = ap (S .label) s ∙ S .shown (copyAt L c []) ([], p, refl) .1 in
-        ends-none G c _ (p .way) (k .along) (ap (λ (x : Copy). x .at) f)),
-    refl,
-  )
+  way-up c [] p =
+      let h = S .shown (copyAt L c []) ([], p, refl) in
+      let t : T (pathEnds L G (S .label (S .number (copyAt L c [])))) = subst (λ (x : Copy). T (pathEnds L G x)) (sym (h .1)) (path-ends G L up (copyAt L c []) .1 (p, refl)) in
+      ([], one-ends H (S .number (copyAt L c [])) (pathEnds L G (S .label (S .number (copyAt L c [])))) (S .ends (S .number (copyAt L c [])) (h .0)) t, refl)
   way-up c (e ∷ q) p =
       let r = way-up (e .end) q (pass-on p) in
       let f = step-up c e q p in

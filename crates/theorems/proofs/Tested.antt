@@ -1,21 +1,21 @@
--- What document 01's tests say where they pass, as statements: 30 and 10 to 15 of a design, 30 and 20 to 24 of a list of
+-- What document 01's tests say where they pass, as statements: 30 and 10 to 16 of a design, 30 and 20 to 24 of a list of
 -- paths, 32 of a graph.
 use Prim.Native.Nat.{ℕ, _≤_, _<_}
 use mathlib.Core.Path.{_≡_, refl, subst}
-use mathlib.Core.Bool.{Bool, true, false, not, _&&_}
+use mathlib.Core.Bool.{Bool, true, false, not, _&&_, _||_}
 use mathlib.Core.List.{List, [], List·Memᴰ}
 use native.Mathlib.Omega.{arith}
 use lib.Dec.{T, eqb, ltb, leb, eqb→eq, eqb-refl, leb→le, ltb→lt, lt→ltb}
 use lib.IntN.{ℤ, natAbs}
-use lib.ListN.{length}
+use lib.ListN.{length, getD}
 use Rattle.timing.specs.declared.Verdict.{Verdict}
 use Rattle.timing.specs.declared.Verdict.the-variants.{Passed}
 use Rattle.timing.specs.Lists.{isNil, allOf, eachNext, upto, sum}
 use Rattle.timing.specs.Graphs.{Design, design, edgeStart, edgeEnd, edgeEarly, edgeLate, Edge, Graph, designGraph, nodeOf}
 use Rattle.timing.specs.Marks.{PathList, pathsOf}
-use Rattle.timing.specs.WellFormed.{fewEnough, nodesFit, edgeFits, edgeRises, oneSinkCopy, linked, wellFormed}
+use Rattle.timing.specs.WellFormed.{fewEnough, nodesFit, edgeFits, edgeRises, zeroOrOne, oneEndpoint, copyFits, wellFormed}
 use Rattle.timing.specs.Refusals.{unless, firstBad, firstFault, _then_}
-use Rattle.timing.specs.Tests.{designSizes, listSizes, nodeCount, designCounts, strays, falls, outOfRange, earlyAboveLate, designTests, listCounts, meets, emptyAt, firstUnknown, firstBreak, listTests, graphTest}
+use Rattle.timing.specs.Tests.{designSizes, listSizes, nodeCount, designCounts, strays, falls, outOfRange, earlyAboveLate, risesNot, wrongMarked, designTests, listCounts, meets, emptyAt, firstUnknown, firstBreak, listTests, graphTest}
 use Rattle.timing.proofs.Ints.{ltZ-false}
 use Rattle.theorems.proofs.Extremes.{AtMost}
 use Rattle.theorems.proofs.Lists.{and-intro, and-left, and-right, holds, mem-upto, of-upto, allOf-elim, allOf-intro}
@@ -23,7 +23,7 @@ use Rattle.timing.proofs.Verdicts.{then-passed, unless-passed, edges-passed}
 use Rattle.theorems.proofs.Refusals.{firstBad-passed}
 use Rattle.theorems.proofs.Faults.{has-edge, all-known, all-join, firstFault-passed}
 
--- what tests 30 and 10 to 15 say of a design
+-- what tests 30 and 10 to 16 say of a design
 pub record DesignFits (D : Design) : Type 0 where
   pub ends : length (D .ends) ≡ length (D .starts)
   pub early : length (D .early) ≡ length (D .starts)
@@ -36,10 +36,15 @@ pub record DesignFits (D : Design) : Type 0 where
   pub quick : (k : ℕ) → k < length (D .starts) → natAbs (edgeEarly D k) ≤ 1000000
   pub slow : (k : ℕ) → k < length (D .starts) → natAbs (edgeLate D k) ≤ 1000000
   pub ordered : (k : ℕ) → k < length (D .starts) → AtMost (edgeEarly D k) (edgeLate D k)
+  pub marked-in : (i : ℕ) → i < length (D .marked) → getD (D .marked) i 0 < D .nodes
 
 not-false : (b : Bool) → not b ≡ false → T b
 not-false true e = tt
 not-false false e = absurd (subst T e tt)
+
+neither-true : (a b : Bool) → (a || b) ≡ false → (a ≡ false) × (b ≡ false)
+neither-true true b e = absurd (subst T e tt)
+neither-true false b e = (refl, e)
 
 pub design-fits : (D : Design) → designSizes D ≡ Passed → designTests D ≡ Passed → DesignFits D
 unfolding designTests
@@ -55,7 +60,11 @@ design-fits D s t =
       rises = λ k h. ltb→lt _ _ (not-false (ltb (edgeStart D k) (edgeEnd D k)) (firstBad-passed 13 (falls D) 0 ks (after13 .0) k (mem k h)));
       quick = λ k h. leb→le _ _ (and-left (leb (natAbs (edgeEarly D k)) 1000000) (leb (natAbs (edgeLate D k)) 1000000) (ranges k h));
       slow = λ k h. leb→le _ _ (and-right (leb (natAbs (edgeEarly D k)) 1000000) (leb (natAbs (edgeLate D k)) 1000000) (ranges k h));
-      ordered = λ k h. omega (arith, ltZ-false (edgeLate D k) (edgeEarly D k) (firstBad-passed 15 (earlyAboveLate D) 0 ks (after14 .1) k (mem k h)));
+      ordered = λ k h. omega (arith, ltZ-false (edgeLate D k) (edgeEarly D k) (firstBad-passed 15 (earlyAboveLate D) 0 ks (after15 .0) k (mem k h)));
+      marked-in = λ i h.
+          ltb→lt _ _
+          (not-false (ltb (getD (D .marked) i 0) (D .nodes))
+          (neither-true (not (ltb (getD (D .marked) i 0) (D .nodes))) (risesNot (D .marked) i) (firstBad-passed 16 (wrongMarked D) 0 is (after15 .1) i (mem-upto (length (D .marked)) 0 i (omega arith) (omega arith))) .0));
     }
   where
     m : ℕ
@@ -70,8 +79,11 @@ design-fits D s t =
     sizes : (length (D .ends) ≡ m) × (length (D .early) ≡ m) × (length (D .late) ≡ m)
     sizes = edges-passed m (length (D .ends)) (length (D .early)) (length (D .late)) s
 
+    is : List ℕ
+    is = upto (length (D .marked)) 0
+
     t₁₅ : Verdict
-    t₁₅ = firstBad 15 (earlyAboveLate D) 0 ks
+    t₁₅ = firstBad 15 (earlyAboveLate D) 0 ks then firstBad 16 (wrongMarked D) 0 is
 
     t₁₄ : Verdict
     t₁₄ = firstBad 14 (outOfRange D) 0 ks then t₁₅
@@ -97,6 +109,9 @@ design-fits D s t =
     after14 : (firstBad 14 (outOfRange D) 0 ks ≡ Passed) × (t₁₅ ≡ Passed)
     after14 = then-passed (firstBad 14 (outOfRange D) 0 ks) t₁₅ (after13 .1)
 
+    after15 : (firstBad 15 (earlyAboveLate D) 0 ks ≡ Passed) × (firstBad 16 (wrongMarked D) 0 is ≡ Passed)
+    after15 = then-passed (firstBad 15 (earlyAboveLate D) 0 ks) (firstBad 16 (wrongMarked D) 0 is) (after14 .1)
+
     inside : (k : ℕ) → k < m → T (ltb (edgeStart D k) (D .nodes) && ltb (edgeEnd D k) (D .nodes))
     inside k h = not-false (ltb (edgeStart D k) (D .nodes) && ltb (edgeEnd D k) (D .nodes)) (firstBad-passed 12 (strays D) 0 ks (after12 .0) k (mem k h))
 
@@ -113,10 +128,10 @@ tests-count D e =
     (then-passed (designCounts D) _ e .0) .0
 
 -- 32 asks no delays
-pub no-delays : (n : ℕ) (starts ends : List ℕ) (early late : List ℤ) (G : Graph)
-    → graphTest (design n starts ends [] []) G ≡ graphTest (design n starts ends early late) G
+pub no-delays : (n : ℕ) (starts ends : List ℕ) (early late : List ℤ) (marked : List ℕ) (G : Graph)
+    → graphTest (design n starts ends [] [] marked) G ≡ graphTest (design n starts ends early late marked) G
 unfolding wellFormed designGraph
-no-delays n starts ends early late G = refl
+no-delays n starts ends early late marked G = refl
 
 -- what tests 30 and 20 to 24 say of a list of paths
 pub record ListFits (D : Design) (L : PathList) : Type 0 where
@@ -186,8 +201,9 @@ pub record Formed (D : Design) (G : Graph) : Type 0 where
   pub order : T (eachNext leb (G .nodes))
   pub fits : (e : Edge) → List·Memᴰ e (G .edges) → EdgeFits D G e
   pub rises : T (eachNext edgeRises (G .edges))
-  pub one-sink : (v : ℕ) → v < D .nodes → T (oneSinkCopy D G v)
-  pub links : (c : ℕ) → c < length (G .nodes) → T (linked D G c)
+  pub flags : T (zeroOrOne (G .endpoints))
+  pub one-end : (v : ℕ) → v < D .nodes → T (oneEndpoint G v)
+  pub copies : (c : ℕ) → c < length (G .nodes) → T (copyFits D G c)
 
 pub formed : (D : Design) (G : Graph) → T (wellFormed D G) → Formed D G
 unfolding wellFormed
@@ -196,20 +212,23 @@ formed D G t =
     let b = nodesFit D G in
     let c = allOf (edgeFits D G) (G .edges) in
     let d = eachNext edgeRises (G .edges) in
-    let f = allOf (oneSinkCopy D G) (upto (D .nodes) 0) in
-    let g = allOf (linked D G) (upto (length (G .nodes)) 0) in
-    let t₁ = and-left (a && b && c && d && f) g t in
-    let r = and-four a b c d (and-left (a && b && c && d) f t₁) in
+    let z = zeroOrOne (G .endpoints) in
+    let f = allOf (oneEndpoint G) (upto (D .nodes) 0) in
+    let g = allOf (copyFits D G) (upto (length (G .nodes)) 0) in
+    let t₁ = and-left (a && b && c && d && z && f) g t in
+    let t₂ = and-left (a && b && c && d && z) f t₁ in
+    let r = and-four a b c d (and-left (a && b && c && d) z t₂) in
     record {
       few = r .0;
       below = and-left (allOf (λ v. ltb v (D .nodes)) (G .nodes)) (eachNext leb (G .nodes)) (r .1);
       order = and-right (allOf (λ v. ltb v (D .nodes)) (G .nodes)) (eachNext leb (G .nodes)) (r .1);
       fits = λ e m. edge-fits D G e (allOf-elim (edgeFits D G) (G .edges) (r .2) m);
       rises = r .3;
-      one-sink = λ v h.
-          allOf-elim (oneSinkCopy D G) (upto (D .nodes) 0) (and-right (a && b && c && d) f t₁) (mem-upto (D .nodes) 0 v (omega arith) (omega arith));
-      links = λ v h.
-          allOf-elim (linked D G) (upto (length (G .nodes)) 0) (and-right (a && b && c && d && f) g t)
+      flags = and-right (a && b && c && d) z t₂;
+      one-end = λ v h.
+          allOf-elim (oneEndpoint G) (upto (D .nodes) 0) (and-right (a && b && c && d && z) f t₁) (mem-upto (D .nodes) 0 v (omega arith) (omega arith));
+      copies = λ v h.
+          allOf-elim (copyFits D G) (upto (length (G .nodes)) 0) (and-right (a && b && c && d && z && f) g t)
           (mem-upto (length (G .nodes)) 0 v (omega arith) (omega arith));
     }
 
@@ -237,14 +256,17 @@ formed-passes D G w =
     let b = nodesFit D G in
     let c = allOf (edgeFits D G) (G .edges) in
     let d = eachNext edgeRises (G .edges) in
-    let f = allOf (oneSinkCopy D G) (upto (D .nodes) 0) in
-    let g = allOf (linked D G) (upto (length (G .nodes)) 0) in
-    and-intro (a && b && c && d && f) g
-    (and-intro (a && b && c && d) f
+    let z = zeroOrOne (G .endpoints) in
+    let f = allOf (oneEndpoint G) (upto (D .nodes) 0) in
+    let g = allOf (copyFits D G) (upto (length (G .nodes)) 0) in
+    and-intro (a && b && c && d && z && f) g
+    (and-intro (a && b && c && d && z) f
+    (and-intro (a && b && c && d) z
     (and-intro (a && b && c) d
     (and-intro (a && b) c
     (and-intro a b (w .few) (and-intro (allOf (λ v. ltb v (D .nodes)) (G .nodes)) (eachNext leb (G .nodes)) (w .below) (w .order)))
     (allOf-intro (edgeFits D G) (G .edges) (λ e m. fits-edge D G e (w .fits e m))))
     (w .rises))
-    (allOf-intro (oneSinkCopy D G) (upto (D .nodes) 0) (λ v m. w .one-sink v (omega (arith, of-upto (D .nodes) 0 v m .1)))))
-    (allOf-intro (linked D G) (upto (length (G .nodes)) 0) (λ v m. w .links v (omega (arith, of-upto (length (G .nodes)) 0 v m .1))))
+    (w .flags))
+    (allOf-intro (oneEndpoint G) (upto (D .nodes) 0) (λ v m. w .one-end v (omega (arith, of-upto (D .nodes) 0 v m .1)))))
+    (allOf-intro (copyFits D G) (upto (length (G .nodes)) 0) (λ c m. w .copies c (omega (arith, of-upto (length (G .nodes)) 0 c m .1))))

@@ -4,7 +4,7 @@
 use Prim.Native.Nat.{ℕ, zero, suc, _+_, _-_, _*_, _≤_, _<_, _^_}
 use mathlib.Core.Path.{_≡_, refl, sym, ap, _∙_, subst}
 use mathlib.Core.Logic.{_⊎_, inl, inr, ⊎-elim, _↔_}
-use mathlib.Core.List.{List, [], _∷_, _++_, map, flatMap, List·Memᴰ, Memᴰ·map, Memᴰ·of-map}
+use mathlib.Core.List.{List, [], _∷_, _++_, map, flatMap, List·Memᴰ, List·Memᴰ·head, Memᴰ·map, Memᴰ·of-map}
 use native.Mathlib.Omega.{arith}
 use native.Mathlib.Nat.{mul-suc, mul-le-mul-left}
 use lib.Dec.{T}
@@ -12,13 +12,14 @@ use lib.IntN.{ℤ, pos, natAbs, negℤ, _+ℤ_, _-ℤ_}
 use lib.ListN.{length}
 use mir.Syntax.{w64}
 use mir.Val.{SFits}
+use Rattle.timing.specs.Lists.{isNil}
 use Rattle.timing.specs.Graphs.{Edge, Graph, edgesIn, edgesOut, startsAt, endsAt, runsTo, runsFrom, delayAlong}
 use Rattle.timing.specs.Times.{largest, smallest, arrivalAt, requiredAt, slackAt, earliestAt}
 use Rattle.timing.specs.Paths.{Best}
 use Rattle.timing.proofs.Ints.{add-is, sub-parts, eq-parts, abs-is, abs-add, abs-neg, sfits-parts}
-use Rattle.theorems.proofs.Lists.{mem-flatMap, of-flatMap}
-use Rattle.theorems.proofs.Runs.{Rising, Leads, Way, mem-in, mem-out, leads-then, leads-last, runs-to, runs-from, way-then}
-use Rattle.theorems.proofs.Extremes.{AtMost, AtLeast, Picks, Some, nil-or-some, nil-none, best-moved, best-on, best-kept, best-unique, best-nested, best-value, larges, smalls, add-keeps, sub-keeps, from-turns}
+use Rattle.theorems.proofs.Lists.{mem-flatMap, of-flatMap, nil-is}
+use Rattle.theorems.proofs.Runs.{Rising, Onward, Leads, Way, mem-in, mem-out, leads-then, leads-last, runs-to, runs-from, way-then}
+use Rattle.theorems.proofs.Extremes.{AtMost, AtLeast, Picks, Some, nil-or-some, nil-none, best-moved, best-on, best-kept, best-unique, best-either, best-nested, best-value, best-append, larges, smalls, add-keeps, sub-keeps, from-turns}
 
 -- the delay of two runs, one after the other
 pub delay-then : (d : ℕ → ℤ) (p q : List Edge) → delayAlong d (p ++ q) ≡ delayAlong d p +ℤ delayAlong d q
@@ -64,7 +65,8 @@ through G c = flatMap (λ p. map (λ q. p ++ q) (runsFrom G (length (G .nodes)) 
 abbrev pub Through : Graph → ℕ → List Edge → Type 0
 Through G c es = (p : List Edge) × (q : List Edge) × To G c p × Way G c q × (es ≡ p ++ q)
 
--- in a graph that rises every copy has a run to it and a run from it, and so a path through it
+-- in a graph that rises every copy has a run to it, and where an edge leads on from every copy at which no path ends, a run from it, and so a
+-- path through it
 module _ (G : Graph) (R : Rising G) where
   -- downward from the copy: k is above it
   to-below : (k c : ℕ) → c < k → (es : List Edge) × To G c es
@@ -79,23 +81,22 @@ module _ (G : Graph) (R : Rising G) where
       (nil-or-some (edgesIn G c))
 
   -- upward from the copy: at most k copies are above it
-  way-above : (k c : ℕ) → length (G .nodes) ≤ c + k → c < length (G .nodes) → (es : List Edge) × Way G c es
-  way-above zero c h l = absurd (omega arith)
-  way-above (suc k) c h l =
+  way-above : Onward G → (k c : ℕ) → length (G .nodes) ≤ c + k → c < length (G .nodes) → (es : List Edge) × Way G c es
+  way-above O zero c h l = absurd (omega arith)
+  way-above O (suc k) c h l =
       ⊎-elim
       (λ s. ([], s))
-      (λ m.
-      let o = mem-out G c (m .0) .0 (m .1) in
-      let p = way-above k (m .0 .end) (omega (arith, R .up (m .0) (o .0), o .1)) (R .inside (m .0) (o .0)) in
-      (m .0 ∷ p .0, way-step G c (m .0) (p .0) (m .1) (p .1)))
-      (nil-or-some (edgesOut G c))
+      (λ o.
+      let p = way-above O k (o .0 .end) (omega (arith, R .up (o .0) (o .1), o .2)) (R .inside (o .0) (o .1)) in
+      (o .0 ∷ p .0, (o .1, o .2, p .1)))
+      (O c l)
 
   module _ (c : ℕ) (here : c < length (G .nodes)) where
     pub runs-to-some : Some (runsTo G (length (G .nodes)) c)
     runs-to-some = let r = to-below (suc c) c (omega arith) in (r .0, runs-to G R c (r .0) here .1 (r .1))
 
-    pub runs-from-some : Some (runsFrom G (length (G .nodes)) c)
-    runs-from-some = let r = way-above (length (G .nodes)) c (omega arith) here in (r .0, runs-from G R c (r .0) here .1 (r .1))
+    pub runs-from-some : Onward G → Some (runsFrom G (length (G .nodes)) c)
+    runs-from-some O = let r = way-above O (length (G .nodes)) c (omega arith) here in (r .0, runs-from G R c (r .0) here .1 (r .1))
 
     pub through-runs : (es : List Edge) → List·Memᴰ es (through G c) ↔ Through G c es
     unfolding through
@@ -110,10 +111,10 @@ module _ (G : Graph) (R : Rising G) where
           (Memᴰ·map (λ q. r .0 ++ q) (runs-from G R c (r .1) here .1 (r .3)))),
     )
 
-    pub through-some : Some (through G c)
-    through-some =
+    pub through-some : Onward G → Some (through G c)
+    through-some O =
         let p = to-below (suc c) c (omega arith) in
-        let q = way-above (length (G .nodes)) c (omega arith) here in
+        let q = way-above O (length (G .nodes)) c (omega arith) here in
         (p .0 ++ q .0, through-runs (p .0 ++ q .0) .1 (p .0, q .0, p .1, q .1, refl))
 
 -- the two sums of a recurrence, and that of slack
@@ -186,21 +187,21 @@ module _ (d : ℕ → ℤ) (t : ℤ) (G : Graph) (R : Rising G) where
   unfolding arrivalAt
   arrival-best = to-best larges add-keeps d G R
 
-  pub required-best : (c : ℕ) → c < length (G .nodes) → Best AtLeast (Way G c) (λ es. t -ℤ delayAlong d es) (requiredAt d t G c)
+  pub required-best : Onward G → (c : ℕ) → c < length (G .nodes) → Best AtLeast (Way G c) (λ es. t -ℤ delayAlong d es) (requiredAt d t G c)
   unfolding requiredAt
-  required-best c here =
-      best-on (λ es. runs-from G R c es here) (best-value smalls (λ es. t -ℤ delayAlong d es) (runsFrom G (length (G .nodes)) c) (runs-from-some G R c here))
+  required-best O c here =
+      best-on (λ es. runs-from G R c es here) (best-value smalls (λ es. t -ℤ delayAlong d es) (runsFrom G (length (G .nodes)) c) (runs-from-some G R c here O))
 
-  pub slack-best : (c : ℕ) → c < length (G .nodes) → Best AtLeast (Through G c) (λ es. t -ℤ delayAlong d es) (slackAt d t G c)
+  pub slack-best : Onward G → (c : ℕ) → c < length (G .nodes) → Best AtLeast (Through G c) (λ es. t -ℤ delayAlong d es) (slackAt d t G c)
   unfolding slackAt
-  slack-best c here =
+  slack-best O c here =
       best-moved
       (best-nested smalls each (best-kept (λ z. requiredAt d t G c -ℤ z) (from-turns (requiredAt d t G c)) (arrival-best c here)))
       (λ pq w. (pq .0 ++ pq .1, (pq .0, pq .1, w .0, w .1, refl), sum (pq .0) (pq .1)))
       (λ es r. ((r .0, r .1), (r .2, r .3), sum (r .0) (r .1) ∙ ap (λ (x : List Edge). t -ℤ delayAlong d x) (sym (r .4))))
     where
       each : (p : List Edge) → To G c p → Best AtLeast (Way G c) (λ q. (t -ℤ delayAlong d q) -ℤ delayAlong d p) (requiredAt d t G c -ℤ delayAlong d p)
-      each p m = best-kept (λ z. z -ℤ delayAlong d p) (λ x y. sub-keeps (delayAlong d p) y x) (required-best c here)
+      each p m = best-kept (λ z. z -ℤ delayAlong d p) (λ x y. sub-keeps (delayAlong d p) y x) (required-best O c here)
 
       sum : (p q : List Edge) → (t -ℤ delayAlong d q) -ℤ delayAlong d p ≡ t -ℤ delayAlong d (p ++ q)
       sum p q = out-sum t (delayAlong d q) (delayAlong d p) ∙ ap (λ (z : ℤ). t -ℤ z) (sym (delay-then d p q))
@@ -211,45 +212,83 @@ module _ (d : ℕ → ℤ) (t : ℤ) (G : Graph) (R : Rising G) where
     unfolding arrivalAt
     arrival-source = to-source larges add-keeps d G R c here
 
-    pub required-end : T (endsAt G c) → requiredAt d t G c ≡ t
-    required-end s = best-unique smalls (required-best c here) (record {
-      at = [];
-      there = s;
-      is = less-none;
-      most = λ es w. ⊎-elim
-          (λ (r : T (endsAt G c) × (es ≡ [])). rw (r .1, less-none) (omega arith))
-          (λ r. absurd (nil-none (edgesOut G c) s (r .0, r .2)))
-          (way-cases G c es w);
-    })
-      where
-        less-none : t -ℤ pos 0 ≡ t
-        less-none = eq-parts _ _ (omega (arith, sub-parts t (pos 0)))
-
     pub arrival-edges : Some (edgesIn G c) → arrivalAt d t G c ≡ largest (map (λ e. arrivalAt d t G (e .start) +ℤ d (e .name)) (edgesIn G c))
     unfolding arrivalAt
     arrival-edges = to-edges larges add-keeps d G R c here
 
-    pub required-edges : Some (edgesOut G c) → requiredAt d t G c ≡ smallest (map (λ e. requiredAt d t G (e .end) -ℤ d (e .name)) (edgesOut G c))
-    required-edges s =
-        best-unique smalls (required-best c here)
-        (best-moved
+  module _ (O : Onward G) (c : ℕ) (here : c < length (G .nodes)) where
+    -- what comes from further on: the ways that begin with an edge
+    onward-best : Some (edgesOut G c)
+        → Best AtLeast (λ es. (e : Edge) × (fs : List Edge) × List·Memᴰ e (edgesOut G c) × Way G (e .end) fs × (es ≡ e ∷ fs)) (λ es. t -ℤ delayAlong d es)
+        (smallest (map (λ e. requiredAt d t G (e .end) -ℤ d (e .name)) (edgesOut G c)))
+    onward-best s =
+        best-moved
         (best-nested smalls each (best-value smalls (λ e. requiredAt d t G (e .end) -ℤ d (e .name)) (edgesOut G c) s))
-        (λ q w. (q .0 ∷ q .1, way-step G c (q .0) (q .1) (w .0) (w .1), out-sum t (delayAlong d (q .1)) (d (q .0 .name))))
-        (λ es w. ⊎-elim
-        (λ r. absurd (nil-none (edgesOut G c) (r .0) s))
-        (λ r. ((r .0, r .1), (r .2, r .3), out-sum t (delayAlong d (r .1)) (d (r .0 .name)) ∙ ap (λ (x : List Edge). t -ℤ delayAlong d x) (sym (r .4))))
-        (way-cases G c es w)))
+        (λ q w. (q .0 ∷ q .1, (q .0, q .1, w .0, w .1, refl), out-sum t (delayAlong d (q .1)) (d (q .0 .name))))
+        (λ es r. ((r .0, r .1), (r .2, r .3), out-sum t (delayAlong d (r .1)) (d (r .0 .name)) ∙ ap (λ (x : List Edge). t -ℤ delayAlong d x) (sym (r .4))))
       where
         each : (e : Edge) → List·Memᴰ e (edgesOut G c) → Best AtLeast (Way G (e .end)) (λ es. (t -ℤ delayAlong d es) -ℤ d (e .name)) (requiredAt d t G (e .end) -ℤ d (e .name))
         each e m =
             let o = mem-out G c e .0 m in
-            best-kept (λ z. z -ℤ d (e .name)) (λ x y. sub-keeps (d (e .name)) y x) (required-best (e .end) (R .inside e (o .0)))
+            best-kept (λ z. z -ℤ d (e .name)) (λ x y. sub-keeps (d (e .name)) y x) (required-best O (e .end) (R .inside e (o .0)))
+
+    -- where no path ends, what comes from further on
+    pub required-edges : (T (endsAt G c) → ⊥) → requiredAt d t G c ≡ smallest (map (λ e. requiredAt d t G (e .end) -ℤ d (e .name)) (edgesOut G c))
+    required-edges none = ⊎-elim (λ s. absurd (none s)) (λ o. go (o .0, mem-out G c (o .0) .1 (o .1, o .2))) (O c here)
+      where
+        go : Some (edgesOut G c) → requiredAt d t G c ≡ smallest (map (λ e. requiredAt d t G (e .end) -ℤ d (e .name)) (edgesOut G c))
+        go s =
+            best-unique smalls (required-best O c here)
+            (best-on
+            (λ es. (
+              λ r. subst (Way G c) (sym (r .4)) (way-step G c (r .0) (r .1) (r .2) (r .3)),
+              λ w. ⊎-elim (λ r. absurd (none (r .0))) (λ r. r) (way-cases G c es w),
+            ))
+            (onward-best s))
+
+    -- "required time at such a copy is T or the smaller figure from further on"
+    pub required-end : T (endsAt G c) → requiredAt d t G c ≡ smallest (map (λ e. requiredAt d t G (e .end) -ℤ d (e .name)) (edgesOut G c) ++ (t ∷ []))
+    required-end s = best-unique smalls (required-best O c here) (⊎-elim nothing more (nil-or-some (edgesOut G c)))
+      where
+        outs : List ℤ
+        outs = map (λ e. requiredAt d t G (e .end) -ℤ d (e .name)) (edgesOut G c)
+
+        less-none : t -ℤ pos 0 ≡ t
+        less-none = eq-parts _ _ (omega (arith, sub-parts t (pos 0)))
+
+        here-best : Best AtLeast (λ es. es ≡ []) (λ es. t -ℤ delayAlong d es) t
+        here-best = record {
+          at = [];
+          there = refl;
+          is = less-none;
+          most = λ es e. rw (e, less-none) (omega arith);
+        }
+
+        nothing : T (isNil (edgesOut G c)) → Best AtLeast (Way G c) (λ es. t -ℤ delayAlong d es) (smallest (outs ++ (t ∷ [])))
+        nothing n =
+            subst (λ (l : List Edge). Best AtLeast (Way G c) (λ es. t -ℤ delayAlong d es) (smallest (map (λ e. requiredAt d t G (e .end) -ℤ d (e .name)) l ++ (t ∷ [])))) (sym (nil-is (edgesOut G c) n))
+            (best-on
+            (λ es. (
+              λ e. subst (Way G c) (sym e) s,
+              λ w. ⊎-elim (λ r. r .1) (λ r. absurd (nil-none (edgesOut G c) n (r .0, r .2))) (way-cases G c es w),
+            ))
+            here-best)
+
+        more : Some (edgesOut G c) → Best AtLeast (Way G c) (λ es. t -ℤ delayAlong d es) (smallest (outs ++ (t ∷ [])))
+        more o =
+            rw (best-append smalls outs (t ∷ []) (requiredAt d t G (o .0 .end) -ℤ d (o .0 .name), Memᴰ·map (λ e. requiredAt d t G (e .end) -ℤ d (e .name)) (o .1)) (t, List·Memᴰ·head refl))
+            (best-on
+            (λ es. (
+              ⊎-elim (λ r. subst (Way G c) (sym (r .4)) (way-step G c (r .0) (r .1) (r .2) (r .3))) (λ e. subst (Way G c) (sym e) s),
+              λ w. ⊎-elim (λ r. inr (r .1)) inl (way-cases G c es w),
+            ))
+            (best-either smalls (onward-best o) here-best))
 
     -- T3: slack is the smallest of T less the delay of a path through the copy
     pub slack-through : slackAt d t G c ≡ smallest (map (λ es. t -ℤ delayAlong d es) (through G c))
     slack-through =
-        best-unique smalls (slack-best c here)
-        (best-on (through-runs G R c here) (best-value smalls (λ es. t -ℤ delayAlong d es) (through G c) (through-some G R c here)))
+        best-unique smalls (slack-best O c here)
+        (best-on (through-runs G R c here) (best-value smalls (λ es. t -ℤ delayAlong d es) (through G c) (through-some G R c here O)))
 
 -- Where no early delay is above the late one, no copy's earliest arrival is above its arrival: some run to the copy has the arrival as its
 -- late delay, and its early delay lies between the two.
@@ -341,27 +380,27 @@ module _ (d : ℕ → ℤ) (t : ℤ) (G : Graph) (R : Rising G) (B : ℕ) (level
     pub earliest-size : natAbs (earliestAt d G c) ≤ B * level c
     earliest-size = to-size c (earliest-best d G R c here)
 
-    pub required-size : natAbs (t -ℤ requiredAt d t G c) ≤ B * (top - level c)
-    required-size = let b = required-best d t G R c here in less-size (b .at) (B * (top - level c)) (b .is) (way-size c (b .at) (b .there))
+    pub required-size : Onward G → natAbs (t -ℤ requiredAt d t G c) ≤ B * (top - level c)
+    required-size O = let b = required-best d t G R O c here in less-size (b .at) (B * (top - level c)) (b .is) (way-size c (b .at) (b .there))
 
     -- slack is T less the delay of a whole path
-    pub slack-size : natAbs (t -ℤ slackAt d t G c) ≤ B * top
-    slack-size =
-        let b = slack-best d t G R c here in
+    pub slack-size : Onward G → natAbs (t -ℤ slackAt d t G c) ≤ B * top
+    slack-size O =
+        let b = slack-best d t G R O c here in
         let p = b .there in
         let w : Way G (p .2 .0) (b .at) = subst (Way G (p .2 .0)) (sym (p .4)) (way-then G (p .2 .0) c (p .0) (p .1) (p .2 .2) (p .3)) in
         less-size (b .at) (B * top) (b .is)
         (omega (arith, way-size (p .2 .0) (b .at) w, mul-le-mul-left {m = top - level (p .2 .0)} {n = top} B (omega arith)))
 
     -- so the times fit signed 64 bits
-    pub times-fit : level c ≤ top → natAbs t + B * top < 2 ^ 63
+    pub times-fit : Onward G → level c ≤ top → natAbs t + B * top < 2 ^ 63
         → SFits w64 (arrivalAt d t G c) × SFits w64 (requiredAt d t G c) × SFits w64 (slackAt d t G c) × SFits w64 (earliestAt d G c)
-    times-fit h room =
+    times-fit O h room =
         let under : B * level c ≤ B * top = mul-le-mul-left B h in
         let below : B * (top - level c) ≤ B * top = mul-le-mul-left B (omega arith) in (
           fits (arrivalAt d t G c) (omega (arith, arrival-size)),
-          fits (requiredAt d t G c) (omega (arith, required-size, abs-near t (requiredAt d t G c))),
-          fits (slackAt d t G c) (omega (arith, slack-size, abs-near t (slackAt d t G c))),
+          fits (requiredAt d t G c) (omega (arith, required-size O, abs-near t (requiredAt d t G c))),
+          fits (slackAt d t G c) (omega (arith, slack-size O, abs-near t (slackAt d t G c))),
           fits (earliestAt d G c) (omega (arith, earliest-size)),
         )
 
@@ -376,11 +415,11 @@ module _ (d : ℕ → ℤ) (t : ℤ) (G : Graph) (R : Rising G) (B : ℕ) (level
     pub earliest-sum-size : natAbs (earliestAt d G (e .start) +ℤ d (e .name)) ≤ B * level (e .end)
     earliest-sum-size = to-sum-size (earliestAt d G (e .start)) (earliest-size (e .start) (omega (arith, R .up e m, R .inside e m)))
 
-    pub required-sum-size : natAbs (t -ℤ (requiredAt d t G (e .end) -ℤ d (e .name))) ≤ B * (top - level (e .start))
-    required-sum-size = subst (λ (z : ℤ). natAbs z ≤ B * (top - level (e .start))) (sum (requiredAt d t G (e .end)) (d (e .name))) (omega (
+    pub required-sum-size : Onward G → natAbs (t -ℤ (requiredAt d t G (e .end) -ℤ d (e .name))) ≤ B * (top - level (e .start))
+    required-sum-size O = subst (λ (z : ℤ). natAbs z ≤ B * (top - level (e .start))) (sum (requiredAt d t G (e .end)) (d (e .name))) (omega (
       arith,
       abs-add (t -ℤ requiredAt d t G (e .end)) (d (e .name)),
-      required-size (e .end) (R .inside e m),
+      required-size (e .end) (R .inside e m) O,
       L .small e m,
       rise B (top - level (e .end)) (top - level (e .start)) (omega (arith, L .rises e m, L .under e m)),
     ))
@@ -388,13 +427,13 @@ module _ (d : ℕ → ℤ) (t : ℤ) (G : Graph) (R : Rising G) (B : ℕ) (level
         sum : (r x : ℤ) → (t -ℤ r) +ℤ x ≡ t -ℤ (r -ℤ x)
         sum r x = eq-parts _ _ (omega (arith, sub-parts t r, add-is (t -ℤ r) x, sub-parts r x, sub-parts t (r -ℤ x)))
 
-    pub sums-fit : natAbs t + B * top < 2 ^ 63
+    pub sums-fit : Onward G → natAbs t + B * top < 2 ^ 63
         → SFits w64 (arrivalAt d t G (e .start) +ℤ d (e .name)) × SFits w64 (requiredAt d t G (e .end) -ℤ d (e .name)) × SFits w64 (earliestAt d G (e .start) +ℤ d (e .name))
-    sums-fit room =
+    sums-fit O room =
         let under : B * level (e .end) ≤ B * top = mul-le-mul-left B (L .under e m) in
         let below : B * (top - level (e .start)) ≤ B * top = mul-le-mul-left B (omega arith) in (
           fits (arrivalAt d t G (e .start) +ℤ d (e .name)) (omega (arith, arrival-sum-size)),
-          fits (requiredAt d t G (e .end) -ℤ d (e .name)) (omega (arith, required-sum-size, abs-near t (requiredAt d t G (e .end) -ℤ d (e .name)))),
+          fits (requiredAt d t G (e .end) -ℤ d (e .name)) (omega (arith, required-sum-size O, abs-near t (requiredAt d t G (e .end) -ℤ d (e .name)))),
           fits (earliestAt d G (e .start) +ℤ d (e .name)) (omega (arith, earliest-sum-size)),
         )
 

@@ -8,15 +8,11 @@ use mathlib.Core.List.{List, [], _∷_, _++_, map, map-append, List·Memᴰ, Lis
 use lib.Dec.{T}
 use lib.IntN.{ℤ}
 use lib.ListN.{length, getD, take, drop}
-use Rattle.timing.specs.Lists.{isNil, keep, upto}
+use Rattle.timing.specs.Lists.{keep, upto}
 use Rattle.timing.specs.Graphs.{Edge, edge, edgesOf}
 use Rattle.theorems.proofs.Sorting.{Sorted}
 use Rattle.theorems.proofs.Lists.{getD-mem}
 use Rattle.theorems.proofs.Extremes.{Some, Picks, best-append}
-
-pub nil-is : {A : Type 0} (l : List A) → T (isNil l) → l ≡ []
-nil-is [] t = refl
-nil-is (x ∷ l) t = absurd t
 
 pub upto-next : (n i : ℕ) → upto (suc n) i ≡ upto n i ++ ((i + n) ∷ [])
 upto-next zero i = let z : i ≡ i + 0 = omega arith in ap (λ (x : ℕ). x ∷ []) z

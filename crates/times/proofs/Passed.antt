@@ -15,16 +15,18 @@ use Rattle.timing.specs.Graphs.{Design, Edge, design}
 use Rattle.timing.specs.WellFormed.{edgeRises, wellFormed}
 use Rattle.timing.specs.Refusals.{_then_}
 use Rattle.timing.specs.Tests.{designSizes, timeSizes, designTests, nodeCount, allowedTest, graphTest}
-use Rattle.timing.specs.Calls.{GraphSlices, graphOf, graphSizes, testTimes}
+use Rattle.timing.specs.Calls.{GraphSlices, graphOf, roomOf, graphSizes, testTimes}
 use Rattle.theorems.proofs.Lists.{and-intro, and-left, and-right, or-cases, holds}
-use Rattle.timing.proofs.Verdicts.{then-passed, unless-passed, same-passed, times-passed}
+use Rattle.timing.proofs.Verdicts.{then-passed, unless-passed, room-passed, times-passed}
 use Rattle.theorems.proofs.Tested.{design-fits, tests-count, no-delays, formed}
+use Rattle.theorems.proofs.Runs.{Onward}
 use Rattle.theorems.proofs.Legal.{wellFormed-legal}
 use Rattle.times.specs.Passes.{delayOf, Fit}
 
 pub record Ready (D : Design) (S : GraphSlices) (t arrivals requireds slacks earliests : ℕ) : Type 0 where
   pub late : Fit (D .late) S
   pub early : Fit (D .early) S
+  pub onward : Onward (graphOf S)
   pub allowed : t ≤ 1000000000
   pub sizes :
       (arrivals ≡ length (S .nodes)) × (requireds ≡ length (S .nodes)) × (slacks ≡ length (S .nodes)) × (earliests ≡ length (S .nodes))
@@ -47,12 +49,12 @@ rises-end e f t =
 graph-fit : (D : Design) (S : GraphSlices) (delays : List ℤ) → ((k : ℕ) → k < length (D .starts) → natAbs (delayOf delays k) ≤ 1000000)
     → designSizes D ≡ Passed → designTests D ≡ Passed → graphSizes S ≡ Passed → T (wellFormed D (graphOf S)) → Fit delays S
 graph-fit D S delays range ds dt gs w =
-    let sizes = same-passed (length (S .starts)) (length (S .ends)) (length (S .names)) gs in
+    let sizes = room-passed (roomOf S) gs in
     let f = formed D (graphOf S) w in
     let r = wellFormed-legal D (graphOf S) ds dt w .rising in
     record {
-      ends = sizes .0;
-      names = sizes .1;
+      ends = sizes .1;
+      names = sizes .2;
       copies = leb→le (length (S .nodes)) 16384 (and-left (leb (length (S .nodes)) 16384) (leb (length (graphOf S .edges)) 65536) (f .few));
       up = r .up;
       inside = r .inside;
@@ -77,6 +79,7 @@ passed-ready D S t a r s e p =
     record {
       late = graph-fit D S (D .late) (f .slow) (p₁ .0) (p₄ .0) (p₂ .0) w;
       early = graph-fit D S (D .early) (f .quick) (p₁ .0) (p₄ .0) (p₂ .0) w;
+      onward = wellFormed-legal D (graphOf S) (p₁ .0) (p₄ .0) w .onward;
       allowed = leb→le t 1000000000 (holds (leb t 1000000000) (unless-passed 25 (leb t 1000000000) (p₅ .0)));
       sizes = times-passed n a r s e (p₃ .0);
     }
@@ -91,15 +94,15 @@ chain Passed Passed Passed (Refused x) t c w f = refl
 chain Passed Passed Passed Passed (Refused x) c w f = refl
 chain Passed Passed Passed Passed Passed c w f = ap (λ (v : Verdict). v then w) (f refl)
 
-pub called-tests : (n : ℕ) (starts ends : List ℕ) (early late : List ℤ) (S : GraphSlices) (t a r s e : ℕ)
-    → let D = design n starts ends early late in
+pub called-tests : (n : ℕ) (starts ends : List ℕ) (early late : List ℤ) (marked : List ℕ) (S : GraphSlices) (t a r s e : ℕ)
+    → let D = design n starts ends early late marked in
     ((((designSizes D then (graphSizes S then timeSizes (length (S .nodes)) a r s e)) then designTests D) then allowedTest t)
-    then (nodeCount n then graphTest (design n starts ends [] []) (graphOf S)))
+    then (nodeCount n then graphTest (design n starts ends [] [] marked) (graphOf S)))
     ≡ testTimes D S t a r s e
 unfolding testTimes
-called-tests n starts ends early late S t a r s e =
-    let D = design n starts ends early late in
-    rw (no-delays n starts ends early late (graphOf S))
+called-tests n starts ends early late marked S t a r s e =
+    let D = design n starts ends early late marked in
+    rw (no-delays n starts ends early late marked (graphOf S))
     (chain (designSizes D) (graphSizes S) (timeSizes (length (S .nodes)) a r s e) (designTests D) (allowedTest t) (nodeCount n) (graphTest D (graphOf S)) (tests-count D))
 
 -- what was made from one verdict is what an equal one makes

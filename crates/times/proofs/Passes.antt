@@ -15,19 +15,19 @@ use lib.Seq.{take-suc, drop-cons, take-all}
 use lib.Signed.{ltZ}
 use borrow.Author.Tests.{eq-eqb, ne-eqb}
 use Rattle.timing.specs.Lists.{keep, upto}
-use Rattle.timing.specs.Graphs.{Edge, edge, Graph, edgesIn, edgesOut, startsAt, endsAt}
+use Rattle.timing.specs.Graphs.{Edge, edge, Graph, endpointOf, edgesIn, edgesOut, startsAt, endsAt, edgesOf, delayAlong}
 use Rattle.timing.specs.Times.{smaller, largest, smallest, arrivalAt, requiredAt, slackAt, earliestAt}
-use Rattle.timing.specs.Calls.{GraphSlices, graphOf}
+use Rattle.timing.specs.Calls.{GraphSlices, graphSlices, graphOf}
 use Rattle.timing.proofs.Ints.{up, sub-parts, abs-is, eq-parts, ltZ-true, ltZ-false}
 use Rattle.theorems.proofs.Sorting.{Sorted}
 use Rattle.theorems.proofs.Counting.{next-sorted}
-use Rattle.theorems.proofs.Lists.{getD-mem}
-use Rattle.theorems.proofs.Runs.{Rising}
+use Rattle.theorems.proofs.Lists.{getD-mem, nil-is}
+use Rattle.theorems.proofs.Runs.{Rising, Onward, mem-out, runs-to-ends}
 use Rattle.theorems.proofs.Extremes.{AtMost, AtLeast, Picks, Some, nil-or-some, larges, smalls}
 use Rattle.theorems.proofs.Times.{Levels, copy-levels, arrival-size, required-size, earliest-size, arrival-source, arrival-edges, required-end, required-edges, earliest-source, earliest-edges}
-use Rattle.times.specs.Passes.{noArrival, noRequired, noEarliest, timeOr, Step, stepped, lowered, delayOf, edgeAt, Fit, Small}
+use Rattle.times.specs.Passes.{noArrival, noRequired, noEarliest, timeOr, firstRequired, Step, stepped, lowered, delayOf, edgeAt, Fit, Small}
 use Rattle.times.proofs.Elements.{size-each, at-each, set-each, each-same}
-use Rattle.times.proofs.Lists.{nil-is, keep-front, keep-back, keep-yes, keep-no, later, earlier, length-edges, getD-edges, best-snoc, best-cons, best-low, best-high}
+use Rattle.times.proofs.Lists.{keep-front, keep-back, keep-yes, keep-no, later, earlier, length-edges, getD-edges, best-snoc, best-cons, best-low, best-high}
 
 -- a time that is there
 or-there : (none first z : ℤ) → (z ≡ none → ⊥) → timeOr none first z ≡ z
@@ -99,7 +99,8 @@ module _ (delays : List ℤ) (S : GraphSlices) where
   earliestAfter = bestAfter smallest noEarliest (earliestAt (delayOf delays) (graphOf S))
 
   abbrev pub requiredFrom : ℕ → ℕ → ℕ → ℤ
-  requiredFrom t k c = smallest (map (overOut t) (keep (λ e. eqb (e .start) c) (drop k (graphOf S .edges))) ++ (noRequired ∷ []))
+  requiredFrom t k c =
+      smallest (map (overOut t) (keep (λ e. eqb (e .start) c) (drop k (graphOf S .edges))) ++ (firstRequired (endpointOf (graphOf S) c) (pos t) ∷ []))
 
 module _ (delays : List ℤ) (S : GraphSlices) (F : Fit delays S) where
   abbrev G : Graph
@@ -290,18 +291,21 @@ module _ (delays : List ℤ) (S : GraphSlices) (F : Fit delays S) where
   arrivals-small = small-each (arrivalAt d (pos 0) (graphOf S)) n (arrivals-pass .small)
 
   -- required times
-  module _ (t : ℕ) (small : t ≤ 1000000000) where
+  module _ (onward : Onward (graphOf S)) (t : ℕ) (small : t ≤ 1000000000) where
     abbrev outSum : Edge → ℤ
     outSum = overOut delays S t
 
     abbrev left : ℕ → ℕ → ℤ
     left = requiredFrom delays S t
 
+    abbrev first : ℕ → ℤ
+    first c = firstRequired (endpointOf (graphOf S) c) (pos t)
+
     required-small : (c : ℕ) → c < n → natAbs (requiredAt d (pos t) (graphOf S) c) ≤ 20000000000
     required-small c h =
         omega (
           arith,
-          required-size d (pos t) (graphOf S) rising 1000000 (λ c. c) (n - 1) levels c h,
+          required-size d (pos t) (graphOf S) rising 1000000 (λ c. c) (n - 1) levels c h onward,
           near (pos t) (requiredAt d (pos t) (graphOf S) c),
           F .copies,
         )
@@ -309,31 +313,31 @@ module _ (delays : List ℤ) (S : GraphSlices) (F : Fit delays S) where
     pub requireds-small : Small (map (requiredAt d (pos t) (graphOf S)) (upto n 0))
     requireds-small = small-each (requiredAt d (pos t) (graphOf S)) n required-small
 
-    settled-required : (c : ℕ) → c < n → timeOr noRequired (pos t) (smallest (map outSum (edgesOut (graphOf S) c) ++ (noRequired ∷ []))) ≡ requiredAt d (pos t) (graphOf S) c
+    -- all edges out of a copy met: T counts where paths end; where none does, what stands for no time is above what comes from further on
+    settled-required : (c : ℕ) → c < n → smallest (map outSum (edgesOut (graphOf S) c) ++ (first c ∷ [])) ≡ requiredAt d (pos t) (graphOf S) c
     unfolding overOut
-    settled-required c h = ⊎-elim none some (nil-or-some (edgesOut (graphOf S) c))
+    settled-required c h = go (endsAt (graphOf S) c) refl
       where
-        none : T (endsAt (graphOf S) c) → timeOr noRequired (pos t) (smallest (map outSum (edgesOut (graphOf S) c) ++ (noRequired ∷ []))) ≡ requiredAt d (pos t) (graphOf S) c
-        none s =
-            ap (λ (l : List Edge). timeOr noRequired (pos t) (smallest (map outSum l ++ (noRequired ∷ [])))) (nil-is (edgesOut (graphOf S) c) s)
-            ∙ sym (required-end d (pos t) (graphOf S) rising c h s)
-
-        some : Some (edgesOut (graphOf S) c) → timeOr noRequired (pos t) (smallest (map outSum (edgesOut (graphOf S) c) ++ (noRequired ∷ []))) ≡ requiredAt d (pos t) (graphOf S) c
-        some s =
-            let e = required-edges d (pos t) (graphOf S) rising c h s in
+        go : (b : Bool) → endsAt (graphOf S) c ≡ b → smallest (map outSum (edgesOut (graphOf S) c) ++ (cond b (pos t) noRequired ∷ [])) ≡ requiredAt d (pos t) (graphOf S) c
+        go true q = sym (required-end d (pos t) (graphOf S) rising onward c h (rw q tt))
+        go false q =
+            let none : T (endsAt (graphOf S) c) → ⊥ = λ e. rw q at e in
+            let e = required-edges d (pos t) (graphOf S) rising onward c h none in
             let l = subst (AtLeast noRequired) e (far-above (requiredAt d (pos t) (graphOf S) c) (required-small c h)) in
-            ap (timeOr noRequired (pos t)) (best-high smalls noRequired (map outSum (edgesOut (graphOf S) c)) (outSum (s .0), Memᴰ·map outSum (s .1)) l ∙ sym e)
-            ∙ or-there noRequired (pos t) (requiredAt d (pos t) (graphOf S) c) (not-above (requiredAt d (pos t) (graphOf S) c) (required-small c h))
+            ⊎-elim
+            (λ s. absurd (none s))
+            (λ o. best-high smalls noRequired (map outSum (edgesOut (graphOf S) c)) (outSum (o .0), Memᴰ·map outSum (mem-out (graphOf S) c (o .0) .1 (o .1, o .2))) l ∙ sym e)
+            (onward c h)
 
     -- what the pass finds at the end of edge k
-    found-required : (k : ℕ) (h : k < length (S .starts)) → timeOr noRequired (pos t) (getD (map (left (k + 1)) (upto n 0)) (getD (S .ends) k 0) (pos 0)) ≡ requiredAt d (pos t) (graphOf S) (getD (S .ends) k 0)
+    found-required : (k : ℕ) (h : k < length (S .starts)) → getD (map (left (k + 1)) (upto n 0)) (getD (S .ends) k 0) (pos 0) ≡ requiredAt d (pos t) (graphOf S) (getD (S .ends) k 0)
     found-required k h =
-        ap (timeOr noRequired (pos t))
-        (at-each (pos 0) (left (k + 1)) n (getD (S .ends) k 0) (end-in k h) ∙ ap (λ (l : List Edge). smallest (map outSum l ++ (noRequired ∷ []))) (out-of-end k h))
+        at-each (pos 0) (left (k + 1)) n (getD (S .ends) k 0) (end-in k h)
+        ∙ ap (λ (l : List Edge). smallest (map outSum l ++ (first (getD (S .ends) k 0) ∷ []))) (out-of-end k h)
         ∙ settled-required (getD (S .ends) k 0) (end-in k h)
 
     pub lowers-in : (k : ℕ) → k < length (S .starts)
-        → Step (timeOr noRequired (pos t)) (map (left (k + 1)) (upto n 0)) (getD (S .ends) k 0) (getD (S .starts) k 0) (d (getD (S .names) k 0))
+        → Step (λ (z : ℤ). z) (map (left (k + 1)) (upto n 0)) (getD (S .ends) k 0) (getD (S .starts) k 0) (d (getD (S .names) k 0))
     lowers-in k h = record {
       from-in = omega (arith, end-in k h, size-each (left (k + 1)) n);
       to-in = omega (arith, start-in k h, size-each (left (k + 1)) n);
@@ -342,45 +346,57 @@ module _ (delays : List ℤ) (S : GraphSlices) (F : Fit delays S) where
     }
 
     pub lowered-next : (k : ℕ) → k < length (S .starts)
-        → lowered (pos t) (map (left (k + 1)) (upto n 0)) (getD (S .starts) k 0) (getD (S .ends) k 0) (d (getD (S .names) k 0)) ≡ map (left k) (upto n 0)
+        → lowered (map (left (k + 1)) (upto n 0)) (getD (S .starts) k 0) (getD (S .ends) k 0) (d (getD (S .names) k 0)) ≡ map (left k) (upto n 0)
     unfolding lowered overOut
     lowered-next k h =
         set-each (pos 0) (left (k + 1)) (left k) n (getD (S .starts) k 0) _ (start-in k h)
         (ap₂ smaller (ap (λ (z : ℤ). z -ℤ d (getD (S .names) k 0)) (found-required k h)) (at-each (pos 0) (left (k + 1)) n (getD (S .starts) k 0) (start-in k h))
-        ∙ sym (best-cons smalls (outSum (edgeAt S k)) (map outSum (keep (at (getD (S .starts) k 0)) (drop (k + 1) (graphOf S .edges)))) noRequired)
-        ∙ ap (λ (l : List Edge). smallest (map outSum l ++ (noRequired ∷ [])))
+        ∙ sym (best-cons smalls (outSum (edgeAt S k)) (map outSum (keep (at (getD (S .starts) k 0)) (drop (k + 1) (graphOf S .edges)))) (first (getD (S .starts) k 0)))
+        ∙ ap (λ (l : List Edge). smallest (map outSum l ++ (first (getD (S .starts) k 0) ∷ [])))
         (sym (ap (keep (at (getD (S .starts) k 0))) (back k h) ∙ ap (λ (b : Bool). cond b (edgeAt S k ∷ keep (at (getD (S .starts) k 0)) (drop (k + 1) (graphOf S .edges))) (keep (at (getD (S .starts) k 0)) (drop (k + 1) (graphOf S .edges)))) (eq-eqb (getD (S .starts) k 0) (getD (S .starts) k 0) refl))))
-        (λ c f. ap (λ (l : List Edge). smallest (map outSum l ++ (noRequired ∷ [])))
+        (λ c f. ap (λ (l : List Edge). smallest (map outSum l ++ (first c ∷ [])))
         (sym (ap (keep (at c)) (back k h) ∙ ap (λ (b : Bool). cond b (edgeAt S k ∷ keep (at c) (drop (k + 1) (graphOf S .edges))) (keep (at c) (drop (k + 1) (graphOf S .edges)))) (ne-eqb (getD (S .starts) k 0) c (λ q. f (sym q))))))
       where
         at : ℕ → Edge → Bool
         at c e = eqb (e .start) c
 
     -- before the first edge, and after the last
-    pub left-none : (k : ℕ) → length (S .starts) ≤ k → map (λ (c : ℕ). noRequired) (upto n 0) ≡ map (left k) (upto n 0)
+    pub left-none : (k : ℕ) → length (S .starts) ≤ k → map first (upto n 0) ≡ map (left k) (upto n 0)
     left-none k h =
-        each-same (pos 0) (λ c. noRequired) (left k) n
-        (λ c l. sym (ap (λ (es : List Edge). smallest (map outSum (keep (λ e. eqb (e .start) c) es) ++ (noRequired ∷ []))) (drop-of-length-le (graphOf S .edges) {i = k} (omega (arith, edges-size)))))
+        each-same (pos 0) first (left k) n
+        (λ c l. sym (ap (λ (es : List Edge). smallest (map outSum (keep (λ e. eqb (e .start) c) es) ++ (first c ∷ []))) (drop-of-length-le (graphOf S .edges) {i = k} (omega (arith, edges-size)))))
 
-    pub requireds-settled : map (λ c. timeOr noRequired (pos t) (getD (map (left 0) (upto n 0)) c (pos 0))) (upto n 0) ≡ map (requiredAt d (pos t) (graphOf S)) (upto n 0)
+    pub requireds-settled : map (left 0) (upto n 0) ≡ map (requiredAt d (pos t) (graphOf S)) (upto n 0)
     unfolding edgesOut
-    requireds-settled =
-        each-same (pos 0) (λ c. timeOr noRequired (pos t) (getD (map (left 0) (upto n 0)) c (pos 0))) (requiredAt d (pos t) (graphOf S)) n
-        (λ c l. ap (timeOr noRequired (pos t)) (at-each (pos 0) (left 0) n c l) ∙ settled-required c l)
+    requireds-settled = each-same (pos 0) (left 0) (requiredAt d (pos t) (graphOf S)) n settled-required
 
--- arrival does not ask T; slack is of the other two
-module _ (delays : List ℤ) (S : GraphSlices) (t : ℕ) where
-  pub arrivals-any : map (arrivalAt (delayOf delays) (pos 0) (graphOf S)) (upto (length (S .nodes)) 0) ≡ map (arrivalAt (delayOf delays) (pos t) (graphOf S)) (upto (length (S .nodes)) 0)
+-- what the passes ask of a graph does not ask where paths end
+pub fit-ends : {delays : List ℤ} {nodes ends fins from to via : List ℕ} → Fit delays (graphSlices nodes ends from to via) → Fit delays (graphSlices nodes fins from to via)
+fit-ends F = record { ends = F .ends; names = F .names; copies = F .copies; up = F .up; inside = F .inside; range = F .range; order = F .order }
+
+-- and neither do arrival and earliest arrival; arrival does not ask T; slack is of the other two
+module _ (delays : List ℤ) (nodes ends from to via : List ℕ) where
+  abbrev bare : GraphSlices
+  bare = graphSlices nodes [] from to via
+
+  abbrev whole : GraphSlices
+  whole = graphSlices nodes ends from to via
+
+  pub arrivals-any : (t : ℕ) → map (arrivalAt (delayOf delays) (pos 0) (graphOf bare)) (upto (length nodes) 0) ≡ map (arrivalAt (delayOf delays) (pos t) (graphOf whole)) (upto (length nodes) 0)
   unfolding arrivalAt
-  arrivals-any = refl
+  arrivals-any t = λ i. map (λ c. largest (map (delayAlong (delayOf delays)) (runs-to-ends nodes [] ends (edgesOf from to via) (length nodes) c i))) (upto (length nodes) 0)
 
-  pub slacks-are : (ats rts : List ℤ) (m : ℕ) → ats ≡ map (arrivalAt (delayOf delays) (pos 0) (graphOf S)) (upto (length (S .nodes)) 0)
-      → rts ≡ map (requiredAt (delayOf delays) (pos t) (graphOf S)) (upto (length (S .nodes)) 0) → m ≡ length (S .nodes)
-      → map (λ c. getD rts c (pos 0) -ℤ getD ats c (pos 0)) (upto m 0) ≡ map (slackAt (delayOf delays) (pos t) (graphOf S)) (upto (length (S .nodes)) 0)
+  pub earliests-any : map (earliestAt (delayOf delays) (graphOf bare)) (upto (length nodes) 0) ≡ map (earliestAt (delayOf delays) (graphOf whole)) (upto (length nodes) 0)
+  unfolding earliestAt
+  earliests-any = λ i. map (λ c. smallest (map (delayAlong (delayOf delays)) (runs-to-ends nodes [] ends (edgesOf from to via) (length nodes) c i))) (upto (length nodes) 0)
+
+  pub slacks-are : (t : ℕ) (ats rts : List ℤ) (m : ℕ) → ats ≡ map (arrivalAt (delayOf delays) (pos t) (graphOf whole)) (upto (length nodes) 0)
+      → rts ≡ map (requiredAt (delayOf delays) (pos t) (graphOf whole)) (upto (length nodes) 0) → m ≡ length nodes
+      → map (λ c. getD rts c (pos 0) -ℤ getD ats c (pos 0)) (upto m 0) ≡ map (slackAt (delayOf delays) (pos t) (graphOf whole)) (upto (length nodes) 0)
   unfolding slackAt
-  slacks-are ats rts m e f q =
+  slacks-are t ats rts m e f q =
       ap (λ (i : ℕ). map (λ c. getD rts c (pos 0) -ℤ getD ats c (pos 0)) (upto i 0)) q
-      ∙ each-same (pos 0) (λ c. getD rts c (pos 0) -ℤ getD ats c (pos 0)) (slackAt (delayOf delays) (pos t) (graphOf S)) (length (S .nodes))
+      ∙ each-same (pos 0) (λ c. getD rts c (pos 0) -ℤ getD ats c (pos 0)) (slackAt (delayOf delays) (pos t) (graphOf whole)) (length nodes)
       (λ c h. ap₂ _-ℤ_
-      (ap (λ (l : List ℤ). getD l c (pos 0)) f ∙ at-each (pos 0) (requiredAt (delayOf delays) (pos t) (graphOf S)) (length (S .nodes)) c h)
-      (ap (λ (l : List ℤ). getD l c (pos 0)) (e ∙ arrivals-any) ∙ at-each (pos 0) (arrivalAt (delayOf delays) (pos t) (graphOf S)) (length (S .nodes)) c h))
+      (ap (λ (l : List ℤ). getD l c (pos 0)) f ∙ at-each (pos 0) (requiredAt (delayOf delays) (pos t) (graphOf whole)) (length nodes) c h)
+      (ap (λ (l : List ℤ). getD l c (pos 0)) e ∙ at-each (pos 0) (arrivalAt (delayOf delays) (pos t) (graphOf whole)) (length nodes) c h))

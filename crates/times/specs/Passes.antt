@@ -3,7 +3,7 @@ use Prim.Native.Nat.{ℕ, _≤_, _<_}
 use mathlib.Core.Path.{_≡_}
 use mathlib.Core.Bool.{cond}
 use mathlib.Core.List.{List, List·Memᴰ}
-use lib.Dec.{T, leb}
+use lib.Dec.{T, eqb, leb}
 use lib.IntN.{ℤ, pos, negsuc, natAbs, _+ℤ_, _-ℤ_}
 use lib.ListN.{length, getD, set}
 use lib.Signed.{ltZ}
@@ -37,9 +37,13 @@ pub record Step (read : ℤ → ℤ) (times : List ℤ) (from to : ℕ) (d : ℤ
 unfoldable pub stepped : (ℤ → ℤ → ℤ) → ℤ → List ℤ → ℕ → ℕ → ℤ → List ℤ
 stepped pick none times a b d = set times b (pick (getD times b (pos 0)) (timeOr none (pos 0) (getD times a (pos 0)) +ℤ d))
 
--- the required times after it
-unfoldable pub lowered : ℤ → List ℤ → ℕ → ℕ → ℤ → List ℤ
-lowered allowed times a b d = set times a (smaller (timeOr noRequired allowed (getD times b (pos 0)) -ℤ d) (getD times a (pos 0)))
+-- the required time of a copy with endpoint number x before any edge is met: T where paths end
+abbrev pub firstRequired : ℕ → ℤ → ℤ
+firstRequired x t = cond (eqb x 1) t noRequired
+
+-- the required times after an edge
+unfoldable pub lowered : List ℤ → ℕ → ℕ → ℤ → List ℤ
+lowered times a b d = set times a (smaller (getD times b (pos 0) -ℤ d) (getD times a (pos 0)))
 
 -- the delay of a design edge
 abbrev pub delayOf : List ℤ → ℕ → ℤ

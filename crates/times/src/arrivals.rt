@@ -1,7 +1,7 @@
 // The arrival and the earliest arrival of every copy, by one pass over the edges: the one is the
 // largest late delay of a path to the copy, the other the smallest early delay.
 ghost use mathlib.Core.Path.{_≡_};
-ghost use mathlib.Core.List.{map};
+ghost use mathlib.Core.List.{[], map};
 ghost use lib.IntN.{pos};
 ghost use lib.ListN.{length, getD};
 ghost use Rattle.timing.specs.Lists.{upto};
@@ -76,7 +76,8 @@ fn pass_edge(
     hasten(earliests, a, b, delay_at(early, name));
 }
 
-// Edges stand by end copy, and rise: where an edge is met, both times at its start are final.
+// Edges stand by end copy, and rise: where an edge is met, both times at its start are final. Where
+// paths end is not asked.
 pub(crate) fn fill_arrivals(
     early: &[i32],
     late: &[i32],
@@ -87,11 +88,11 @@ pub(crate) fn fill_arrivals(
     arrivals: &mut [i64],
     earliests: &mut [i64],
 )
-    requires { let S = graphSlices (now nodes) (now from) (now to) (now via) in
+    requires { let S = graphSlices (now nodes) [] (now from) (now to) (now via) in
         ⌜ Fit (now late) S × Fit (now early) S ⌝ }
     requires { ⌜ (length (now arrivals) ≡ length (now nodes)) × (length (now earliests) ≡ length (now nodes)) ⌝ }
     ensures { λ r.
-        let S = graphSlices (now (nodes .entry)) (now (from .entry)) (now (to .entry)) (now (via .entry)) in
+        let S = graphSlices (now (nodes .entry)) [] (now (from .entry)) (now (to .entry)) (now (via .entry)) in
         let copies = upto (length (S .nodes)) 0 in
         ⌜ (now (arrivals .exit) ≡ map (arrivalAt (delayOf (now (late .entry))) (pos 0) (graphOf S)) copies)
         × (now (earliests .exit) ≡ map (earliestAt (delayOf (now (early .entry))) (graphOf S)) copies) ⌝ }

@@ -9,6 +9,7 @@ ghost use Rattle.timing.specs.Graphs.{design};
 ghost use Rattle.timing.specs.Times.{arrivalAt, requiredAt, slackAt, earliestAt};
 ghost use Rattle.timing.specs.Calls.{graphSlices, graphOf, testTimes};
 ghost use Rattle.timing.specs.Calls.{arrivalsAfter, requiredsAfter, slacksAfter, earliestsAfter};
+ghost use Rattle.theorems.proofs.Runs.{Onward};
 ghost use Rattle.times.specs.Passes.{delayOf, Fit, Small};
 use crate::arrivals::fill_arrivals;
 use crate::numbers::less;
@@ -38,6 +39,7 @@ fn fill_times(
     early: &[i32],
     late: &[i32],
     nodes: &[u32],
+    endpoint: &[u32],
     from: &[u32],
     to: &[u32],
     via: &[u32],
@@ -47,15 +49,16 @@ fn fill_times(
     slacks: &mut [i64],
     earliests: &mut [i64],
 )
-    requires { let S = graphSlices (now nodes) (now from) (now to) (now via) in
-        ⌜ Fit (now late) S × Fit (now early) S × (allowed ≤ 1000000000) ⌝ }
+    requires { let S = graphSlices (now nodes) (now endpoint) (now from) (now to) (now via) in
+        ⌜ Fit (now late) S × Fit (now early) S × Onward (graphOf S) × (allowed ≤ 1000000000) ⌝ }
     requires { let copies = length (now nodes) in
         ⌜ (length (now arrivals) ≡ copies)
         × (length (now requireds) ≡ copies)
         × (length (now slacks) ≡ copies)
         × (length (now earliests) ≡ copies) ⌝ }
     ensures { λ r.
-        let S = graphSlices (now (nodes .entry)) (now (from .entry)) (now (to .entry)) (now (via .entry)) in
+        let S = graphSlices (now (nodes .entry)) (now (endpoint .entry))
+        (now (from .entry)) (now (to .entry)) (now (via .entry)) in
         let delay = delayOf (now (late .entry)) in
         let copies = upto (length (S .nodes)) 0 in
         ⌜ (now (arrivals .exit) ≡ map (arrivalAt delay (pos allowed) (graphOf S)) copies)
@@ -64,7 +67,7 @@ fn fill_times(
         × (now (earliests .exit) ≡ map (earliestAt (delayOf (now (early .entry))) (graphOf S)) copies) ⌝ }
 {
     fill_arrivals(early, late, nodes, from, to, via, arrivals, earliests);
-    fill_requireds(late, nodes, from, to, via, allowed, requireds);
+    fill_requireds(late, nodes, endpoint, from, to, via, allowed, requireds);
     fill_slacks(arrivals, requireds, slacks);
 }
 
@@ -76,8 +79,10 @@ pub(crate) fn times_where(
     ends: &[u32],
     early: &[i32],
     late: &[i32],
+    marked: &[u32],
     allowed: u32,
     nodes: &[u32],
+    endpoint: &[u32],
     from: &[u32],
     to: &[u32],
     via: &[u32],
@@ -86,13 +91,15 @@ pub(crate) fn times_where(
     slacks: &mut [i64],
     earliests: &mut [i64],
 ) -> Verdict
-    requires { let D = design n (now starts) (now ends) (now early) (now late) in
-        let S = graphSlices (now nodes) (now from) (now to) (now via) in
+    requires { let D = design n (now starts) (now ends) (now early) (now late) (now marked) in
+        let S = graphSlices (now nodes) (now endpoint) (now from) (now to) (now via) in
         ⌜ tested ≡ testTimes D S allowed
         (length (now arrivals)) (length (now requireds)) (length (now slacks)) (length (now earliests)) ⌝ }
     ensures { λ r.
-        let D = design n (now (starts .entry)) (now (ends .entry)) (now (early .entry)) (now (late .entry)) in
-        let S = graphSlices (now (nodes .entry)) (now (from .entry)) (now (to .entry)) (now (via .entry)) in
+        let D = design n (now (starts .entry)) (now (ends .entry))
+        (now (early .entry)) (now (late .entry)) (now (marked .entry)) in
+        let S = graphSlices (now (nodes .entry)) (now (endpoint .entry))
+        (now (from .entry)) (now (to .entry)) (now (via .entry)) in
         ⌜ (r ≡ tested)
         × (now (arrivals .exit) ≡ arrivalsAfter D S allowed tested (now (arrivals .entry)))
         × (now (requireds .exit) ≡ requiredsAfter D S allowed tested (now (requireds .entry)))
@@ -105,6 +112,7 @@ pub(crate) fn times_where(
                 early,
                 late,
                 nodes,
+                endpoint,
                 from,
                 to,
                 via,

@@ -30,16 +30,18 @@ use timing::NodeRecord;
 use timing::Verdict;
 
 // The arrival, the required time, the slack and the earliest arrival of every copy of a true graph
-// (`from`, `to`, `via`: the start copies, end copies and design edges of its edges). A refusal
-// changes nothing.
+// (`endpoint`: 1 for the copies where paths end; `from`, `to`, `via`: the start copies, end copies
+// and design edges of its edges). A refusal changes nothing.
 pub fn times(
     n: u32,
     starts: &[u32],
     ends: &[u32],
     early: &[i32],
     late: &[i32],
+    marked: &[u32],
     allowed: u32,
     nodes: &[u32],
+    endpoint: &[u32],
     from: &[u32],
     to: &[u32],
     via: &[u32],
@@ -49,8 +51,10 @@ pub fn times(
     earliests: &mut [i64],
 ) -> Verdict
     ensures { λ r.
-        let D = design n (now (starts .entry)) (now (ends .entry)) (now (early .entry)) (now (late .entry)) in
-        let S = graphSlices (now (nodes .entry)) (now (from .entry)) (now (to .entry)) (now (via .entry)) in
+        let D = design n (now (starts .entry)) (now (ends .entry))
+        (now (early .entry)) (now (late .entry)) (now (marked .entry)) in
+        let S = graphSlices (now (nodes .entry)) (now (endpoint .entry))
+        (now (from .entry)) (now (to .entry)) (now (via .entry)) in
         let tested = testTimes D S allowed
         (length (now (arrivals .entry))) (length (now (requireds .entry)))
         (length (now (slacks .entry))) (length (now (earliests .entry))) in
@@ -66,8 +70,10 @@ pub fn times(
         ends,
         early,
         late,
+        marked,
         allowed,
         nodes,
+        endpoint,
         from,
         to,
         via,
@@ -83,8 +89,10 @@ pub fn times(
         ends,
         early,
         late,
+        marked,
         allowed,
         nodes,
+        endpoint,
         from,
         to,
         via,

@@ -1,9 +1,10 @@
 // What the three calls test, in document 01's order.
 ghost use mathlib.Core.Path.{_≡_};
 ghost use Prim.Native.Nat.{ℕ};
+ghost use mathlib.Core.List.{List};
 ghost use lib.ListN.{length};
 ghost use Rattle.timing.specs.Refusals.{_then_};
-ghost use Rattle.timing.specs.Tests.{sameSizes, designSizes, timeSizes, nodeCount};
+ghost use Rattle.timing.specs.Tests.{sameSizes, designSizes, timeSizes, nodeCount, roomSizes};
 ghost use Rattle.timing.specs.Graphs.{design};
 ghost use Rattle.timing.specs.Calls.{graphSlices, testTimes};
 use design::and_design_tests;
@@ -12,6 +13,7 @@ use sizes::design_sizes;
 use sizes::time_sizes;
 use timing::Verdict;
 use verdicts::and_unless;
+use verdicts::graph_sizes;
 use verdicts::same_sizes;
 use verdicts::then;
 use verdicts::unless;
@@ -24,6 +26,7 @@ fn times_sizes(
     early: &[i32],
     late: &[i32],
     copies: usize,
+    endpoint: usize,
     from: &[u32],
     to: &[u32],
     via: &[u32],
@@ -33,16 +36,22 @@ fn times_sizes(
     earliests: usize,
 ) -> Verdict
     ensures { λ r.
-        let edges = sameSizes (length (now (from .entry))) (length (now (to .entry))) (length (now (via .entry))) in
+        let graph = roomSizes (record {
+          nodes = copies;
+          endpoints = endpoint;
+          starts = length (now (from .entry));
+          ends = length (now (to .entry));
+          names = length (now (via .entry));
+        }) in
         let lent = timeSizes copies arrivals requireds slacks earliests in
-        ⌜ ((n : ℕ)
-        → let D = design n (now (starts .entry)) (now (ends .entry)) (now (early .entry)) (now (late .entry)) in
-        r ≡ (designSizes D then edges then lent)) ⌝ }
+        ⌜ ((n : ℕ) (marked : List ℕ)
+        → let D = design n (now (starts .entry)) (now (ends .entry)) (now (early .entry)) (now (late .entry)) marked in
+        r ≡ (designSizes D then graph then lent)) ⌝ }
 {
     let first = design_sizes(starts, ends, early, late);
-    let joined = same_sizes(from.len(), to.len(), via.len());
+    let graph = graph_sizes(copies, endpoint, from.len(), to.len(), via.len());
     let lent = time_sizes(copies, arrivals, requireds, slacks, earliests);
-    then(first, then(joined, lent))
+    then(first, then(graph, lent))
 }
 
 pub(crate) fn times_tests(
@@ -51,8 +60,10 @@ pub(crate) fn times_tests(
     ends: &[u32],
     early: &[i32],
     late: &[i32],
+    marked: &[u32],
     allowed: u32,
     nodes: &[u32],
+    endpoint: &[u32],
     from: &[u32],
     to: &[u32],
     via: &[u32],
@@ -62,8 +73,10 @@ pub(crate) fn times_tests(
     earliests: usize,
 ) -> Verdict
     ensures { λ r.
-        let D = design n (now (starts .entry)) (now (ends .entry)) (now (early .entry)) (now (late .entry)) in
-        let S = graphSlices (now (nodes .entry)) (now (from .entry)) (now (to .entry)) (now (via .entry)) in
+        let D = design n (now (starts .entry)) (now (ends .entry))
+        (now (early .entry)) (now (late .entry)) (now (marked .entry)) in
+        let S = graphSlices (now (nodes .entry)) (now (endpoint .entry))
+        (now (from .entry)) (now (to .entry)) (now (via .entry)) in
         ⌜ r ≡ testTimes D S allowed arrivals requireds slacks earliests ⌝ }
 {
     let sizes = times_sizes(
@@ -72,6 +85,7 @@ pub(crate) fn times_tests(
         early,
         late,
         nodes.len(),
+        endpoint.len(),
         from,
         to,
         via,
@@ -80,9 +94,20 @@ pub(crate) fn times_tests(
         slacks,
         earliests,
     );
-    let fit = and_design_tests(sizes, n, starts, ends, early, late);
+    let fit = and_design_tests(sizes, n, starts, ends, early, late, marked);
     let within = and_unless(fit, 25, allowed <= timing::MAX_ALLOWED_TIME);
-    and_graph_test(within, n, starts, ends, nodes, from, to, via)
+    and_graph_test(
+        within,
+        n,
+        starts,
+        ends,
+        marked,
+        nodes,
+        endpoint,
+        from,
+        to,
+        via,
+    )
 }
 
 pub(crate) fn record_tests(

@@ -1,7 +1,8 @@
 // Finds the times of the graphs on standard input, and the records of their nodes, and prints them.
 // The input is two blocks of 65,536 bytes, each of packed numbers: a count of cases, and for each n, T, a
-// node, the lengths of the four slices for times and of the five for records, and then eight slices:
-// starts, ends, early and late delays, the nodes of the copies, start copies, end copies, design edges.
+// node, the lengths of the four slices for times and of the five for records, and then ten slices:
+// starts, ends, early and late delays, marked nodes, the nodes and the endpoint numbers of the copies,
+// start copies, end copies, design edges.
 // Crate `cases` says how a slice is packed; here each has a rise, so that a chain takes few bytes.
 mod input;
 mod say;
@@ -111,7 +112,9 @@ fn ask_and_say(
     ends: &[u32],
     early: &[i32],
     late: &[i32],
+    marked: &[u32],
     nodes: &[u32],
+    endpoint: &[u32],
     from: &[u32],
     to: &[u32],
     via: &[u32],
@@ -126,8 +129,10 @@ fn ask_and_say(
         ends,
         early,
         late,
+        marked,
         q.allowed,
         nodes,
+        endpoint,
         from,
         to,
         via,
@@ -147,7 +152,9 @@ fn ask(
     ends: &[u32],
     early: &[i32],
     late: &[i32],
+    marked: &[u32],
     nodes: &[u32],
+    endpoint: &[u32],
     from: &[u32],
     to: &[u32],
     via: &[u32],
@@ -167,7 +174,9 @@ fn ask(
         ends,
         early,
         late,
+        marked,
         nodes,
+        endpoint,
         from,
         to,
         via,
@@ -188,15 +197,18 @@ fn graph_of(
     ends: &[u32],
     early: &[i32],
     late: &[i32],
+    marked: &[u32],
 ) -> usize {
     let mut nodes = [0u32; 4200];
+    let mut endpoint = [0u32; 4200];
     let mut from = [0u32; 4200];
     let mut to = [0u32; 4200];
     let mut via = [0u32; 4200];
     let a = fill_rising(s, at, &mut nodes);
-    let b = fill_rising(s, a.next, &mut from);
-    let c = fill_rising(s, b.next, &mut to);
-    let d = fill_rising(s, c.next, &mut via);
+    let b = fill_rising(s, a.next, &mut endpoint);
+    let c = fill_rising(s, b.next, &mut from);
+    let d = fill_rising(s, c.next, &mut to);
+    let e = fill_rising(s, d.next, &mut via);
     ask(
         q,
         p,
@@ -204,12 +216,14 @@ fn graph_of(
         ends,
         early,
         late,
+        marked,
         front(&nodes, a.len),
-        front(&from, b.len),
-        front(&to, c.len),
-        front(&via, d.len),
+        front(&endpoint, b.len),
+        front(&from, c.len),
+        front(&to, d.len),
+        front(&via, e.len),
     );
-    d.next
+    e.next
 }
 
 // The same, with the case at the place.
@@ -220,19 +234,22 @@ fn case(s: &[u8], at: usize) -> usize {
     let mut ends = [0u32; 4200];
     let mut early = [0i32; 4200];
     let mut late = [0i32; 4200];
+    let mut marked = [0u32; 4200];
     let a = fill_rising(s, p.next, &mut starts);
     let b = fill_rising(s, a.next, &mut ends);
     let c = fill_delays(s, b.next, &mut early);
     let d = fill_delays(s, c.next, &mut late);
+    let e = fill_rising(s, d.next, &mut marked);
     graph_of(
         s,
-        d.next,
+        e.next,
         q,
         p,
         front(&starts, a.len),
         front(&ends, b.len),
         front_delays(&early, c.len),
         front_delays(&late, d.len),
+        front(&marked, e.len),
     )
 }
 

@@ -1,6 +1,7 @@
 -- The marked cases of document 01, M1 to M10, and rows that shut out wrong definitions which M1 to M10 would let
 -- through: one table and one claim, shown by computing the definitions. Made by tests/marked_table.py: every result
--- is the walker's. "Deck A and the marked cases take early equal to late" (02, request 1).
+-- is the walker's. "Deck A and the marked cases take early equal to late" (02, request 1). *Marked* cases are document 01's word; marked nodes
+-- are those of 02, request 6.
 use Prim.Native.Nat.{ℕ, suc}
 use mathlib.Core.Path.{_≡_, refl}
 use mathlib.Core.List.{List, [], _∷_, map, flatMap}
@@ -16,17 +17,18 @@ use Rattle.timing.specs.Lists.{upto}
 use Rattle.timing.specs.Graphs.{Design, design, edge, Graph, graph, designGraph, edgesIn, edgesOut}
 use Rattle.timing.specs.Graphs.{runsTo, runsFrom, completeRuns}
 use Rattle.timing.specs.Marks.{PathList, pathList, pathsOf, permitted, tails, mark}
-use Rattle.timing.specs.TrueGraphs.{permittedRuns, copies, joins, trueGraph}
+use Rattle.timing.specs.TrueGraphs.{permittedRuns, copies, pathEnds, joins, trueGraph}
 use Rattle.timing.specs.WellFormed.{wellFormed}
 use Rattle.timing.specs.Times.{arrivalAt, requiredAt, slackAt, earliestAt, nodeTimes}
 use Rattle.timing.specs.Numbers.{packedIn, packed, groupsIn, readNumber, writeAnswer, writtenRoom}
-use Rattle.timing.specs.Decks.{Deck, readDeck}
-use Rattle.timing.specs.GraphBytes.{graphNumbers, packedGraph}
+use Rattle.timing.specs.Decks.{Deck, deckNumbers, packedDeck, readDeck}
+use Rattle.timing.specs.GraphBytes.{graphNumbers, packedGraph, readGraph}
 use Rattle.timing.specs.Refusals.{refusal, refusalWithin}
 use Rattle.timing.specs.Tests.{Room, designTests, listTests, candidates, scratchTest, roomTests}
-use Rattle.timing.specs.Calls.{Outcome, made, refused, Removal, removal, slicesOf, testDeck}
+use Rattle.timing.specs.Calls.{GraphSlices, graphSlices, slicesOf, Outcome, made, refused, Removal, removal, testDeck}
 use Rattle.timing.specs.Calls.{testTimes, arrivalsAfter, requiredsAfter, slacksAfter, earliestsAfter, testRecords, deckRead}
 use Rattle.timing.specs.Calls.{removeFromDesign, removeFromGraph, programRemoval, program, cCall, cRoom}
+use Rattle.timing.specs.Calls.{deckWriteTests, graphWriteTests, graphRead}
 
 -- the graph after some lists are removed in turn
 abbrev pub removed : Graph → List PathList → Graph
@@ -47,12 +49,20 @@ pub data Fact : Type 0 where
   readerAnswers : List ℕ → List ℕ → Verdict → Fact
   timesAnswer : Design → Graph → ℕ → List ℕ → Verdict → Fact
   recordsAnswer : ℕ → Graph → List ℕ → List ℕ → Verdict → Fact
+  packedDeckIs : Design → PathList → ℕ → List ℕ → Fact
+  deckWriterAnswers : Design → PathList → ℕ → Verdict → Fact
+  graphReadIs : List ℕ → Room → Outcome Graph → Fact
+  graphWriterAnswers : GraphSlices → Verdict → Fact
 
 abbrev pub zeros : ℕ → List ℕ
 zeros n = map (λ i. 0) (upto n 0)
 
-abbrev pub room : ℕ → ℕ → ℕ → ℕ → Room
-room nodes from to via = record { nodes = nodes; starts = from; ends = to; names = via }
+abbrev pub room : ℕ → ℕ → ℕ → ℕ → ℕ → Room
+room nodes endpoint from to via =
+    record { nodes = nodes; endpoints = endpoint; starts = from; ends = to; names = via }
+
+abbrev deck : Design → PathList → ℕ → Deck
+deck D L T = record { design = D; list = L; allowed = T }
 
 -- f of the four slices that `times` fills for the copies of R
 abbrev ofTimes : {A : Type 0} → Design → ℕ → Graph → (List ℤ → List ℤ → List ℤ → List ℤ → A) → A
@@ -93,11 +103,15 @@ Holds (cRoomIs s n bs) = cRoom s (zeros n) ≡ bs
 Holds (packedIs x bs) = packed x ≡ bs
 Holds (readIs bs r) = readNumber bs 0 ≡ r
 Holds (readerAnswers s ls v) =
-    verdictIn (deckRead s (lent ls 0) (lent ls 1) (lent ls 2) (lent ls 3) (lent ls 4) (lent ls 5)) ≡ v
+    verdictIn (deckRead s (lent ls 0) (lent ls 1) (lent ls 2) (lent ls 3) (lent ls 4) (lent ls 5) (lent ls 6)) ≡ v
 Holds (timesAnswer D G T ls v) = testTimes D (slicesOf G) T (lent ls 0) (lent ls 1) (lent ls 2) (lent ls 3) ≡ v
 Holds (recordsAnswer n G ls ps v) =
     testRecords n (G .nodes) (slice ls 0) (slice ls 1) (slice ls 2) (slice ls 3)
     (lent ps 0) (lent ps 1) (lent ps 2) (lent ps 3) (lent ps 4) ≡ v
+Holds (packedDeckIs D L T bs) = packedDeck (deck D L T) ≡ bs
+Holds (deckWriterAnswers D L T v) = deckWriteTests (deck D L T) ≡ v
+Holds (graphReadIs s R o) = graphRead s R ≡ o
+Holds (graphWriterAnswers S v) = graphWriteTests S ≡ v
 
 infixr 4 _also_
 pub data All : List Fact → Type 0 where
@@ -108,105 +122,137 @@ pub data All : List Fact → Type 0 where
 abbrev pub deckA : Design
 deckA =
     design 5 (0 ∷ 1 ∷ 2 ∷ 2 ∷ []) (2 ∷ 2 ∷ 3 ∷ 4 ∷ []) (pos 3 ∷ pos 5 ∷ pos 2 ∷ pos 1 ∷ [])
-    (pos 3 ∷ pos 5 ∷ pos 2 ∷ pos 1 ∷ [])
+    (pos 3 ∷ pos 5 ∷ pos 2 ∷ pos 1 ∷ []) []
 
 abbrev pub listA : PathList
 listA = pathList (1 ∷ 2 ∷ []) (2 ∷ [])
 
 abbrev pub graphA : Graph
-graphA = graph (0 ∷ 1 ∷ 2 ∷ 2 ∷ 3 ∷ 4 ∷ []) (edge 0 2 0 ∷ edge 1 2 1 ∷ edge 0 3 0 ∷ edge 3 4 2 ∷ edge 2 5 3 ∷ [])
+graphA =
+    graph (0 ∷ 1 ∷ 2 ∷ 2 ∷ 3 ∷ 4 ∷ []) (0 ∷ 0 ∷ 0 ∷ 0 ∷ 1 ∷ 1 ∷ [])
+    (edge 0 2 0 ∷ edge 1 2 1 ∷ edge 0 3 0 ∷ edge 3 4 2 ∷ edge 2 5 3 ∷ [])
 
 abbrev pub bytesA : List ℕ
-bytesA = 5 ∷ 4 ∷ 0 ∷ 2 ∷ 6 ∷ 6 ∷ 1 ∷ 2 ∷ 10 ∷ 10 ∷ 2 ∷ 3 ∷ 4 ∷ 4 ∷ 2 ∷ 4 ∷ 2 ∷ 2 ∷ 1 ∷ 2 ∷ 1 ∷ 2 ∷ 10 ∷ []
+bytesA = 5 ∷ 4 ∷ 0 ∷ 2 ∷ 6 ∷ 6 ∷ 1 ∷ 2 ∷ 10 ∷ 10 ∷ 2 ∷ 3 ∷ 4 ∷ 4 ∷ 2 ∷ 4 ∷ 2 ∷ 2 ∷ 1 ∷ 2 ∷ 1 ∷ 2 ∷ 0 ∷ 10 ∷ []
+
+-- Deck A with some nodes marked, and its true graph with other endpoint numbers.
+abbrev pub marking : List ℕ → Design
+marking marked = design (deckA .nodes) (deckA .starts) (deckA .ends) (deckA .early) (deckA .late) marked
+
+abbrev pub ending : List ℕ → Graph
+ending endpoints = graph (graphA .nodes) endpoints (graphA .edges)
 
 -- The other designs, lists and graphs that rows are about.
 abbrev pub noPaths : PathList
 noPaths = pathList [] []
 
 abbrev pub noNodes : Design
-noNodes = design 0 [] [] [] []
+noNodes = design 0 [] [] [] [] []
 
 abbrev pub oneNode : Design
-oneNode = design 1 [] [] [] []
+oneNode = design 1 [] [] [] [] []
 
 abbrev pub chain : Design
-chain = design 3 (0 ∷ 1 ∷ []) (1 ∷ 2 ∷ []) (pos 1 ∷ pos 1 ∷ []) (pos 1 ∷ pos 1 ∷ [])
+chain = design 3 (0 ∷ 1 ∷ []) (1 ∷ 2 ∷ []) (pos 1 ∷ pos 1 ∷ []) (pos 1 ∷ pos 1 ∷ []) []
 
 abbrev pub designM8 : Design
 designM8 =
     design 6 (0 ∷ 1 ∷ 2 ∷ 3 ∷ 4 ∷ 3 ∷ []) (2 ∷ 2 ∷ 3 ∷ 4 ∷ 5 ∷ 5 ∷ [])
-    (pos 1 ∷ pos 1 ∷ pos 1 ∷ pos 1 ∷ pos 1 ∷ pos 1 ∷ []) (pos 1 ∷ pos 1 ∷ pos 1 ∷ pos 1 ∷ pos 1 ∷ pos 1 ∷ [])
+    (pos 1 ∷ pos 1 ∷ pos 1 ∷ pos 1 ∷ pos 1 ∷ pos 1 ∷ []) (pos 1 ∷ pos 1 ∷ pos 1 ∷ pos 1 ∷ pos 1 ∷ pos 1 ∷ []) []
 
 abbrev pub listM8 : PathList
 listM8 = pathList (0 ∷ 2 ∷ 3 ∷ 1 ∷ 2 ∷ 3 ∷ 4 ∷ []) (3 ∷ 4 ∷ [])
 
 abbrev pub designM9 : Design
-designM9 = design 2 (0 ∷ []) (1 ∷ []) (negsuc 3 ∷ []) (negsuc 3 ∷ [])
+designM9 = design 2 (0 ∷ []) (1 ∷ []) (negsuc 3 ∷ []) (negsuc 3 ∷ []) []
 
 -- two edges for each step of a chain
 abbrev pub parallel : Design
 parallel =
     design 4 (0 ∷ 0 ∷ 1 ∷ 1 ∷ 2 ∷ 2 ∷ []) (1 ∷ 1 ∷ 2 ∷ 2 ∷ 3 ∷ 3 ∷ [])
-    (pos 1 ∷ pos 2 ∷ pos 1 ∷ pos 2 ∷ pos 1 ∷ pos 2 ∷ []) (pos 1 ∷ pos 2 ∷ pos 1 ∷ pos 2 ∷ pos 1 ∷ pos 2 ∷ [])
+    (pos 1 ∷ pos 2 ∷ pos 1 ∷ pos 2 ∷ pos 1 ∷ pos 2 ∷ []) (pos 1 ∷ pos 2 ∷ pos 1 ∷ pos 2 ∷ pos 1 ∷ pos 2 ∷ []) []
 
 -- two ways from node 2 to node 4, by one edge and by two
 abbrev pub twoLengths : Design
 twoLengths =
     design 5 (0 ∷ 1 ∷ 2 ∷ 3 ∷ 2 ∷ []) (2 ∷ 2 ∷ 3 ∷ 4 ∷ 4 ∷ []) (pos 1 ∷ pos 1 ∷ pos 1 ∷ pos 1 ∷ pos 1 ∷ [])
-    (pos 1 ∷ pos 1 ∷ pos 1 ∷ pos 1 ∷ pos 1 ∷ [])
+    (pos 1 ∷ pos 1 ∷ pos 1 ∷ pos 1 ∷ pos 1 ∷ []) []
 
 -- node 1 has no edge
 abbrev pub isolated : Design
-isolated = design 3 (0 ∷ []) (2 ∷ []) (pos 1 ∷ []) (pos 1 ∷ [])
+isolated = design 3 (0 ∷ []) (2 ∷ []) (pos 1 ∷ []) (pos 1 ∷ []) []
 
 abbrev pub forked : Design
-forked = design 4 (0 ∷ 1 ∷ 1 ∷ []) (1 ∷ 2 ∷ 3 ∷ []) (pos 0 ∷ pos 0 ∷ pos 0 ∷ []) (pos 0 ∷ pos 0 ∷ pos 0 ∷ [])
+forked = design 4 (0 ∷ 1 ∷ 1 ∷ []) (1 ∷ 2 ∷ 3 ∷ []) (pos 0 ∷ pos 0 ∷ pos 0 ∷ []) (pos 0 ∷ pos 0 ∷ pos 0 ∷ []) []
 
 -- of it: two copies of the source; and the same with its first two edges exchanged
 abbrev pub splitSource : Graph
-splitSource = graph (0 ∷ 0 ∷ 1 ∷ 1 ∷ 2 ∷ 3 ∷ []) (edge 0 2 0 ∷ edge 1 3 0 ∷ edge 2 4 1 ∷ edge 3 5 2 ∷ [])
+splitSource =
+    graph (0 ∷ 0 ∷ 1 ∷ 1 ∷ 2 ∷ 3 ∷ []) (0 ∷ 0 ∷ 0 ∷ 0 ∷ 1 ∷ 1 ∷ [])
+    (edge 0 2 0 ∷ edge 1 3 0 ∷ edge 2 4 1 ∷ edge 3 5 2 ∷ [])
 
 abbrev pub outOfOrder : Graph
-outOfOrder = graph (0 ∷ 0 ∷ 1 ∷ 1 ∷ 2 ∷ 3 ∷ []) (edge 1 3 0 ∷ edge 0 2 0 ∷ edge 2 4 1 ∷ edge 3 5 2 ∷ [])
+outOfOrder =
+    graph (0 ∷ 0 ∷ 1 ∷ 1 ∷ 2 ∷ 3 ∷ []) (0 ∷ 0 ∷ 0 ∷ 0 ∷ 1 ∷ 1 ∷ [])
+    (edge 1 3 0 ∷ edge 0 2 0 ∷ edge 2 4 1 ∷ edge 3 5 2 ∷ [])
 
 -- edge 0 falls; and with it an edge to a node that is not there
 abbrev pub falling : Design
-falling = design 2 (1 ∷ []) (0 ∷ []) (pos 0 ∷ []) (pos 0 ∷ [])
+falling = design 2 (1 ∷ []) (0 ∷ []) (pos 0 ∷ []) (pos 0 ∷ []) []
 
 abbrev pub fallingAndUnknown : Design
-fallingAndUnknown = design 2 (1 ∷ 0 ∷ []) (0 ∷ 2 ∷ []) (pos 0 ∷ pos 0 ∷ []) (pos 0 ∷ pos 0 ∷ [])
+fallingAndUnknown = design 2 (1 ∷ 0 ∷ []) (0 ∷ 2 ∷ []) (pos 0 ∷ pos 0 ∷ []) (pos 0 ∷ pos 0 ∷ []) []
 
 -- into node 3 the latest edge, the one of the smallest late delay, and the earliest
 abbrev pub joined : Design
 joined =
     design 5 (0 ∷ 1 ∷ 2 ∷ 3 ∷ []) (3 ∷ 3 ∷ 3 ∷ 4 ∷ []) (pos 2 ∷ pos 1 ∷ negsuc 4 ∷ pos 1 ∷ [])
-    (pos 9 ∷ pos 3 ∷ pos 6 ∷ pos 2 ∷ [])
+    (pos 9 ∷ pos 3 ∷ pos 6 ∷ pos 2 ∷ []) []
 
 -- decks/hold.txt
 abbrev pub hold : Design
 hold =
     design 5 (0 ∷ 1 ∷ 0 ∷ 2 ∷ 2 ∷ []) (1 ∷ 2 ∷ 2 ∷ 3 ∷ 4 ∷ []) (pos 60 ∷ pos 10 ∷ pos 10 ∷ pos 5 ∷ pos 8 ∷ [])
-    (pos 90 ∷ pos 15 ∷ pos 15 ∷ pos 10 ∷ pos 12 ∷ [])
+    (pos 90 ∷ pos 15 ∷ pos 15 ∷ pos 10 ∷ pos 12 ∷ []) []
 
 abbrev pub listHold : PathList
 listHold = pathList (2 ∷ 3 ∷ []) (2 ∷ [])
 
 -- 15 at edge 0; at edge 1, with delays below 0; at edge 0, with 14 and with 13 at edge 1
 abbrev pub earlyAbove : Design
-earlyAbove = design 2 (0 ∷ []) (1 ∷ []) (pos 5 ∷ []) (pos 4 ∷ [])
+earlyAbove = design 2 (0 ∷ []) (1 ∷ []) (pos 5 ∷ []) (pos 4 ∷ []) []
 
 abbrev pub earlyAboveBelowZero : Design
-earlyAboveBelowZero = design 2 (0 ∷ 0 ∷ []) (1 ∷ 1 ∷ []) (negsuc 4 ∷ negsuc 3 ∷ []) (negsuc 3 ∷ negsuc 4 ∷ [])
+earlyAboveBelowZero = design 2 (0 ∷ 0 ∷ []) (1 ∷ 1 ∷ []) (negsuc 4 ∷ negsuc 3 ∷ []) (negsuc 3 ∷ negsuc 4 ∷ []) []
 
 abbrev pub earlyAboveAndFar : Design
-earlyAboveAndFar = design 2 (0 ∷ 0 ∷ []) (1 ∷ 1 ∷ []) (pos 5 ∷ pos 0 ∷ []) (pos 4 ∷ pos 1000001 ∷ [])
+earlyAboveAndFar = design 2 (0 ∷ 0 ∷ []) (1 ∷ 1 ∷ []) (pos 5 ∷ pos 0 ∷ []) (pos 4 ∷ pos 1000001 ∷ []) []
 
 abbrev pub earlyAboveAndFalling : Design
-earlyAboveAndFalling = design 2 (0 ∷ 1 ∷ []) (1 ∷ 0 ∷ []) (pos 5 ∷ pos 0 ∷ []) (pos 4 ∷ pos 0 ∷ [])
+earlyAboveAndFalling = design 2 (0 ∷ 1 ∷ []) (1 ∷ 0 ∷ []) (pos 5 ∷ pos 0 ∷ []) (pos 4 ∷ pos 0 ∷ []) []
 
 -- the deck program's room
 abbrev pub ample : Room
-ample = room 512 2048 2048 2048
+ample = room 512 512 2048 2048 2048
+
+-- deck A with node 2 marked, and its true graph; with edge 3's delays -1; and without the edges out of node 2
+abbrev pub observed : Design
+observed = marking (2 ∷ [])
+
+abbrev pub observedGraph : Graph
+observedGraph = ending (0 ∷ 0 ∷ 1 ∷ 0 ∷ 1 ∷ 1 ∷ [])
+
+abbrev pub observedBack : Design
+observedBack =
+    design 5 (0 ∷ 1 ∷ 2 ∷ 2 ∷ []) (2 ∷ 2 ∷ 3 ∷ 4 ∷ []) (pos 3 ∷ pos 5 ∷ pos 2 ∷ negsuc 0 ∷ [])
+    (pos 3 ∷ pos 5 ∷ pos 2 ∷ negsuc 0 ∷ []) (2 ∷ [])
+
+abbrev pub observedAlone : Graph
+observedAlone = graph (0 ∷ 1 ∷ 2 ∷ []) (0 ∷ 0 ∷ 1 ∷ []) (edge 0 2 0 ∷ edge 1 2 1 ∷ [])
+
+-- chain with its source marked
+abbrev pub observedSource : Design
+observedSource = design 3 (0 ∷ 1 ∷ []) (1 ∷ 2 ∷ []) (pos 1 ∷ pos 1 ∷ []) (pos 1 ∷ pos 1 ∷ []) (0 ∷ [])
 
 abbrev pub marked : List Fact
 marked =
@@ -221,33 +267,36 @@ marked =
     Times (pos 5) (pos 8) (pos 4) (pos 3) ∷ Times (pos 5) (pos 10) (pos 5) (pos 5) ∷
     Times (pos 6) (pos 10) (pos 4) (pos 4) ∷ None ∷ [])
     ∷ programIs bytesA (made graphA)
-    ∷ cCallIs bytesA 64 (pos 23)
+    ∷ cCallIs bytesA 64 (pos 29)
     ∷ cRoomIs bytesA 64
-    (6 ∷ 0 ∷ 1 ∷ 2 ∷ 2 ∷ 3 ∷ 4 ∷ 5 ∷ 0 ∷ 2 ∷ 0 ∷ 1 ∷ 2 ∷ 1 ∷ 0 ∷ 3 ∷ 0 ∷ 3 ∷ 4 ∷ 2 ∷ 2 ∷ 5 ∷ 3 ∷ zeros 41)
+    (6 ∷ 0 ∷ 0 ∷ 1 ∷ 0 ∷ 2 ∷ 0 ∷ 2 ∷ 0 ∷ 3 ∷ 1 ∷ 4 ∷ 1 ∷ 5 ∷ 0 ∷ 2 ∷ 0 ∷ 1 ∷ 2 ∷ 1 ∷ 0 ∷ 3 ∷ 0 ∷ 3 ∷ 4 ∷ 2 ∷ 2 ∷ 5 ∷ 3 ∷
+    zeros 35)
     -- M2: no nodes
-    ∷ graphIs noNodes (noPaths ∷ []) (graph [] [])
+    ∷ graphIs noNodes (noPaths ∷ []) (graph [] [] [])
     -- M3: one node, no edges
-    ∷ graphIs oneNode (noPaths ∷ []) (graph (0 ∷ []) [])
+    ∷ graphIs oneNode (noPaths ∷ []) (graph (0 ∷ []) (1 ∷ []) [])
     ∷ timesAre oneNode 7 (noPaths ∷ []) (Times (pos 0) (pos 7) (pos 7) (pos 0) ∷ [])
     -- M4: A with only path 2; a graph handed back uncut does not meet it
     ∷ graphIs deckA (pathList (2 ∷ []) (1 ∷ []) ∷ [])
-    (graph (0 ∷ 1 ∷ 2 ∷ 4 ∷ []) (edge 0 2 0 ∷ edge 1 2 1 ∷ edge 2 3 3 ∷ []))
+    (graph (0 ∷ 1 ∷ 2 ∷ 4 ∷ []) (0 ∷ 0 ∷ 0 ∷ 1 ∷ []) (edge 0 2 0 ∷ edge 1 2 1 ∷ edge 2 3 3 ∷ []))
     ∷ nodesAre deckA 10 (pathList (2 ∷ []) (1 ∷ []) ∷ [])
     (Times (pos 0) (pos 6) (pos 6) (pos 0) ∷ Times (pos 0) (pos 4) (pos 4) (pos 0) ∷
     Times (pos 5) (pos 9) (pos 4) (pos 3) ∷ None ∷ Times (pos 6) (pos 10) (pos 4) (pos 4) ∷ None ∷ [])
     -- M5: A with 0,2 and 1,2: the graph of M4
     ∷ graphIs deckA (pathList (0 ∷ 2 ∷ 1 ∷ 2 ∷ []) (2 ∷ 2 ∷ []) ∷ [])
-    (graph (0 ∷ 1 ∷ 2 ∷ 4 ∷ []) (edge 0 2 0 ∷ edge 1 2 1 ∷ edge 2 3 3 ∷ []))
+    (graph (0 ∷ 1 ∷ 2 ∷ 4 ∷ []) (0 ∷ 0 ∷ 0 ∷ 1 ∷ []) (edge 0 2 0 ∷ edge 1 2 1 ∷ edge 2 3 3 ∷ []))
     -- M6: A with 1,2 and 0,3; then by parts, which differs by a renumbering of node 2
     ∷ graphIs deckA (pathList (1 ∷ 2 ∷ 0 ∷ 3 ∷ []) (2 ∷ 2 ∷ []) ∷ [])
-    (graph (0 ∷ 1 ∷ 2 ∷ 2 ∷ 3 ∷ 4 ∷ []) (edge 0 2 0 ∷ edge 1 3 1 ∷ edge 2 4 2 ∷ edge 3 5 3 ∷ []))
+    (graph (0 ∷ 1 ∷ 2 ∷ 2 ∷ 3 ∷ 4 ∷ []) (0 ∷ 0 ∷ 0 ∷ 0 ∷ 1 ∷ 1 ∷ []) (edge 0 2 0 ∷ edge 1 3 1 ∷ edge 2 4 2 ∷
+    edge 3 5 3 ∷ []))
     ∷ graphIs deckA (listA ∷ pathList (0 ∷ 3 ∷ []) (2 ∷ []) ∷ [])
-    (graph (0 ∷ 1 ∷ 2 ∷ 2 ∷ 3 ∷ 4 ∷ []) (edge 1 2 1 ∷ edge 0 3 0 ∷ edge 3 4 2 ∷ edge 2 5 3 ∷ []))
+    (graph (0 ∷ 1 ∷ 2 ∷ 2 ∷ 3 ∷ 4 ∷ []) (0 ∷ 0 ∷ 0 ∷ 0 ∷ 1 ∷ 1 ∷ []) (edge 1 2 1 ∷ edge 0 3 0 ∷ edge 3 4 2 ∷
+    edge 2 5 3 ∷ []))
     -- M7: a list that removes everything
-    ∷ graphIs chain (pathList (0 ∷ 1 ∷ []) (2 ∷ []) ∷ []) (graph [] [])
+    ∷ graphIs chain (pathList (0 ∷ 1 ∷ []) (2 ∷ []) ∷ []) (graph [] [] [])
     -- M8: following only the long tail leaves edge 0 in a false path
     ∷ graphIs designM8 (listM8 ∷ [])
-    (graph (0 ∷ 1 ∷ 2 ∷ 3 ∷ 5 ∷ []) (edge 0 2 0 ∷ edge 1 2 1 ∷ edge 2 3 2 ∷ edge 3 4 5 ∷ []))
+    (graph (0 ∷ 1 ∷ 2 ∷ 3 ∷ 5 ∷ []) (0 ∷ 0 ∷ 0 ∷ 0 ∷ 1 ∷ []) (edge 0 2 0 ∷ edge 1 2 1 ∷ edge 2 3 2 ∷ edge 3 4 5 ∷ []))
     ∷ nodesAre designM8 10 (listM8 ∷ [])
     (Times (pos 0) (pos 7) (pos 7) (pos 0) ∷ Times (pos 0) (pos 7) (pos 7) (pos 0) ∷
     Times (pos 1) (pos 8) (pos 7) (pos 1) ∷ Times (pos 2) (pos 9) (pos 7) (pos 2) ∷ None ∷
@@ -264,43 +313,45 @@ marked =
     ∷ readIs (128 ∷ []) (NotRead (refusal 1 1))
     -- Inner tails, with parallel edges: shuts out only the longest tail of each path
     ∷ graphIs parallel (pathList (0 ∷ 2 ∷ 4 ∷ []) (3 ∷ []) ∷ [])
-    (graph (0 ∷ 1 ∷ 1 ∷ 2 ∷ 2 ∷ 3 ∷ []) (edge 0 1 0 ∷ edge 0 1 1 ∷ edge 0 2 1 ∷ edge 1 3 2 ∷ edge 1 3 3 ∷ edge 2 4 2 ∷
-    edge 1 4 3 ∷ edge 4 5 4 ∷ edge 3 5 5 ∷ []))
+    (graph (0 ∷ 1 ∷ 1 ∷ 2 ∷ 2 ∷ 3 ∷ []) (0 ∷ 0 ∷ 0 ∷ 0 ∷ 0 ∷ 1 ∷ []) (edge 0 1 0 ∷ edge 0 1 1 ∷ edge 0 2 1 ∷
+    edge 1 3 2 ∷ edge 1 3 3 ∷ edge 2 4 2 ∷ edge 1 4 3 ∷ edge 4 5 4 ∷ edge 3 5 5 ∷ []))
     -- Marks by length before edges: mark 4 comes before mark 2,3 at node 2; shuts out the dictionary order alone
     ∷ graphIs twoLengths (pathList (0 ∷ 4 ∷ 0 ∷ 2 ∷ 3 ∷ []) (2 ∷ 3 ∷ []) ∷ [])
-    (graph (1 ∷ 2 ∷ 2 ∷ 3 ∷ 4 ∷ []) (edge 0 1 1 ∷ edge 0 2 1 ∷ edge 2 3 2 ∷ edge 3 4 3 ∷ edge 1 4 4 ∷ []))
+    (graph (1 ∷ 2 ∷ 2 ∷ 3 ∷ 4 ∷ []) (0 ∷ 0 ∷ 0 ∷ 0 ∷ 1 ∷ []) (edge 0 1 1 ∷ edge 0 2 1 ∷ edge 2 3 2 ∷ edge 3 4 3 ∷
+    edge 1 4 4 ∷ []))
     -- Parallel edges are two paths: shuts out paths as lists of nodes
     ∷ graphIs parallel (pathList (1 ∷ 3 ∷ []) (1 ∷ 1 ∷ []) ∷ [])
-    (graph (0 ∷ 1 ∷ 2 ∷ 3 ∷ []) (edge 0 1 0 ∷ edge 1 2 2 ∷ edge 2 3 4 ∷ edge 2 3 5 ∷ []))
+    (graph (0 ∷ 1 ∷ 2 ∷ 3 ∷ []) (0 ∷ 0 ∷ 0 ∷ 1 ∷ []) (edge 0 1 0 ∷ edge 1 2 2 ∷ edge 2 3 4 ∷ edge 2 3 5 ∷ []))
     -- An isolated node keeps its copy: shuts out copies by edges alone
-    ∷ graphIs isolated (pathList (0 ∷ []) (1 ∷ []) ∷ []) (graph (1 ∷ []) [])
+    ∷ graphIs isolated (pathList (0 ∷ []) (1 ∷ []) ∷ []) (graph (1 ∷ []) (1 ∷ []) [])
     -- A listed path inside another, and one listed twice: shuts out a mark by the first path that fits
     ∷ graphIs designM8 (pathList (0 ∷ 2 ∷ 3 ∷ 2 ∷ 3 ∷ 0 ∷ 2 ∷ 3 ∷ []) (3 ∷ 2 ∷ 3 ∷ []) ∷ [])
-    (graph (0 ∷ 1 ∷ 2 ∷ 3 ∷ 5 ∷ []) (edge 0 2 0 ∷ edge 1 2 1 ∷ edge 2 3 2 ∷ edge 3 4 5 ∷ []))
+    (graph (0 ∷ 1 ∷ 2 ∷ 3 ∷ 5 ∷ []) (0 ∷ 0 ∷ 0 ∷ 0 ∷ 1 ∷ []) (edge 0 2 0 ∷ edge 1 2 1 ∷ edge 2 3 2 ∷ edge 3 4 5 ∷ []))
     -- Scratch: 8 words for 6 candidates, 2 listed edges and 4 edges, and one word less
     ∷ removalIs deckA (removal listA ample 96) (made graphA)
     ∷ removalIs deckA (removal listA ample 95) (refused (refusal 31 0))
     -- Scratch for an earlier graph: 8 words for 8 candidates (2 copies of node 2), 2 listed edges and 5 edges, and one word less
     ∷ againIs deckA graphA (removal (pathList (0 ∷ 3 ∷ []) (2 ∷ [])) ample 120)
-    (made (graph (0 ∷ 1 ∷ 2 ∷ 2 ∷ 3 ∷ 4 ∷ []) (edge 1 2 1 ∷ edge 0 3 0 ∷ edge 3 4 2 ∷ edge 2 5 3 ∷ [])))
+    (made (graph (0 ∷ 1 ∷ 2 ∷ 2 ∷ 3 ∷ 4 ∷ []) (0 ∷ 0 ∷ 0 ∷ 0 ∷ 1 ∷ 1 ∷ []) (edge 1 2 1 ∷ edge 0 3 0 ∷ edge 3 4 2 ∷
+    edge 2 5 3 ∷ [])))
     ∷ againIs deckA graphA (removal (pathList (0 ∷ 3 ∷ []) (2 ∷ [])) ample 119) (refused (refusal 31 0))
     -- Scratch: 8 words for a node, and one word less; none for no nodes
-    ∷ removalIs oneNode (removal noPaths ample 8) (made (graph (0 ∷ []) []))
+    ∷ removalIs oneNode (removal noPaths ample 8) (made (graph (0 ∷ []) (1 ∷ []) []))
     ∷ removalIs oneNode (removal noPaths ample 7) (refused (refusal 31 0))
-    ∷ removalIs noNodes (removal noPaths ample 0) (made (graph [] []))
+    ∷ removalIs noNodes (removal noPaths ample 0) (made (graph [] [] []))
     -- Room: 5 copies on A; 4 edges on A; rooms that differ in length come before a bad edge
-    ∷ removalIs deckA (removal listA (room 5 9 9 9) 96) (refused (refusal 33 0))
-    ∷ removalIs deckA (removal listA (room 6 4 4 4) 96) (refused (refusal 34 0))
-    ∷ removalIs falling (removal noPaths (room 6 4 3 4) 96) (refused (refusal 30 0))
+    ∷ removalIs deckA (removal listA (room 5 5 9 9 9) 96) (refused (refusal 33 0))
+    ∷ removalIs deckA (removal listA (room 6 6 4 4 4) 96) (refused (refusal 34 0))
+    ∷ removalIs falling (removal noPaths (room 6 6 4 3 4) 96) (refused (refusal 30 0))
     -- One number over everything before the next: 12 at edge 1 before 13 at edge 0; 23 at path 1 before 24 at path 0
     ∷ removalIs fallingAndUnknown (removal noPaths ample 96) (refused (refusal 12 1))
     ∷ removalIs deckA (removal (pathList (2 ∷ 1 ∷ 9 ∷ []) (2 ∷ 1 ∷ [])) ample 999) (refused (refusalWithin 23 1 0))
     ∷ removalIs deckA (removal (pathList (0 ∷ 2 ∷ 2 ∷ 1 ∷ []) (2 ∷ 2 ∷ [])) ample 999) (refused (refusalWithin 24 1 1))
     -- Which edge of the path: 02's example, as the deck program has it; the C call's place is the path, 2, and not the index, 1
-    ∷ programIs (5 ∷ 4 ∷ 0 ∷ 2 ∷ 6 ∷ 6 ∷ 1 ∷ 2 ∷ 10 ∷ 10 ∷ 2 ∷ 3 ∷ 4 ∷ 4 ∷ 2 ∷ 4 ∷ 2 ∷ 2 ∷ 1 ∷ 2 ∷ 2 ∷ 1 ∷ 10 ∷ [])
+    ∷ programIs (5 ∷ 4 ∷ 0 ∷ 2 ∷ 6 ∷ 6 ∷ 1 ∷ 2 ∷ 10 ∷ 10 ∷ 2 ∷ 3 ∷ 4 ∷ 4 ∷ 2 ∷ 4 ∷ 2 ∷ 2 ∷ 1 ∷ 2 ∷ 2 ∷ 1 ∷ 0 ∷ 10 ∷ [])
     (refused (refusalWithin 24 0 1))
     ∷ cCallIs (5 ∷ 4 ∷ 0 ∷ 2 ∷ 6 ∷ 6 ∷ 1 ∷ 2 ∷ 10 ∷ 10 ∷ 2 ∷ 3 ∷ 4 ∷ 4 ∷ 2 ∷ 4 ∷ 2 ∷ 2 ∷ 3 ∷ 2 ∷ 0 ∷ 2 ∷ 2 ∷ 1 ∷ 3 ∷ 2 ∷
-    2 ∷ 1 ∷ 10 ∷ []) 64
+    2 ∷ 1 ∷ 0 ∷ 10 ∷ []) 64
     (negsuc 535)
     -- 23: the first edge is unknown; the last; two are, in one path and then in two; one behind a break
     ∷ removalIs deckA (removal (pathList (4 ∷ 2 ∷ []) (2 ∷ [])) ample 999) (refused (refusalWithin 23 0 0))
@@ -337,15 +388,16 @@ marked =
     Times (pos 105) (pos 138) (pos 35) (pos 10) ∷ Times (pos 115) (pos 150) (pos 35) (pos 75) ∷
     Times (pos 27) (pos 150) (pos 123) (pos 18) ∷ None ∷ [])
     -- In the deck early first: read the other way, edge 0 gives 15
-    ∷ programIs (5 ∷ 4 ∷ 0 ∷ 3 ∷ 4 ∷ 18 ∷ 1 ∷ 3 ∷ 2 ∷ 6 ∷ 2 ∷ 3 ∷ 9 ∷ 12 ∷ 3 ∷ 4 ∷ 2 ∷ 4 ∷ 0 ∷ 10 ∷ [])
-    (made (graph (0 ∷ 1 ∷ 2 ∷ 3 ∷ 4 ∷ []) (edge 0 3 0 ∷ edge 1 3 1 ∷ edge 2 3 2 ∷ edge 3 4 3 ∷ [])))
+    ∷ programIs (5 ∷ 4 ∷ 0 ∷ 3 ∷ 4 ∷ 18 ∷ 1 ∷ 3 ∷ 2 ∷ 6 ∷ 2 ∷ 3 ∷ 9 ∷ 12 ∷ 3 ∷ 4 ∷ 2 ∷ 4 ∷ 0 ∷ 0 ∷ 10 ∷ [])
+    (made (graph (0 ∷ 1 ∷ 2 ∷ 3 ∷ 4 ∷ []) (0 ∷ 0 ∷ 0 ∷ 0 ∷ 1 ∷ []) (edge 0 3 0 ∷ edge 1 3 1 ∷ edge 2 3 2 ∷ edge 3 4 3 ∷
+    [])))
     -- 30: early delays of another length, and late ones; the edge falls, too
-    ∷ removalIs (design 2 (1 ∷ []) (0 ∷ []) [] (pos 0 ∷ [])) (removal noPaths ample 96) (refused (refusal 30 0))
-    ∷ removalIs (design 2 (1 ∷ []) (0 ∷ []) (pos 0 ∷ []) []) (removal noPaths ample 96) (refused (refusal 30 0))
+    ∷ removalIs (design 2 (1 ∷ []) (0 ∷ []) [] (pos 0 ∷ []) []) (removal noPaths ample 96) (refused (refusal 30 0))
+    ∷ removalIs (design 2 (1 ∷ []) (0 ∷ []) (pos 0 ∷ []) [] []) (removal noPaths ample 96) (refused (refusal 30 0))
     -- 30: slices of the deck reader, of times and of records that have one place less or more, the last of each and another
-    ∷ readerAnswers bytesA (4 ∷ 4 ∷ 4 ∷ 4 ∷ 2 ∷ 1 ∷ []) Passed
-    ∷ readerAnswers bytesA (4 ∷ 4 ∷ 4 ∷ 5 ∷ 2 ∷ 1 ∷ []) (Refused (refusal 30 0))
-    ∷ readerAnswers bytesA (4 ∷ 4 ∷ 3 ∷ 4 ∷ 2 ∷ 1 ∷ []) (Refused (refusal 30 0))
+    ∷ readerAnswers bytesA (4 ∷ 4 ∷ 4 ∷ 4 ∷ 2 ∷ 1 ∷ 0 ∷ []) Passed
+    ∷ readerAnswers bytesA (4 ∷ 4 ∷ 4 ∷ 5 ∷ 2 ∷ 1 ∷ 0 ∷ []) (Refused (refusal 30 0))
+    ∷ readerAnswers bytesA (4 ∷ 4 ∷ 3 ∷ 4 ∷ 2 ∷ 1 ∷ 0 ∷ []) (Refused (refusal 30 0))
     ∷ timesAnswer deckA graphA 10 (6 ∷ 6 ∷ 6 ∷ 6 ∷ []) Passed
     ∷ timesAnswer deckA graphA 10 (6 ∷ 6 ∷ 6 ∷ 5 ∷ []) (Refused (refusal 30 0))
     ∷ timesAnswer deckA graphA 10 (6 ∷ 7 ∷ 6 ∷ 6 ∷ []) (Refused (refusal 30 0))
@@ -354,30 +406,130 @@ marked =
     ∷ recordsAnswer 5 graphA (6 ∷ 6 ∷ 6 ∷ 6 ∷ []) (5 ∷ 5 ∷ 5 ∷ 5 ∷ 6 ∷ []) (Refused (refusal 30 0))
     ∷ recordsAnswer 5 graphA (6 ∷ 6 ∷ 6 ∷ 6 ∷ []) (4 ∷ 5 ∷ 5 ∷ 5 ∷ 5 ∷ []) (Refused (refusal 30 0))
     -- 14: by the early delay alone, and by the late one
-    ∷ removalIs (design 2 (0 ∷ []) (1 ∷ []) (negsuc 1000000 ∷ []) (pos 0 ∷ [])) (removal noPaths ample 96)
+    ∷ removalIs (design 2 (0 ∷ []) (1 ∷ []) (negsuc 1000000 ∷ []) (pos 0 ∷ []) []) (removal noPaths ample 96)
     (refused (refusal 14 0))
-    ∷ removalIs (design 2 (0 ∷ []) (1 ∷ []) (pos 0 ∷ []) (pos 1000001 ∷ [])) (removal noPaths ample 96)
+    ∷ removalIs (design 2 (0 ∷ []) (1 ∷ []) (pos 0 ∷ []) (pos 1000001 ∷ []) []) (removal noPaths ample 96)
     (refused (refusal 14 0))
     -- 15: with delays above 0 and below, and not where they are equal; 14 and 13 at a later edge come before it
     ∷ removalIs earlyAbove (removal noPaths ample 96) (refused (refusal 15 0))
     ∷ removalIs earlyAboveBelowZero (removal noPaths ample 96) (refused (refusal 15 1))
-    ∷ removalIs (design 2 (0 ∷ []) (1 ∷ []) (pos 5 ∷ []) (pos 5 ∷ [])) (removal noPaths ample 96)
-    (made (graph (0 ∷ 1 ∷ []) (edge 0 1 0 ∷ [])))
+    ∷ removalIs (design 2 (0 ∷ []) (1 ∷ []) (pos 5 ∷ []) (pos 5 ∷ []) []) (removal noPaths ample 96)
+    (made (graph (0 ∷ 1 ∷ []) (0 ∷ 1 ∷ []) (edge 0 1 0 ∷ [])))
     ∷ removalIs earlyAboveAndFar (removal noPaths ample 96) (refused (refusal 14 1))
     ∷ removalIs earlyAboveAndFalling (removal noPaths ample 96) (refused (refusal 13 1))
     -- An earlier graph that is not the design: two copies of a source, which removal keeps apart
     ∷ againIs forked splitSource (removal (pathList (0 ∷ 1 ∷ []) (2 ∷ [])) ample 999)
-    (made (graph (0 ∷ 1 ∷ 3 ∷ []) (edge 0 1 0 ∷ edge 1 2 2 ∷ [])))
+    (made (graph (0 ∷ 1 ∷ 3 ∷ []) (0 ∷ 0 ∷ 1 ∷ []) (edge 0 1 0 ∷ edge 1 2 2 ∷ [])))
     -- An earlier graph that is not well formed: two edges out of order
     ∷ againIs forked outOfOrder (removal (pathList (0 ∷ 1 ∷ []) (2 ∷ [])) ample 999) (refused (refusal 32 0))
+    -- Deck A with node 2 marked: paths end at copy 2 too, and nothing else changes; shuts out marked nodes ignored, or never passed, and 1 at copy 3
+    ∷ graphIs observed (listA ∷ []) observedGraph
+    ∷ programIs (5 ∷ 4 ∷ 0 ∷ 2 ∷ 6 ∷ 6 ∷ 1 ∷ 2 ∷ 10 ∷ 10 ∷ 2 ∷ 3 ∷ 4 ∷ 4 ∷ 2 ∷ 4 ∷ 2 ∷ 2 ∷ 1 ∷ 2 ∷ 1 ∷ 2 ∷ 1 ∷ 2 ∷ 10 ∷
+    [])
+    (made observedGraph)
+    ∷ cRoomIs (5 ∷ 4 ∷ 0 ∷ 2 ∷ 6 ∷ 6 ∷ 1 ∷ 2 ∷ 10 ∷ 10 ∷ 2 ∷ 3 ∷ 4 ∷ 4 ∷ 2 ∷ 4 ∷ 2 ∷ 2 ∷ 1 ∷ 2 ∷ 1 ∷ 2 ∷ 1 ∷ 2 ∷ 10 ∷
+    []) 64
+    (6 ∷ 0 ∷ 0 ∷ 1 ∷ 0 ∷ 2 ∷ 1 ∷ 2 ∷ 0 ∷ 3 ∷ 1 ∷ 4 ∷ 1 ∷ 5 ∷ 0 ∷ 2 ∷ 0 ∷ 1 ∷ 2 ∷ 1 ∷ 0 ∷ 3 ∷ 0 ∷ 3 ∷ 4 ∷ 2 ∷ 2 ∷ 5 ∷ 3 ∷
+    zeros 35)
+    -- Required at copy 2 is 9, from further on, and not T alone; with edge 3's delays -1 it is 10, by T, where further on alone gives 11
+    ∷ timesAre observed 10 (listA ∷ [])
+    (Times (pos 0) (pos 5) (pos 5) (pos 0) ∷ Times (pos 0) (pos 4) (pos 4) (pos 0) ∷
+    Times (pos 5) (pos 9) (pos 4) (pos 3) ∷ Times (pos 3) (pos 8) (pos 5) (pos 3) ∷
+    Times (pos 5) (pos 10) (pos 5) (pos 5) ∷ Times (pos 6) (pos 10) (pos 4) (pos 4) ∷ [])
+    ∷ timesAre observedBack 10 (listA ∷ [])
+    (Times (pos 0) (pos 5) (pos 5) (pos 0) ∷ Times (pos 0) (pos 5) (pos 5) (pos 0) ∷
+    Times (pos 5) (pos 10) (pos 5) (pos 3) ∷ Times (pos 3) (pos 8) (pos 5) (pos 3) ∷
+    Times (pos 5) (pos 10) (pos 5) (pos 5) ∷ Times (pos 4) (pos 10) (pos 6) (pos 2) ∷ [])
+    ∷ nodesAre observedBack 10 (listA ∷ [])
+    (Times (pos 0) (pos 5) (pos 5) (pos 0) ∷ Times (pos 0) (pos 5) (pos 5) (pos 0) ∷
+    Times (pos 5) (pos 8) (pos 5) (pos 3) ∷ Times (pos 5) (pos 10) (pos 5) (pos 5) ∷
+    Times (pos 4) (pos 10) (pos 6) (pos 2) ∷ None ∷ [])
+    -- A marked source: the path without edges is there beside the one that goes on, and when that is false
+    ∷ graphIs observedSource (noPaths ∷ []) (graph (0 ∷ 1 ∷ 2 ∷ []) (1 ∷ 0 ∷ 1 ∷ []) (edge 0 1 0 ∷ edge 1 2 1 ∷ []))
+    ∷ graphIs observedSource (pathList (0 ∷ 1 ∷ []) (2 ∷ []) ∷ []) (graph (0 ∷ []) (1 ∷ []) [])
+    ∷ timesAre observedSource 10 (pathList (0 ∷ 1 ∷ []) (2 ∷ []) ∷ []) (Times (pos 0) (pos 10) (pos 10) (pos 0) ∷ [])
+    -- An isolated node marked; a sink marked; all nodes marked
+    ∷ graphIs (design 3 (0 ∷ []) (2 ∷ []) (pos 1 ∷ []) (pos 1 ∷ []) (1 ∷ [])) (pathList (0 ∷ []) (1 ∷ []) ∷ [])
+    (graph (1 ∷ []) (1 ∷ []) [])
+    ∷ graphIs (marking (3 ∷ [])) (listA ∷ []) graphA
+    ∷ graphIs (marking (0 ∷ 1 ∷ 2 ∷ 3 ∷ 4 ∷ [])) (listA ∷ []) (ending (1 ∷ 1 ∷ 1 ∷ 0 ∷ 1 ∷ 1 ∷ []))
+    -- A listed path that ends at a marked node; that starts at one; two that pass one, so that its first copy has 1 and no edge out of it
+    ∷ graphIs observed (pathList (0 ∷ []) (1 ∷ []) ∷ [])
+    (graph (1 ∷ 2 ∷ 3 ∷ 4 ∷ []) (0 ∷ 1 ∷ 1 ∷ 1 ∷ []) (edge 0 1 1 ∷ edge 1 2 2 ∷ edge 1 3 3 ∷ []))
+    ∷ graphIs observed (pathList (2 ∷ []) (1 ∷ []) ∷ [])
+    (graph (0 ∷ 1 ∷ 2 ∷ 4 ∷ []) (0 ∷ 0 ∷ 1 ∷ 1 ∷ []) (edge 0 2 0 ∷ edge 1 2 1 ∷ edge 2 3 3 ∷ []))
+    ∷ graphIs observed (pathList (0 ∷ 2 ∷ 0 ∷ 3 ∷ []) (2 ∷ 2 ∷ []) ∷ [])
+    (graph (0 ∷ 1 ∷ 2 ∷ 2 ∷ 2 ∷ 3 ∷ 4 ∷ []) (0 ∷ 0 ∷ 1 ∷ 0 ∷ 0 ∷ 1 ∷ 1 ∷ []) (edge 0 2 0 ∷ edge 1 2 1 ∷ edge 1 3 1 ∷
+    edge 1 4 1 ∷ edge 3 5 2 ∷ edge 4 6 3 ∷ []))
+    -- All paths but those that end at a marked node removed: its copy stays, with 1 and no edge out, and is well formed; then removed by parts
+    ∷ graphIs observed (pathList (2 ∷ 3 ∷ []) (1 ∷ 1 ∷ []) ∷ []) observedAlone
+    ∷ againIs observed observedAlone (removal noPaths ample 999) (made observedAlone)
+    ∷ graphIs observed (pathList (2 ∷ 3 ∷ []) (1 ∷ 1 ∷ []) ∷ pathList (0 ∷ []) (1 ∷ []) ∷ [])
+    (graph (1 ∷ 2 ∷ []) (0 ∷ 1 ∷ []) (edge 0 1 1 ∷ []))
+    ∷ timesAre observed 10 (pathList (2 ∷ 3 ∷ []) (1 ∷ 1 ∷ []) ∷ [])
+    (Times (pos 0) (pos 7) (pos 7) (pos 0) ∷ Times (pos 0) (pos 5) (pos 5) (pos 0) ∷
+    Times (pos 5) (pos 10) (pos 5) (pos 3) ∷ [])
+    -- 16: not below n, at index 0 and at 1; not rising; equal; the first of two
+    ∷ removalIs (marking (5 ∷ [])) (removal noPaths ample 999) (refused (refusal 16 0))
+    ∷ removalIs (marking (1 ∷ 5 ∷ [])) (removal noPaths ample 999) (refused (refusal 16 1))
+    ∷ removalIs (marking (3 ∷ 2 ∷ [])) (removal noPaths ample 999) (refused (refusal 16 1))
+    ∷ removalIs (marking (2 ∷ 2 ∷ [])) (removal noPaths ample 999) (refused (refusal 16 1))
+    ∷ removalIs (marking (0 ∷ 3 ∷ 3 ∷ 9 ∷ [])) (removal noPaths ample 999) (refused (refusal 16 2))
+    -- 16 after 15; before 20 and before 24
+    ∷ removalIs (design 2 (0 ∷ []) (1 ∷ []) (pos 5 ∷ []) (pos 4 ∷ []) (2 ∷ [])) (removal noPaths ample 999)
+    (refused (refusal 15 0))
+    ∷ removalIs (marking (2 ∷ 2 ∷ [])) (removal (pathList [] (zeros 1025)) ample 999) (refused (refusal 16 1))
+    ∷ removalIs (marking (2 ∷ 2 ∷ [])) (removal (pathList (2 ∷ 1 ∷ []) (2 ∷ [])) ample 999) (refused (refusal 16 1))
+    -- 16 of the deck's reader: more marked nodes than n, with place n, before 36; 36 at one more than the table has; which nodes is not judged
+    ∷ readerAnswers (5 ∷ 0 ∷ 0 ∷ 6 ∷ []) (0 ∷ 0 ∷ 0 ∷ 0 ∷ 0 ∷ 0 ∷ 9 ∷ []) (Refused (refusal 16 5))
+    ∷ readerAnswers (5 ∷ 0 ∷ 0 ∷ 6 ∷ []) (0 ∷ 0 ∷ 0 ∷ 0 ∷ 0 ∷ 0 ∷ 2 ∷ []) (Refused (refusal 16 5))
+    ∷ readerAnswers (5 ∷ 0 ∷ 0 ∷ 3 ∷ []) (0 ∷ 0 ∷ 0 ∷ 0 ∷ 0 ∷ 0 ∷ 2 ∷ []) (Refused (refusal 36 0))
+    ∷ readerAnswers (5 ∷ 0 ∷ 0 ∷ 2 ∷ 9 ∷ 9 ∷ 10 ∷ []) (0 ∷ 0 ∷ 0 ∷ 0 ∷ 0 ∷ 0 ∷ 2 ∷ []) Passed
+    ∷ programIs (208 ∷ 15 ∷ 0 ∷ 0 ∷ 129 ∷ 8 ∷ []) (refused (refusal 36 0))
+    ∷ programIs (208 ∷ 15 ∷ 0 ∷ 0 ∷ 209 ∷ 15 ∷ []) (refused (refusal 16 2000))
+    ∷ programIs (5 ∷ 0 ∷ 0 ∷ 2 ∷ 9 ∷ 9 ∷ 10 ∷ []) (refused (refusal 16 0))
+    -- 16 of the deck's writer: more marked nodes than n, with place n, after 20; which nodes is not judged; in the deck they stand before T
+    ∷ deckWriterAnswers (design 2 [] [] [] [] (0 ∷ 1 ∷ 1 ∷ [])) noPaths 10 (Refused (refusal 16 2))
+    ∷ deckWriterAnswers (design 0 [] [] [] [] (0 ∷ [])) (pathList [] (zeros 1025)) 10 (Refused (refusal 20 0))
+    ∷ deckWriterAnswers (design 2 [] [] [] [] (9 ∷ 9 ∷ [])) noPaths 10 Passed
+    ∷ packedDeckIs observed listA 10
+    (5 ∷ 4 ∷ 0 ∷ 2 ∷ 6 ∷ 6 ∷ 1 ∷ 2 ∷ 10 ∷ 10 ∷ 2 ∷ 3 ∷ 4 ∷ 4 ∷ 2 ∷ 4 ∷ 2 ∷ 2 ∷ 1 ∷ 2 ∷ 1 ∷ 2 ∷ 1 ∷ 2 ∷ 10 ∷ [])
+    -- 32: copy 3 has 2; copy 0, of no sink and no marked node, has 1; copies 2 and 3, both of node 2, have 1; sink copy 4 has 0
+    ∷ againIs observed (ending (0 ∷ 0 ∷ 1 ∷ 2 ∷ 1 ∷ 1 ∷ [])) (removal noPaths ample 999) (refused (refusal 32 0))
+    ∷ againIs observed (ending (1 ∷ 0 ∷ 1 ∷ 0 ∷ 1 ∷ 1 ∷ [])) (removal noPaths ample 999) (refused (refusal 32 0))
+    ∷ againIs observed (ending (0 ∷ 0 ∷ 1 ∷ 1 ∷ 1 ∷ 1 ∷ [])) (removal noPaths ample 999) (refused (refusal 32 0))
+    ∷ againIs observed (ending (0 ∷ 0 ∷ 1 ∷ 0 ∷ 0 ∷ 1 ∷ [])) (removal noPaths ample 999) (refused (refusal 32 0))
+    -- 32: copy 3 has no edge in; copy 3 has 0 and no edge out; and well formed where paths end at copy 3 and not at copy 2
+    ∷ againIs observed (graph (0 ∷ 1 ∷ 2 ∷ 2 ∷ 3 ∷ 4 ∷ []) (0 ∷ 0 ∷ 1 ∷ 0 ∷ 1 ∷ 1 ∷ []) (edge 0 2 0 ∷ edge 1 2 1 ∷
+    edge 3 4 2 ∷ edge 2 5 3 ∷ [])) (removal noPaths ample 999)
+    (refused (refusal 32 0))
+    ∷ againIs observed (graph (0 ∷ 1 ∷ 2 ∷ 2 ∷ 4 ∷ []) (0 ∷ 0 ∷ 1 ∷ 0 ∷ 1 ∷ []) (edge 0 2 0 ∷ edge 1 2 1 ∷ edge 0 3 0 ∷
+    edge 2 4 3 ∷ [])) (removal noPaths ample 999)
+    (refused (refusal 32 0))
+    ∷ againIs observed (ending (0 ∷ 0 ∷ 0 ∷ 1 ∷ 1 ∷ 1 ∷ [])) (removal noPaths ample 999)
+    (made (ending (0 ∷ 0 ∷ 0 ∷ 1 ∷ 1 ∷ 1 ∷ [])))
+    -- 32 of the graph's reader: an endpoint number above 1, as soon as it is met; node first; then 32 of the writer, after 30
+    ∷ graphReadIs (1 ∷ 0 ∷ 2 ∷ 0 ∷ []) (room 1 1 0 0 0) (refused (refusal 32 0))
+    ∷ graphReadIs (1 ∷ 0 ∷ 2 ∷ 128 ∷ 0 ∷ []) (room 1 1 0 0 0) (refused (refusal 32 0))
+    ∷ graphReadIs (2 ∷ 7 ∷ 1 ∷ 9 ∷ 0 ∷ 0 ∷ []) (room 2 2 0 0 0) (made (graph (7 ∷ 9 ∷ []) (1 ∷ 0 ∷ []) []))
+    ∷ graphWriterAnswers (graphSlices (7 ∷ 9 ∷ []) (1 ∷ 2 ∷ []) [] [] []) (Refused (refusal 32 0))
+    ∷ graphWriterAnswers (graphSlices (7 ∷ 9 ∷ []) (1 ∷ 1 ∷ []) [] [] []) Passed
+    ∷ graphWriterAnswers (graphSlices (7 ∷ 9 ∷ []) (1 ∷ 2 ∷ []) (5 ∷ []) [] []) (Refused (refusal 30 0))
+    -- 30: as many endpoint numbers as nodes, in the room, in the earlier graph, in times, in the graph's reader and in its writer
+    ∷ removalIs observed (removal listA (room 6 7 5 5 5) 999) (refused (refusal 30 0))
+    ∷ againIs observed (ending (0 ∷ 0 ∷ 1 ∷ 0 ∷ 1 ∷ [])) (removal noPaths ample 999) (refused (refusal 30 0))
+    ∷ timesAnswer observed (ending (0 ∷ 0 ∷ 1 ∷ 0 ∷ 1 ∷ 1 ∷ 1 ∷ [])) 10 (6 ∷ 6 ∷ 6 ∷ 6 ∷ []) (Refused (refusal 30 0))
+    ∷ graphReadIs (1 ∷ 0 ∷ 2 ∷ 0 ∷ []) (room 1 2 0 0 0) (refused (refusal 30 0))
+    ∷ graphWriterAnswers (graphSlices (7 ∷ 9 ∷ []) (2 ∷ []) [] [] []) (Refused (refusal 30 0))
     ∷ []
 
 pub marked-hold : All marked
 unfolding flatMap designGraph edgesIn edgesOut runsTo runsFrom completeRuns permitted tails mark permittedRuns copies
-    joins trueGraph wellFormed arrivalAt requiredAt slackAt earliestAt nodeTimes arrivalsAfter requiredsAfter
+    pathEnds joins trueGraph wellFormed arrivalAt requiredAt slackAt earliestAt nodeTimes arrivalsAfter requiredsAfter
     slacksAfter earliestsAfter packedIn groupsIn readNumber writeAnswer writtenRoom readDeck graphNumbers packedGraph
     designTests listTests candidates scratchTest roomTests testDeck removeFromDesign removeFromGraph programRemoval
-    program cCall cRoom deckRead testTimes testRecords
+    program cCall cRoom deckRead testTimes testRecords deckNumbers packedDeck deckWriteTests readGraph graphRead
+    graphWriteTests
 marked-hold =
     refl also refl also refl also refl also refl also refl also refl also refl also refl also refl also refl also
     refl also refl also refl also refl also refl also refl also refl also refl also refl also refl also refl also
@@ -386,4 +538,9 @@ marked-hold =
     refl also refl also refl also refl also refl also refl also refl also refl also refl also refl also refl also
     refl also refl also refl also refl also refl also refl also refl also refl also refl also refl also refl also
     refl also refl also refl also refl also refl also refl also refl also refl also refl also refl also refl also
-    refl also refl also refl also refl also none
+    refl also refl also refl also refl also refl also refl also refl also refl also refl also refl also refl also
+    refl also refl also refl also refl also refl also refl also refl also refl also refl also refl also refl also
+    refl also refl also refl also refl also refl also refl also refl also refl also refl also refl also refl also
+    refl also refl also refl also refl also refl also refl also refl also refl also refl also refl also refl also
+    refl also refl also refl also refl also refl also refl also refl also refl also refl also refl also refl also
+    refl also refl also refl also refl also refl also none

@@ -1,10 +1,10 @@
 -- What it says that a test passed, and what is true of its refusals.
-use Prim.Native.Nat.{ℕ, suc, _+_, _<_}
+use Prim.Native.Nat.{ℕ, suc, _+_, _≤_, _<_}
 use native.Mathlib.Omega.{arith}
 use mathlib.Core.Path.{_≡_, refl, sym, _∙_, ap, subst}
 use mathlib.Core.Bool.{Bool, true, false, cond, _&&_}
 use mathlib.Core.List.{List, [], _∷_}
-use lib.Dec.{T, eqb}
+use lib.Dec.{T, eqb, leb, leb→le}
 use lib.ListN.{length}
 use borrow.Author.Tests.{eqb-true}
 use Rattle.timing.specs.declared.Refusal.{Refusal}
@@ -13,7 +13,7 @@ use Rattle.timing.specs.declared.Verdict.the-variants.{Passed, Refused}
 use Rattle.timing.specs.declared.Fault.{Fault}
 use Rattle.timing.specs.declared.Fault.the-variants.{At, None}
 use Rattle.timing.specs.Refusals.{refusal, refusalWithin, _then_, unless, firstBad, unlessFault, firstFault}
-use Rattle.timing.specs.Tests.{sameSizes, edgeSizes, timeSizes}
+use Rattle.timing.specs.Tests.{sameSizes, edgeSizes, timeSizes, markedCount, Room, roomSizes}
 
 abbrev Pass : Verdict → Type 0
 Pass Passed = Unit {0}
@@ -74,6 +74,19 @@ edges-passed m a b c e =
     let s = then-passed (sameSizes m m a) (sameSizes m b c) e in
     let t = same-passed m b c (s .1) in
     (same-passed m m a (s .0) .1, t .0, t .1)
+
+pub room-passed : (R : Room) → roomSizes R ≡ Passed → (R .endpoints ≡ R .nodes) × (R .ends ≡ R .starts) × (R .names ≡ R .starts)
+room-passed R e =
+    let s = then-passed (sameSizes (R .nodes) (R .nodes) (R .endpoints)) (sameSizes (R .starts) (R .ends) (R .names)) e in
+    let t = same-passed (R .starts) (R .ends) (R .names) (s .1) in
+    (same-passed (R .nodes) (R .nodes) (R .endpoints) (s .0) .1, t .0, t .1)
+
+pub marked-passed : (n count : ℕ) → markedCount n count ≡ Passed → count ≤ n
+marked-passed n count e = go (leb count n) refl e
+  where
+    go : (b : Bool) → leb count n ≡ b → cond b Passed (Refused (refusal 16 n)) ≡ Passed → count ≤ n
+    go true q p = leb→le count n (subst T (sym q) tt)
+    go false q p = absurd (refused-passed (refusal 16 n) p)
 
 pub times-passed : (n a b c d : ℕ) → timeSizes n a b c d ≡ Passed → (a ≡ n) × (b ≡ n) × (c ≡ n) × (d ≡ n)
 times-passed n a b c d e =

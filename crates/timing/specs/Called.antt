@@ -14,7 +14,7 @@ use Rattle.timing.specs.Graphs.{Design, Graph, designGraph}
 use Rattle.timing.specs.Marks.{pathList}
 use Rattle.timing.specs.Refusals.{refusal}
 use Rattle.timing.specs.Tests.{candidates, scratchWords}
-use Rattle.timing.specs.Calls.{GraphSlices, graphSlices, graphOf, slicesOf, Outcome, Removal, lentRemoval, removeFromDesign, removeFromGraph, graphAnswer, nodesAfter, startsAfter, endsAfter, namesAfter, scratchAfter}
+use Rattle.timing.specs.Calls.{GraphSlices, graphSlices, graphOf, slicesOf, Outcome, Removal, lentRemoval, removeFromDesign, removeFromGraph, graphAnswer, nodesAfter, endpointsAfter, startsAfter, endsAfter, namesAfter, scratchAfter}
 use Rattle.timing.specs.Series.{verdictsAlone, wholeAfter, HeldIs}
 
 -- one call: the list, room and scratch that it was lent, its answer, and room and scratch afterwards
@@ -28,12 +28,14 @@ pub record Called : Type 0 where
   pub scratchAt : List ℕ
 
 abbrev pub removalOf : Called → Removal
-removalOf c = lentRemoval (c .listed) (c .lengths) (c .room .nodes) (c .room .starts) (c .room .ends) (c .room .names) (c .scratch)
+removalOf c =
+    lentRemoval (c .listed) (c .lengths) (c .room .nodes) (c .room .endpoints) (c .room .starts) (c .room .ends) (c .room .names) (c .scratch)
 
 -- the call did what the outcome says: its answer, and every slice that it was lent
 pub record Meets (o : Outcome Graph) (c : Called) : Type 0 where
   pub answer : c .answer ≡ graphAnswer o
   pub nodes : c .after .nodes ≡ nodesAfter o (c .room .nodes)
+  pub endpoints : c .after .endpoints ≡ endpointsAfter o (c .room .endpoints)
   pub starts : c .after .starts ≡ startsAfter o (c .room .starts)
   pub ends : c .after .ends ≡ endsAfter o (c .room .ends)
   pub names : c .after .names ≡ namesAfter o (c .room .names)
@@ -46,7 +48,7 @@ removeOn D (some S) r = removeFromGraph D S r
 
 -- c copies and e edges at the front of a room
 abbrev pub front : ℕ → ℕ → GraphSlices → GraphSlices
-front c e S = graphSlices (take c (S .nodes)) (take e (S .starts)) (take e (S .ends)) (take e (S .names))
+front c e S = graphSlices (take c (S .nodes)) (take c (S .endpoints)) (take e (S .starts)) (take e (S .ends)) (take e (S .names))
 
 -- the slices that the caller holds after a call, and lends on: the front of the room, as long as the call answered; a refused
 -- call leaves them
@@ -87,7 +89,7 @@ countsHeld (some G) = some (Counts (length (G .nodes)) (length (G .edges)))
 
 -- demand 3 of a series of calls: "the refusals are just these", and the slices that are held, with "its returned count of
 -- copies, the node of each copy number and the count of edges", are those of the true graph of the design and the whole list, up
--- to renumbering within nodes, with at most n + edges - paths copies
+-- to renumbering within nodes that keeps the endpoint numbers, with at most n + edges - paths copies
 pub record CalledDemand3 (D : Design) (cs : List Called) : Type 0 where
   pub refusals : map (λ c. verdictIn (c .answer)) cs ≡ verdictsAlone D none (map removalOf cs)
   pub held : Option Graph

@@ -1,5 +1,5 @@
 -- For each call its answer and what each lent buffer holds afterwards, for every input. "Slice calls test 30, then 10 to
--- 14 [02, request 1: 15], 20 to 25, 32, 31, 33, 34, 35, one number over everything before the next, leaving out tests of
+-- 14 [02: 16], 20 to 25, 32, 31, 33, 34, 35, one number over everything before the next, leaving out tests of
 -- what a call does not take." "A refusal changes no result buffer." "Result places past the result are unchanged."
 use Prim.Native.Nat.{ℕ, _+_, _*_}
 use mathlib.Core.Bool.{cond, _||_}
@@ -34,29 +34,40 @@ use Rattle.timing.specs.Parsing.{Parsed, found, stopped}
 use Rattle.timing.specs.Decks.{Deck, Tables, readDeck}
 use Rattle.timing.specs.GraphBytes.{packedGraph, readGraph}
 use Rattle.timing.specs.Refusals.{refusal, _then_}
-use Rattle.timing.specs.Tests.{sameSizes, edgeSizes, timeSizes, designSizes, listSizes, nodeCount, designCounts, designTests, listCounts, listTests, allowedTest, graphTest, graphCounts, scratchTest, Room, roomSizes, roomTests}
+use Rattle.timing.specs.Tests.{sameSizes, edgeSizes, timeSizes, designSizes, listSizes, nodeCount, designCounts, designTests, listCounts, listTests, allowedTest, graphTest, graphCounts, endpointTest, markedCount, scratchTest, Room, roomSizes, roomTests}
 
--- a true graph as it is lent: the node of each copy, and three slices of edges
+-- a true graph as it is lent: the node and the endpoint number of each copy, and three slices of edges
 pub record GraphSlices : Type 0 where
   pub nodes : List ℕ
+  pub endpoints : List ℕ
   pub starts : List ℕ
   pub ends : List ℕ
   pub names : List ℕ
 
-abbrev pub graphSlices : List ℕ → List ℕ → List ℕ → List ℕ → GraphSlices
-graphSlices nodes starts ends names = record { nodes = nodes; starts = starts; ends = ends; names = names }
+abbrev pub graphSlices : List ℕ → List ℕ → List ℕ → List ℕ → List ℕ → GraphSlices
+graphSlices nodes endpoints starts ends names =
+    record { nodes = nodes; endpoints = endpoints; starts = starts; ends = ends; names = names }
 
 abbrev pub graphOf : GraphSlices → Graph
-graphOf S = graph (S .nodes) (edgesOf (S .starts) (S .ends) (S .names))
+graphOf S = graph (S .nodes) (S .endpoints) (edgesOf (S .starts) (S .ends) (S .names))
 
 abbrev pub slicesOf : Graph → GraphSlices
-slicesOf G = graphSlices (G .nodes) (map (λ e. e .start) (G .edges)) (map (λ e. e .end) (G .edges)) (map (λ e. e .name) (G .edges))
+slicesOf G =
+    graphSlices (G .nodes) (G .endpoints) (map (λ e. e .start) (G .edges)) (map (λ e. e .end) (G .edges)) (map (λ e. e .name) (G .edges))
+
+-- the lengths of the five slices of a graph or a room
+abbrev pub roomOf : GraphSlices → Room
+roomOf S =
+    record {
+      nodes = length (S .nodes);
+      endpoints = length (S .endpoints);
+      starts = length (S .starts);
+      ends = length (S .ends);
+      names = length (S .names);
+    }
 
 abbrev pub graphSizes : GraphSlices → Verdict
-graphSizes S = sameSizes (length (S .starts)) (length (S .ends)) (length (S .names))
-
-abbrev pub roomOf : GraphSlices → Room
-roomOf S = record { nodes = length (S .nodes); starts = length (S .starts); ends = length (S .ends); names = length (S .names) }
+graphSizes S = roomSizes (roomOf S)
 
 -- The tests of a design; of a design and a list; of a deck's design, list and T.
 unfoldable pub testDesign : Design → Verdict
@@ -91,10 +102,10 @@ pub record Removal : Type 0 where
 abbrev pub removal : PathList → Room → ℕ → Removal
 removal L R words = record { list = L; room = R; scratch = words }
 
--- the same from what a call is lent: the list's two slices, the room's four and the scratch
-abbrev pub lentRemoval : List ℕ → List ℕ → List ℕ → List ℕ → List ℕ → List ℕ → List ℕ → Removal
-lentRemoval listed lengths nodes starts ends names scratch =
-    removal (pathList listed lengths) (roomOf (graphSlices nodes starts ends names)) (length scratch)
+-- the same from what a call is lent: the list's two slices, the room's five and the scratch
+abbrev pub lentRemoval : List ℕ → List ℕ → List ℕ → List ℕ → List ℕ → List ℕ → List ℕ → List ℕ → Removal
+lentRemoval listed lengths nodes endpoints starts ends names scratch =
+    removal (pathList listed lengths) (roomOf (graphSlices nodes endpoints starts ends names)) (length scratch)
 
 -- the result of a removal from a graph, tested for scratch and room
 abbrev pub removalTests : Design → Graph → Removal → Verdict
@@ -123,6 +134,9 @@ graphAnswer (refused r) = NoGraph r
 -- the room afterwards
 abbrev pub nodesAfter : Outcome Graph → List ℕ → List ℕ
 nodesAfter o room = filled (λ G. slicesOf G .nodes) o room
+
+abbrev pub endpointsAfter : Outcome Graph → List ℕ → List ℕ
+endpointsAfter o room = filled (λ G. slicesOf G .endpoints) o room
 
 abbrev pub startsAfter : Outcome Graph → List ℕ → List ℕ
 startsAfter o room = filled (λ G. slicesOf G .starts) o room
@@ -212,14 +226,16 @@ abbrev pub guarded : {A : Type 0} → Verdict → Outcome A → Outcome A
 guarded Passed o = o
 guarded (Refused r) o = refused r
 
--- The deck reader, from the bytes and the lengths of the lent tables: starts, ends, early and late delays; listed edges; lengths.
-unfoldable pub deckRead : List ℕ → ℕ → ℕ → ℕ → ℕ → ℕ → ℕ → Outcome Deck
-deckRead s starts ends early late listed lengths =
-    guarded (edgeSizes starts ends early late) (parsed (readDeck s (record { edges = starts; listed = listed; paths = lengths })))
+-- The deck reader, from the bytes and the lengths of the lent tables: starts, ends, early and late delays; listed edges; lengths; marked nodes.
+unfoldable pub deckRead : List ℕ → ℕ → ℕ → ℕ → ℕ → ℕ → ℕ → ℕ → Outcome Deck
+deckRead s starts ends early late listed lengths marked =
+    guarded (edgeSizes starts ends early late)
+    (parsed (readDeck s (record { edges = starts; listed = listed; paths = lengths; marked = marked })))
 
 abbrev pub deckAnswer : Outcome Deck → DeckRead
 deckAnswer (made d) =
-    DeckFound (d .design .nodes) (length (d .design .starts)) (length (d .list .edges)) (length (d .list .lengths)) (d .allowed)
+    DeckFound (d .design .nodes) (length (d .design .starts)) (length (d .list .edges)) (length (d .list .lengths))
+    (length (d .design .marked)) (d .allowed)
 deckAnswer (refused r) = NoDeck r
 
 -- Writing: the tests, and then 35.
@@ -231,24 +247,27 @@ abbrev pub roomAfterWriting : Verdict → List ℕ → List ℕ → List ℕ
 roomAfterWriting Passed room bs = writtenRoom room 0 bs
 roomAfterWriting (Refused r) room bs = room
 
--- "Writers test only 30, the counts (10, 11, 20, 21; 32 for a graph) and 35."
+-- "Writers test only 30, the counts (10, 11, 20, 21; 32 for a graph) and 35"; "after the counts" 16 for more marked nodes than n, and 32
+-- for an endpoint number above 1 (02, request 6)
 unfoldable pub deckWriteTests : Deck → Verdict
-deckWriteTests d = designSizes (d .design) then listSizes (d .list) then designCounts (d .design) then listCounts (d .list)
+deckWriteTests d =
+    designSizes (d .design) then listSizes (d .list)
+    then designCounts (d .design) then listCounts (d .list) then markedCount (d .design .nodes) (length (d .design .marked))
 
 unfoldable pub graphWriteTests : GraphSlices → Verdict
-graphWriteTests S = graphSizes S then graphCounts (graphOf S)
+graphWriteTests S = graphSizes S then graphCounts (graphOf S) then endpointTest (graphOf S)
 
 -- The reader of a packed true graph, from the bytes and the room.
 unfoldable pub graphRead : List ℕ → Room → Outcome Graph
 graphRead s R = guarded (roomSizes R) (parsed (readGraph s (R .nodes) (R .starts)))
 
--- The deck program and the C call: 4 "before all"; then the deck, in tables of 1,024 edges, 1,024 listed edges and 256
--- paths; then its tests, "25 included"; then removal, in "room for 512 copies and 2,048 edges with 16,384 words of scratch".
+-- The deck program and the C call: 4 "before all"; then the deck, in tables of 1,024 edges, 1,024 listed edges, 256 paths and 1,024 marked
+-- nodes; then its tests, "25 included"; then removal, in "room for 512 copies and 2,048 edges with 16,384 words of scratch".
 abbrev pub programTables : Tables
-programTables = record { edges = 1024; listed = 1024; paths = 256 }
+programTables = record { edges = 1024; listed = 1024; paths = 256; marked = 1024 }
 
 abbrev pub programRoom : Room
-programRoom = record { nodes = 512; starts = 2048; ends = 2048; names = 2048 }
+programRoom = record { nodes = 512; endpoints = 512; starts = 2048; ends = 2048; names = 2048 }
 
 unfoldable pub programRemoval : Deck → Outcome Graph
 programRemoval d =

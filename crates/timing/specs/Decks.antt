@@ -1,5 +1,5 @@
 -- "Deck: n, m, then start, end, delay for each edge; the count of paths, then for each its length and edges; T." Of each edge both
--- delays, "in the deck early first" (02, request 1).
+-- delays, "in the deck early first" (02, request 1); and "a count of marked nodes and their numbers, strictly rising, before T" (02, request 6).
 use Prim.Native.Nat.{ℕ, zero, suc, _+_}
 use mathlib.Core.List.{List, [], _∷_, _++_, map, flatMap}
 use lib.Dec.{leb}
@@ -10,6 +10,7 @@ use Rattle.timing.specs.Marks.{PathList, pathList, pathsOf}
 use Rattle.timing.specs.Numbers.{packed}
 use Rattle.timing.specs.Delays.{packedDelay, delayOf}
 use Rattle.timing.specs.Refusals.{unless, _then_}
+use Rattle.timing.specs.Tests.{markedCount}
 use Rattle.timing.specs.Parsing.{Parsed, Reader, _>>=_, _>>_, return, tested, number, repeated, ended}
 
 pub record Deck : Type 0 where
@@ -35,17 +36,19 @@ deckNumbers d =
     let paths = pathsOf (d .list) in
     (D .nodes ∷ length (D .starts) ∷ edgeNumbers (D .starts) (D .ends) (D .early) (D .late))
     ++ (length paths ∷ flatMap pathNumbers paths)
+    ++ (length (D .marked) ∷ D .marked)
     ++ (d .allowed ∷ [])
 
 -- the packed deck
 unfoldable pub packedDeck : Deck → List ℕ
 packedDeck d = flatMap packed (deckNumbers d)
 
--- how many places the reader is lent for edges, for listed edges and for paths
+-- how many places the reader is lent for edges, for listed edges, for paths and for marked nodes
 pub record Tables : Type 0 where
   pub edges : ℕ
   pub listed : ℕ
   pub paths : ℕ
+  pub marked : ℕ
 
 -- four numbers: how an edge stands in a deck
 pub record EdgeRow : Type 0 where
@@ -62,11 +65,11 @@ edgeRow s = do
   d ← number s
   return (record { start = a; end = b; early = c; late = d })
 
--- the design of n nodes and the edges that were read
-abbrev pub designOf : ℕ → List EdgeRow → Design
-designOf n edges =
+-- the design of n nodes, the edges and the marked nodes that were read
+abbrev pub designOf : ℕ → List EdgeRow → List ℕ → Design
+designOf n edges marked =
     design n (map (λ r. r .start) edges) (map (λ r. r .end) edges)
-    (map (λ r. delayOf (r .early)) edges) (map (λ r. delayOf (r .late)) edges)
+    (map (λ r. delayOf (r .early)) edges) (map (λ r. delayOf (r .late)) edges) marked
 
 -- the paths that are left to read: "the path lengths are summed as they are met, for 21 and its 36"
 abbrev pub paths : List ℕ → ℕ → ℕ → ℕ → Reader PathList
@@ -78,7 +81,8 @@ paths s table (suc k) sum = do
   rest ← paths s table k (sum + n)
   return (pathList (p ++ rest .edges) (n ∷ rest .lengths))
 
--- the reader meets 1, 2 and "the counts (10, 11, 20, 21, and after 11, 20 and 21 the 36 of that count) in file order, then 3"
+-- the reader meets 1, 2 and "the counts (10, 11, 20, 21, and after 11, 20 and 21 the 36 of that count) in file order, then 3"; 16 "at a
+-- count of marks above n, place n, then 36"
 abbrev pub deckReader : List ℕ → Tables → Reader Deck
 deckReader s tables = do
   n ← number s
@@ -89,10 +93,13 @@ deckReader s tables = do
   count ← number s
   tested (unless 20 (leb count 1024) then unless 36 (leb count (tables .paths)))
   list ← paths s (tables .listed) count 0
+  k ← number s
+  tested (markedCount n k then unless 36 (leb k (tables .marked)))
+  marked ← repeated k (number s)
   allowed ← number s
   ended s
   return (record {
-    design = designOf n edges;
+    design = designOf n edges marked;
     list = list;
     allowed = allowed;
   })

@@ -26,19 +26,19 @@ pub record SamePath (H G : Graph) (r q : Run) : Type 0 where
   pub path : takenBack H r ≡ takenBack G q
   pub delay : (d : ℕ → ℤ) → delayAlong d (r .edges) ≡ delayAlong d (q .edges)
 
--- Demand 2 for H, made of G by removing the listed paths L: H's source-to-sink paths, taken back to the design's edges, are
+-- Demand 2 for H, made of G by removing the listed paths L: H's complete paths, taken back to the design's edges, are
 -- G's complete paths that contain no listed path: each once, no others, delays unchanged. The design is one G
 -- (`designGraph`), an earlier true graph another: "its paths [stand in] for the complete paths".
 pub record Demand2 (G : Graph) (L : List (List ℕ)) (H : Graph) : Type 0 where
-  -- no others: every source-to-sink path of H is, taken back, a complete path that contains no listed path, with its delay
+  -- no others: every complete path of H is, taken back, a complete path that contains no listed path, with its delay
   pub sound : (r : Run) → List·Memᴰ r (completeRuns H) → (q : Run) × List·Memᴰ q (permittedRuns L G) × SamePath H G r q
-  -- all of them: every complete path that contains no listed path is, taken back, a source-to-sink path of H, with its delay
+  -- all of them: every complete path that contains no listed path is, taken back, a complete path of H, with its delay
   pub complete : (q : Run) → List·Memᴰ q (permittedRuns L G) → (r : Run) × List·Memᴰ r (completeRuns H) × SamePath H G r q
-  -- each once: two source-to-sink paths of H that are, taken back, one path are one path of H
+  -- each once: two complete paths of H that are, taken back, one path are one path of H
   pub once : (r s : Run) → List·Memᴰ r (completeRuns H) → List·Memᴰ s (completeRuns H) → takenBack H r ≡ takenBack H s → r ≡ s
 
 -- The four times of the paths P, each cut into two parts: "arrival is the largest delay of a path from a source", here of the
--- part up to the cut; "required is the smallest of T less the delay of a path to a sink", of the part from there on; slack is the
+-- part up to the cut; "required is the smallest of T less the delay of a path to" where paths end, of the part from there on; slack is the
 -- smallest of T less the whole delay; the earliest arrival is "the smallest early delay of a path from a source", of the part up to the
 -- cut. The first three go by the late delay, the last by the early one.
 pub record PathBest (early late : ℕ → ℤ) (t : ℤ) (P : List Edge → List Edge → Type 0) (a r s e : ℤ) : Type 0 where

@@ -1,23 +1,27 @@
 -- The design and its paths. One notion of graph serves the design and a true graph: removal from the design and from
 -- an earlier true graph are then one definition.
 use Prim.Native.Nat.{ℕ, zero, suc}
-use mathlib.Core.Bool.{Bool, cond}
+use mathlib.Core.Bool.{Bool, cond, _||_}
 use mathlib.Core.List.{List, [], _∷_, _++_, map, flatMap}
 use lib.Dec.{eqb}
 use lib.ListN.{length, getD}
 use lib.IntN.{ℤ, pos, _+ℤ_}
-use Rattle.timing.specs.Lists.{isNil, keep, upto}
+use Rattle.timing.specs.Lists.{isNil, anyOf, keep, oneIf, upto}
 
--- a design: n nodes, and the start, the end, "an early and a late delay" of each edge (02, request 1)
+-- A design: n nodes, the start, the end, "an early and a late delay" of each edge (02, request 1), and the marked nodes: "A deck may now
+-- mark nodes as ends, sinks or not" (02, request 6). The word *marked* is kept for this list; a *mark* is a tail at a node (`Marks`), and a
+-- node or copy where paths end is an *endpoint*.
 pub record Design : Type 0 where
   pub nodes : ℕ
   pub starts : List ℕ
   pub ends : List ℕ
   pub early : List ℤ
   pub late : List ℤ
+  pub marked : List ℕ
 
-abbrev pub design : ℕ → List ℕ → List ℕ → List ℤ → List ℤ → Design
-design n starts ends early late = record { nodes = n; starts = starts; ends = ends; early = early; late = late }
+abbrev pub design : ℕ → List ℕ → List ℕ → List ℤ → List ℤ → List ℕ → Design
+design n starts ends early late marked =
+    record { nodes = n; starts = starts; ends = ends; early = early; late = late; marked = marked }
 
 abbrev pub edgeStart : Design → ℕ → ℕ
 edgeStart D k = getD (D .starts) k 0
@@ -40,13 +44,14 @@ pub record Edge : Type 0 where
 abbrev pub edge : ℕ → ℕ → ℕ → Edge
 edge s t k = record { start = s; end = t; name = k }
 
--- a graph: the design node of each copy, and the edges between copies
+-- a graph: the design node of each copy; 1 for each copy where paths end and 0 for every other; and the edges between copies
 pub record Graph : Type 0 where
   pub nodes : List ℕ
+  pub endpoints : List ℕ
   pub edges : List Edge
 
-abbrev pub graph : List ℕ → List Edge → Graph
-graph nodes edges = record { nodes = nodes; edges = edges }
+abbrev pub graph : List ℕ → List ℕ → List Edge → Graph
+graph nodes endpoints edges = record { nodes = nodes; endpoints = endpoints; edges = edges }
 
 -- edges that are given as three lists
 abbrev pub edgesOf : List ℕ → List ℕ → List ℕ → List Edge
@@ -55,13 +60,28 @@ edgesOf (s ∷ starts) [] names = []
 edgesOf (s ∷ starts) (t ∷ ends) [] = []
 edgesOf (s ∷ starts) (t ∷ ends) (k ∷ names) = edge s t k ∷ edgesOf starts ends names
 
--- the design as a graph: each node is its own only copy, and each edge names itself
-unfoldable pub designGraph : Design → Graph
-designGraph D = graph (upto (D .nodes) 0) (edgesOf (D .starts) (D .ends) (upto (length (D .starts)) 0))
+-- the edges of a design, each of which names itself
+abbrev pub designEdges : Design → List Edge
+designEdges D = edgesOf (D .starts) (D .ends) (upto (length (D .starts)) 0)
 
--- the node of a copy
+-- "a sink [has] no edge out"
+abbrev pub isSink : Design → ℕ → Bool
+isSink D v = isNil (keep (λ e. eqb (e .start) v) (designEdges D))
+
+-- "complete paths run from a source to a sink or to a marked node"
+abbrev pub isEndpoint : Design → ℕ → Bool
+isEndpoint D v = isSink D v || anyOf (eqb v) (D .marked)
+
+-- the design as a graph: each node is its own only copy
+unfoldable pub designGraph : Design → Graph
+designGraph D = graph (upto (D .nodes) 0) (map (λ v. oneIf (isEndpoint D v)) (upto (D .nodes) 0)) (designEdges D)
+
+-- the node of a copy, and its endpoint number
 abbrev pub nodeOf : Graph → ℕ → ℕ
 nodeOf G c = getD (G .nodes) c 0
+
+abbrev pub endpointOf : Graph → ℕ → ℕ
+endpointOf G c = getD (G .endpoints) c 0
 
 unfoldable pub edgesIn : Graph → ℕ → List Edge
 edgesIn G c = keep (λ e. eqb (e .end) c) (G .edges)
@@ -73,9 +93,9 @@ edgesOut G c = keep (λ e. eqb (e .start) c) (G .edges)
 abbrev pub startsAt : Graph → ℕ → Bool
 startsAt G c = isNil (edgesIn G c)
 
--- "a sink [has] no edge out": paths end here, and nowhere else
+-- "each copy in the true graph says whether paths end at it": they end here, and nowhere else
 abbrev pub endsAt : Graph → ℕ → Bool
-endsAt G c = isNil (edgesOut G c)
+endsAt G c = eqb (endpointOf G c) 1
 
 -- The runs of fewer than k edges to a copy from where paths start, and from a copy to where paths end. Edges rise from
 -- lower to higher copies, so that k = the count of copies gives them all.
@@ -94,7 +114,8 @@ pub record Run : Type 0 where
   pub first : ℕ
   pub edges : List Edge
 
--- "a complete path is the run of edges from a source to a sink, or none at an isolated node"
+-- "complete paths run from a source to a sink or to a marked node, with no edges at a marked source [or an isolated node], and may pass
+-- through marked nodes": from where paths start to where paths end
 unfoldable pub completeRuns : Graph → List Run
 completeRuns G =
     flatMap

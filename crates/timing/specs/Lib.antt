@@ -1,4 +1,5 @@
--- What document 01 says, as definitions, in its order. Every contract is an equation with one of these.
+-- What document 01 says, and the requests of document 02 that have landed, as definitions, in document 01's order. Every contract is an
+-- equation with one of these.
 pub mod Lists
 -- the design and its paths, copies, series, times
 pub mod Graphs

@@ -35,6 +35,10 @@ module _ {A : Type 0} where
   abbrev pub placed : List A → List A → List A
   placed xs room = xs ++ drop (length xs) room
 
+-- 1 where something holds, and 0 where not
+abbrev pub oneIf : Bool → ℕ
+oneIf b = cond b 1 0
+
 -- n numbers from i on
 abbrev pub upto : ℕ → ℕ → List ℕ
 upto zero i = []

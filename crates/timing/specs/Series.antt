@@ -7,7 +7,7 @@ use lib.ListN.{length}
 use Rattle.timing.specs.declared.Verdict.{Verdict}
 use Rattle.timing.specs.declared.Verdict.the-variants.{Passed, Refused}
 use Rattle.timing.specs.Lists.{sum}
-use Rattle.timing.specs.Graphs.{Design, Edge, edge, Graph, designGraph, nodeOf}
+use Rattle.timing.specs.Graphs.{Design, Edge, edge, Graph, designGraph, nodeOf, endpointOf}
 use Rattle.timing.specs.Marks.{pathsOf}
 use Rattle.timing.specs.TrueGraphs.{trueGraph}
 use Rattle.timing.specs.Calls.{Removal, Outcome, made, refused, removeFromDesign, removeFromGraph, slicesOf}
@@ -68,13 +68,16 @@ abbrev pub renumbered : (ℕ → ℕ) → Edge → Edge
 renumbered f e = edge (f (e .start)) (f (e .end)) (e .name)
 
 -- "its copies can be renumbered within each node so that the edges, as start copy, end copy and design edge, are the same
--- set", with "its returned count of copies, the node of each copy number and the count of edges"
+-- set", with "its returned count of copies, the node of each copy number and the count of edges"; "the cut list's renumbering keeps" the
+-- ends (02, request 6)
 pub record Renumbered (G H : Graph) : Type 0 where
   pub nodes : G .nodes ≡ H .nodes
+  pub sizes : length (G .endpoints) ≡ length (H .endpoints)
   pub edges : length (G .edges) ≡ length (H .edges)
   pub to : ℕ → ℕ
   pub back : ℕ → ℕ
   pub there : (c : ℕ) → c < length (G .nodes) → (to c < length (G .nodes)) × (back (to c) ≡ c) × (nodeOf H (to c) ≡ nodeOf G c)
+  pub endpoints : (c : ℕ) → c < length (G .nodes) → endpointOf H (to c) ≡ endpointOf G c
   pub here : (c : ℕ) → c < length (G .nodes) → (back c < length (G .nodes)) × (to (back c) ≡ c)
   pub forth : (e : Edge) → List·Memᴰ e (G .edges) → List·Memᴰ (renumbered to e) (H .edges)
   pub return : (e : Edge) → List·Memᴰ e (H .edges) → List·Memᴰ (renumbered back e) (G .edges)

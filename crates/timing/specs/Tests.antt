@@ -1,19 +1,20 @@
 -- Who can cause a refusal: each test with its number, its exact condition and its place.
-use Prim.Native.Nat.{ℕ, suc, _+_, _*_, min}
-use mathlib.Core.Bool.{Bool, not, cond, _&&_}
+use Prim.Native.Nat.{ℕ, zero, suc, _+_, _*_, min}
+use mathlib.Core.Bool.{Bool, false, not, cond, _&&_, _||_}
 use mathlib.Core.List.{List, [], _∷_, map, flatMap}
 use lib.Dec.{eqb, ltb, leb}
 use lib.IntN.{natAbs}
-use lib.ListN.{length, drop}
+use lib.ListN.{length, getD, drop}
 use lib.Signed.{ltZ}
 use Rattle.timing.specs.declared.Verdict.{Verdict}
+use Rattle.timing.specs.declared.Verdict.the-variants.{Passed, Refused}
 use Rattle.timing.specs.declared.Fault.{Fault}
 use Rattle.timing.specs.declared.Fault.the-variants.{At, None}
 use Rattle.timing.specs.Lists.{countOf, upto, sum}
 use Rattle.timing.specs.Graphs.{Design, edgeStart, edgeEnd, edgeEarly, edgeLate, Graph}
 use Rattle.timing.specs.Marks.{PathList, pathsOf}
-use Rattle.timing.specs.WellFormed.{fewEnough, wellFormed}
-use Rattle.timing.specs.Refusals.{unless, firstBad, firstFault, _then_}
+use Rattle.timing.specs.WellFormed.{fewEnough, zeroOrOne, wellFormed}
+use Rattle.timing.specs.Refusals.{refusal, unless, firstBad, firstFault, _then_}
 
 -- 30: "lent slices that belong together differ in length"
 abbrev pub sameSizes : ℕ → ℕ → ℕ → Verdict
@@ -57,7 +58,19 @@ outOfRange D k = not (leb (natAbs (edgeEarly D k)) 1000000 && leb (natAbs (edgeL
 abbrev pub earlyAboveLate : Design → ℕ → Bool
 earlyAboveLate D k = ltZ (edgeLate D k) (edgeEarly D k)
 
--- 10 to 15, "one number over everything before the next"
+-- 16: "a marked node not below n or not rising, place its index in the marks"
+abbrev pub risesNot : List ℕ → ℕ → Bool
+risesNot marked zero = false
+risesNot marked (suc i) = leb (getD marked (suc i) 0) (getD marked i 0)
+
+abbrev pub wrongMarked : Design → ℕ → Bool
+wrongMarked D i = not (ltb (getD (D .marked) i 0) (D .nodes)) || risesNot (D .marked) i
+
+-- "the reader gives it at a count of marks above n, place n", and the deck's writer too: no marked node of index n can be right
+abbrev pub markedCount : ℕ → ℕ → Verdict
+markedCount n count = cond (leb count n) Passed (Refused (refusal 16 n))
+
+-- 10 to 16, "one number over everything before the next"
 unfoldable pub designTests : Design → Verdict
 designTests D =
     let edges = upto (length (D .starts)) 0 in
@@ -66,6 +79,7 @@ designTests D =
     then firstBad 13 (falls D) 0 edges
     then firstBad 14 (outOfRange D) 0 edges
     then firstBad 15 (earlyAboveLate D) 0 edges
+    then firstBad 16 (wrongMarked D) 0 (upto (length (D .marked)) 0)
 
 -- 20, 21: "more than 1,024 paths; more than 8,192 listed edges"
 abbrev pub listCounts : PathList → Verdict
@@ -105,12 +119,15 @@ listTests D L =
 abbrev pub allowedTest : ℕ → Verdict
 allowedTest T = unless 25 (leb T 1000000000)
 
--- 32: "the earlier graph is not well formed"; writers and readers look at its counts alone
+-- 32: "the earlier graph is not well formed"; writers look at its counts and then at its endpoint numbers alone
 abbrev pub graphTest : Design → Graph → Verdict
 graphTest D G = unless 32 (wellFormed D G)
 
 abbrev pub graphCounts : Graph → Verdict
 graphCounts G = unless 32 (fewEnough G)
+
+abbrev pub endpointTest : Graph → Verdict
+endpointTest G = unless 32 (zeroOrOne (G .endpoints))
 
 -- "a candidate is one per copy (or node), and one more per listed edge, not first in its path, that starts at its node"
 unfoldable pub candidates : Design → Graph → PathList → ℕ
@@ -130,15 +147,17 @@ wordsTest count listed edges words = unless 31 (leb (scratchWords count listed e
 unfoldable pub scratchTest : Design → Graph → PathList → ℕ → Verdict
 scratchTest D G L words = wordsTest (candidates D G L) (length (L .edges)) (length (G .edges)) words
 
--- the lent lengths of a room: for the node of each copy, and for the edges' start copies, end copies and design edges
+-- the lent lengths of a room: for the node and the endpoint number of each copy, and for the edges' start copies, end copies and design edges
 pub record Room : Type 0 where
   pub nodes : ℕ
+  pub endpoints : ℕ
   pub starts : ℕ
   pub ends : ℕ
   pub names : ℕ
 
+-- 30 of a room, and of a graph as it is lent
 abbrev pub roomSizes : Room → Verdict
-roomSizes R = sameSizes (R .starts) (R .ends) (R .names)
+roomSizes R = sameSizes (R .nodes) (R .nodes) (R .endpoints) then sameSizes (R .starts) (R .ends) (R .names)
 
 -- 33: "result copies exceed the room"; 34: "they fit and the edges exceed theirs"; "room is the lent length, at most 16,384 and 65,536"
 unfoldable pub roomTests : Room → Graph → Verdict

@@ -39,7 +39,8 @@ module _ (d : ℕ → ℤ) (T : ℤ) (G : Graph) where
   unfoldable pub arrivalAt : ℕ → ℤ
   arrivalAt c = largest (map (delayAlong d) (runsTo G (length (G .nodes)) c))
 
-  -- "required is the smallest of T less the delay of a path to a sink copy (T at a sink copy)"
+  -- "required is the smallest of T less the delay of a path to" where paths end: "required time at such a copy is T or the smaller figure
+  -- from further on" (02, request 6)
   unfoldable pub requiredAt : ℕ → ℤ
   requiredAt c = smallest (map (λ r. T -ℤ delayAlong d r) (runsFrom G (length (G .nodes)) c))
 

@@ -1,4 +1,4 @@
-// The limits of document 01, and the types that every call's answer is made of.
+// The limits of documents 01 and 02, and the types that every call's answer is made of.
 // The definitions that the contracts cite are in specs/.
 
 pub const MAX_NODES: u32 = 4096;
@@ -22,7 +22,7 @@ pub const MAX_DECK_BYTES: usize = 65536;
 // Of scratch, for each candidate, listed edge and edge of the graph worked on.
 pub const WORDS_PER_UNIT: usize = 8;
 
-// A refusal: document 01's number, and the place of the fault. Where the place is a path (22 to 24), `index`
+// A refusal: its number in documents 01 and 02, and the place of the fault. Where the place is a path (22 to 24), `index`
 // is a second one: that of an edge within the path, or 0 where the path is empty. Else it is 0.
 pub struct Refusal {
     pub number: u32,
@@ -82,6 +82,7 @@ pub enum DeckRead {
         edges: usize,
         listed: usize,
         paths: usize,
+        marked: usize,
         allowed: u32,
     },
     Refused(Refusal),

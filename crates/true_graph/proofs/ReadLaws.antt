@@ -1,4 +1,4 @@
--- Reading a deck: no place of a refusal is past the bytes, and what is found fits the tables.
+-- Reading a deck: every refusal is small, and what is found fits the tables.
 use Prim.Native.Nat.{ℕ, zero, suc, _+_, _≤_}
 use native.Mathlib.Omega.{arith}
 use mathlib.Core.Path.{_≡_, refl, sym, subst}
@@ -6,6 +6,7 @@ use mathlib.Core.Bool.{Bool, true, false, cond}
 use mathlib.Core.List.{List, _∷_}
 use lib.Dec.{leb}
 use lib.ListN.{length, drop, length-drop, length-map}
+use borrow.Author.Tests.{leb-true}
 use Rattle.timing.specs.declared.Verdict.{Verdict}
 use Rattle.timing.specs.declared.Verdict.the-variants.{Passed, Refused}
 use Rattle.timing.specs.declared.Groups.{Groups}
@@ -15,92 +16,100 @@ use Rattle.timing.specs.Numbers.{groupsIn, numberAnswer, readNumber}
 use Rattle.timing.specs.Delays.{delayOf}
 use Rattle.timing.specs.Parsing.{Parsed, found, stopped, Reader, onward, _>>=_, _>>_, return, tested, parsedNumber, number, repeated, ended}
 use Rattle.timing.specs.Decks.{Deck, Tables, EdgeRow, edgeRow, paths, readDeck}
+use Rattle.timing.specs.Tests.{markedCount}
 use Rattle.timing.specs.Calls.{Outcome, made, refused, parsed}
+use Rattle.timing.proofs.Verdicts.{unless-passed}
 use Rattle.packed.proofs.Numbers.{Inside, number-inside}
 use Rattle.deck_reader.specs.Reading.{deckFrom, edgeCount, edgesPlace, rowsFrom, Fits}
 use Rattle.deck_reader.proofs.Reading.{Is, is-deck}
+use Rattle.true_graph.specs.Small.{SmallRefusal, Small}
+use Rattle.true_graph.proofs.Small.{small-then, small-unless}
 
--- no place is past the bytes
-abbrev pub Within : {A : Type 0} → List ℕ → Parsed A → Type 0
-Within s (found x at) = at ≤ length s
-Within s (stopped r) = (r .number ≤ 36) × (r .place ≤ length s)
+-- of at most 65,536 bytes: no place that is found is past them, and what is refused is small
+module _ (s : List ℕ) (few : length s ≤ 65536) where
+  abbrev pub Within : {A : Type 0} → Parsed A → Type 0
+  Within (found x at) = at ≤ length s
+  Within (stopped r) = SmallRefusal r
 
-within-onward : {A B : Type 0} (s : List ℕ) (p : Parsed A) (f : A → Reader B) → Within s p → ((x : A) (at : ℕ) → at ≤ length s → Within s (f x at)) → Within s (onward p f)
-within-onward s (found x at) f h k = k x at h
-within-onward s (stopped r) f h k = h
+  within-onward : {A B : Type 0} (p : Parsed A) (f : A → Reader B) → Within p → ((x : A) (at : ℕ) → at ≤ length s → Within (f x at)) → Within (onward p f)
+  within-onward (found x at) f h k = k x at h
+  within-onward (stopped r) f h k = h
 
-within-number : (s : List ℕ) (at : ℕ) → at ≤ length s → Within s (number s at)
-unfolding readNumber
-within-number s at h = go (groupsIn 15 4 (drop at s)) (number-inside 15 4 (drop at s))
-  where
-    go : (g : Groups) → Inside (drop at s) g → Within s (parsedNumber (numberAnswer (length s) at g))
-    go (Number v n) i = omega (arith, i .1, length-drop at s)
-    go Ended i = (omega arith, omega arith)
-    go Unfit i = (omega arith, h)
+  within-number : (at : ℕ) → at ≤ length s → Within (number s at)
+  unfolding readNumber
+  within-number at h = go (groupsIn 15 4 (drop at s)) (number-inside 15 4 (drop at s))
+    where
+      go : (g : Groups) → Inside (drop at s) g → Within (parsedNumber (numberAnswer (length s) at g))
+      go (Number v n) i = omega (arith, i .1, length-drop at s)
+      go Ended i = (omega arith, omega arith)
+      go Unfit i = (omega arith, omega arith)
 
--- tests whose place is 0
-abbrev Front : Verdict → Type 0
-Front Passed = Unit {0}
-Front (Refused r) = (r .number ≤ 36) × (r .place ≡ 0)
+  -- what comes after a test, where it passes
+  within-tested : {B : Type 0} (v : Verdict) (at : ℕ) (f : Unit {0} → Reader B) → Small v → (v ≡ Passed → Within (f tt at)) → Within (onward (tested v at) f)
+  within-tested Passed at f a k = k refl
+  within-tested (Refused r) at f a k = a
 
-front-unless : (k : ℕ) → k ≤ 36 → (fit : Bool) → Front (unless k fit)
-front-unless k h true = tt
-front-unless k h false = (h, refl)
+  within-count : {B : Type 0} (k n limit table at : ℕ) (f : Unit {0} → Reader B) → k ≤ 36 → Within (f tt at)
+      → Within (onward (tested (unless k (leb n limit) then unless 36 (leb n table)) at) f)
+  within-count k n limit table at f l w =
+      within-tested (unless k (leb n limit) then unless 36 (leb n table)) at f
+      (small-then (unless k (leb n limit)) (unless 36 (leb n table)) (small-unless k l (leb n limit)) (λ e. small-unless 36 (omega arith) (leb n table))) (λ e. w)
 
-front-then : (v w : Verdict) → Front v → Front w → Front (v then w)
-front-then Passed w a b = b
-front-then (Refused r) w a b = a
+  within-repeated : {A : Type 0} (p : Reader A) → ((at : ℕ) → at ≤ length s → Within (p at)) → (k at : ℕ) → at ≤ length s → Within (repeated k p at)
+  within-repeated p w zero at h = h
+  within-repeated {A} p w (suc k) at h =
+      within-onward (p at) (λ x. repeated k p >>= (λ xs. return (x ∷ xs))) (w at h)
+      (λ x a i. within-onward (repeated k p a) (λ xs. return (x ∷ xs)) (within-repeated p w k a i) (λ xs b j. j))
 
-within-tested : (s : List ℕ) (v : Verdict) (at : ℕ) → Front v → at ≤ length s → Within s (tested v at)
-within-tested s Passed at f h = h
-within-tested s (Refused r) at f h = (f .0, omega (arith, f .1))
+  within-edge : (at : ℕ) → at ≤ length s → Within (edgeRow s at)
+  within-edge at h =
+      within-onward (number s at) _ (within-number at h)
+      (λ a p i. within-onward (number s p) _ (within-number p i)
+      (λ b q j. within-onward (number s q) _ (within-number q j)
+      (λ c r k. within-onward (number s r) _ (within-number r k) (λ d t l. l))))
 
-within-count : (s : List ℕ) (k n limit table at : ℕ) → k ≤ 36 → at ≤ length s → Within s (tested (unless k (leb n limit) then unless 36 (leb n table)) at)
-within-count s k n limit table at l h =
-    within-tested s (unless k (leb n limit) then unless 36 (leb n table)) at
-    (front-then (unless k (leb n limit)) (unless 36 (leb n table)) (front-unless k l (leb n limit)) (front-unless 36 (omega arith) (leb n table))) h
+  within-paths : (table k sum at : ℕ) → at ≤ length s → Within (paths s table k sum at)
+  within-paths table zero sum at h = h
+  within-paths table (suc k) sum at h =
+      within-onward (number s at) _ (within-number at h)
+      (λ n a i. within-count 21 (sum + n) 8192 table a _ (omega arith)
+      (within-onward (repeated n (number s) a) _ (within-repeated (number s) within-number n a i)
+      (λ p c l. within-onward (paths s table k (sum + n) c) _ (within-paths table k (sum + n) c l) (λ rest d m. m))))
 
-within-repeated : {A : Type 0} (s : List ℕ) (p : Reader A) → ((at : ℕ) → at ≤ length s → Within s (p at)) → (k at : ℕ) → at ≤ length s → Within s (repeated k p at)
-within-repeated s p w zero at h = h
-within-repeated {A} s p w (suc k) at h =
-    within-onward s (p at) (λ x. repeated k p >>= (λ xs. return (x ∷ xs))) (w at h)
-    (λ x a i. within-onward s (repeated k p a) (λ xs. return (x ∷ xs)) (within-repeated s p w k a i) (λ xs b j. j))
+  within-ended : (at : ℕ) → at ≤ length s → Within (ended s at)
+  within-ended at h = go (leb (length s) at)
+    where
+      go : (b : Bool) → Within {A = Unit {0}} (cond b (found tt at) (stopped (refusal 3 at)))
+      go true = h
+      go false = (omega arith, omega arith)
 
-within-edge : (s : List ℕ) (at : ℕ) → at ≤ length s → Within s (edgeRow s at)
-within-edge s at h =
-    within-onward s (number s at) _ (within-number s at h)
-    (λ a p i. within-onward s (number s p) _ (within-number s p i)
-    (λ b q j. within-onward s (number s q) _ (within-number s q j)
-    (λ c r k. within-onward s (number s r) _ (within-number s r k) (λ d t l. l))))
+  -- 16 has the place n, for which 10 has passed
+  within-marked : {B : Type 0} (n k table at : ℕ) (f : Unit {0} → Reader B) → unless 10 (leb n 4096) ≡ Passed → Within (f tt at)
+      → Within (onward (tested (markedCount n k then unless 36 (leb k table)) at) f)
+  within-marked n k table at f e w =
+      within-tested (markedCount n k then unless 36 (leb k table)) at f
+      (small-then (markedCount n k) (unless 36 (leb k table)) (go (leb k n)) (λ q. small-unless 36 (omega arith) (leb k table))) (λ q. w)
+    where
+      go : (b : Bool) → Small (cond b Passed (Refused (refusal 16 n)))
+      go true = tt
+      go false = (omega arith, omega (arith, leb-true n 4096 (unless-passed 10 (leb n 4096) e)))
 
-within-paths : (s : List ℕ) (table k sum at : ℕ) → at ≤ length s → Within s (paths s table k sum at)
-within-paths s table zero sum at h = h
-within-paths s table (suc k) sum at h =
-    within-onward s (number s at) _ (within-number s at h)
-    (λ n a i. within-onward s (tested (unless 21 (leb (sum + n) 8192) then unless 36 (leb (sum + n) table)) a) _ (within-count s 21 (sum + n) 8192 table a (omega arith) i)
-    (λ u b j. within-onward s (repeated n (number s) b) _ (within-repeated s (number s) (within-number s) n b j)
-    (λ p c l. within-onward s (paths s table k (sum + n) c) _ (within-paths s table k (sum + n) c l) (λ rest d m. m))))
-
-within-ended : (s : List ℕ) (at : ℕ) → at ≤ length s → Within s (ended s at)
-within-ended s at h = go (leb (length s) at)
-  where
-    go : (b : Bool) → Within {A = Unit {0}} s (cond b (found tt at) (stopped (refusal 3 at)))
-    go true = h
-    go false = (omega arith, h)
-
-pub within-deck : (s : List ℕ) (tables : Tables) → Within s (readDeck s tables)
-unfolding readDeck
-within-deck s tables =
-    within-onward s (number s 0) _ (within-number s 0 (omega arith))
-    (λ n a h. within-onward s (tested (unless 10 (leb n 4096)) a) _ (within-tested s (unless 10 (leb n 4096)) a (front-unless 10 (omega arith) (leb n 4096)) h)
-    (λ u b i. within-onward s (number s b) _ (within-number s b i)
-    (λ m c j. within-onward s (tested (unless 11 (leb m 16384) then unless 36 (leb m (tables .edges))) c) _ (within-count s 11 m 16384 (tables .edges) c (omega arith) j)
-    (λ v d k. within-onward s (repeated m (edgeRow s) d) _ (within-repeated s (edgeRow s) (within-edge s) m d k)
-    (λ rows e l. within-onward s (number s e) _ (within-number s e l)
-    (λ count f o. within-onward s (tested (unless 20 (leb count 1024) then unless 36 (leb count (tables .paths))) f) _ (within-count s 20 count 1024 (tables .paths) f (omega arith) o)
-    (λ w g q. within-onward s (paths s (tables .listed) count 0 g) _ (within-paths s (tables .listed) count 0 g q)
-    (λ list t r. within-onward s (number s t) _ (within-number s t r)
-    (λ allowed x y. within-onward s (ended s x) _ (within-ended s x y) (λ z aa bb. bb))))))))))
+  pub within-deck : (tables : Tables) → Within (readDeck s tables)
+  unfolding readDeck
+  within-deck tables =
+      within-onward (number s 0) _ (within-number 0 (omega arith))
+      (λ n a h. within-tested (unless 10 (leb n 4096)) a _ (small-unless 10 (omega arith) (leb n 4096))
+      (λ ten. within-onward (number s a) _ (within-number a h)
+      (λ m c j. within-count 11 m 16384 (tables .edges) c _ (omega arith)
+      (within-onward (repeated m (edgeRow s) c) _ (within-repeated (edgeRow s) within-edge m c j)
+      (λ rows e l. within-onward (number s e) _ (within-number e l)
+      (λ count f o. within-count 20 count 1024 (tables .paths) f _ (omega arith)
+      (within-onward (paths s (tables .listed) count 0 f) _ (within-paths (tables .listed) count 0 f o)
+      (λ list t r. within-onward (number s t) _ (within-number t r)
+      (λ k x y. within-marked n k (tables .marked) x _ ten
+      (within-onward (repeated k (number s) x) _ (within-repeated (number s) within-number k x y)
+      (λ marked z w. within-onward (number s z) _ (within-number z w)
+      (λ allowed u v. within-onward (ended s u) _ (within-ended u v) (λ q aa bb. bb)))))))))))))
 
 -- a deck that is read has four slices of edges of one length
 pub record Even (d : Deck) : Type 0 where

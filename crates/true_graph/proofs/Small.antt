@@ -1,5 +1,5 @@
 -- Every refusal and every count fits one number of 64 bits: a place is that of an edge or a path, which are counted before they
--- are looked at, and what is made has passed 33 and 34.
+-- are looked at, or of a marked node, which are at most n before one is wrong; and what is made has passed 33 and 34.
 use Prim.Native.Nat.{ℕ, _≤_, min}
 use native.Mathlib.Omega.{arith}
 use mathlib.Core.Path.{_≡_, refl, subst}
@@ -15,7 +15,7 @@ use Rattle.timing.specs.TrueGraphs.{trueGraph}
 use Rattle.timing.specs.WellFormed.{wellFormed}
 use Rattle.timing.specs.Refusals.{unless, _then_}
 use Rattle.timing.specs.Tests.{sameSizes, timeSizes, designSizes, listSizes, designTests, listTests, allowedTest, graphTest, candidates, scratchWords, scratchTest, Room, roomSizes, roomTests}
-use Rattle.timing.specs.Calls.{GraphSlices, graphOf, graphSizes, outcome, Removal, removeFromDesign, removeFromGraph, graphAnswer, testTimes}
+use Rattle.timing.specs.Calls.{GraphSlices, graphOf, roomOf, graphSizes, outcome, Removal, removeFromDesign, removeFromGraph, graphAnswer, testTimes}
 use Rattle.theorems.proofs.Lists.{holds}
 use Rattle.timing.proofs.Verdicts.{every-then, every-unless}
 use Rattle.theorems.proofs.Tests.{every-design, every-list}
@@ -36,6 +36,11 @@ small-design-sizes D =
     let m = length (D .starts) in
     small-then (sameSizes m m (length (D .ends))) (sameSizes m (length (D .early)) (length (D .late)))
     (small-sizes m m (length (D .ends))) (λ e. small-sizes m (length (D .early)) (length (D .late)))
+
+pub small-room-sizes : (R : Room) → Small (roomSizes R)
+small-room-sizes R =
+    small-then (sameSizes (R .nodes) (R .nodes) (R .endpoints)) (sameSizes (R .starts) (R .ends) (R .names))
+    (small-sizes (R .nodes) (R .nodes) (R .endpoints)) (λ e. small-sizes (R .starts) (R .ends) (R .names))
 
 pub small-design : (D : Design) → Small (designTests D)
 small-design D = every-design SmallRefusal D (λ k j a b l. (omega arith, omega arith))
@@ -98,7 +103,7 @@ small-from-design D r =
     (small-made (r .room) H (designEarly D r)
     (small-then (designSizes D) _ (small-design-sizes D)
     (λ e. small-then (listSizes (r .list)) _ (small-list-sizes (r .list))
-    (λ e. small-then (roomSizes (r .room)) _ (small-sizes (r .room .starts) (r .room .ends) (r .room .names))
+    (λ e. small-then (roomSizes (r .room)) _ (small-room-sizes (r .room))
     (λ e. small-then (designTests D) _ (small-design D)
     (λ e. small-then (listTests D (r .list)) _ (small-list D (r .list)) (λ e. small-scratch D G (r .list) (r .scratch))))))))
 
@@ -112,8 +117,8 @@ small-from-graph D S r =
     (small-made (r .room) H (graphEarly D S r)
     (small-then (designSizes D) _ (small-design-sizes D)
     (λ e. small-then (listSizes (r .list)) _ (small-list-sizes (r .list))
-    (λ e. small-then (graphSizes S) _ (small-sizes (length (S .starts)) (length (S .ends)) (length (S .names)))
-    (λ e. small-then (roomSizes (r .room)) _ (small-sizes (r .room .starts) (r .room .ends) (r .room .names))
+    (λ e. small-then (graphSizes S) _ (small-room-sizes (roomOf S))
+    (λ e. small-then (roomSizes (r .room)) _ (small-room-sizes (r .room))
     (λ e. small-then (designTests D) _ (small-design D)
     (λ e. small-then (listTests D (r .list)) _ (small-list D (r .list))
     (λ e. small-then (graphTest D G) _ (small-unless 32 (omega arith) (wellFormed D G)) (λ e. small-scratch D G (r .list) (r .scratch))))))))))
@@ -123,7 +128,7 @@ unfolding testTimes
 small-times D S T a r s e =
     let n = length (S .nodes) in
     small-then (designSizes D) _ (small-design-sizes D)
-    (λ q. small-then (graphSizes S) _ (small-sizes (length (S .starts)) (length (S .ends)) (length (S .names)))
+    (λ q. small-then (graphSizes S) _ (small-room-sizes (roomOf S))
     (λ q. small-then (timeSizes n a r s e) _ (small-then (sameSizes n a r) (sameSizes n s e) (small-sizes n a r) (λ p. small-sizes n s e))
     (λ q. small-then (designTests D) _ (small-design D)
     (λ q. small-then (allowedTest T) _ (small-unless 25 (omega arith) (leb T 1000000000)) (λ q. small-unless 32 (omega arith) (wellFormed D (graphOf S)))))))

@@ -22,10 +22,10 @@ deckOf D L allowed = record { design = D; list = L; allowed = allowed }
 
 -- the graph in front of a room
 abbrev pub frontSlices : ℕ → ℕ → GraphSlices → GraphSlices
-frontSlices copies edges S = graphSlices (take copies (S .nodes)) (take edges (S .starts)) (take edges (S .ends)) (take edges (S .names))
+frontSlices copies edges S = graphSlices (take copies (S .nodes)) (take copies (S .endpoints)) (take edges (S .starts)) (take edges (S .ends)) (take edges (S .names))
 
 abbrev pub MadeFits : GraphMade → GraphSlices → Type 0
-MadeFits (Counts copies edges) S = (copies ≤ length (S .nodes)) × (edges ≤ length (S .starts)) × (edges ≤ length (S .ends)) × (edges ≤ length (S .names))
+MadeFits (Counts copies edges) S = (copies ≤ length (S .nodes)) × (copies ≤ length (S .endpoints)) × (edges ≤ length (S .starts)) × (edges ≤ length (S .ends)) × (edges ≤ length (S .names))
 MadeFits (NoGraph r) S = Unit {0}
 
 -- and packed
@@ -38,13 +38,18 @@ madeRoom (Counts copies edges) S room = roomAfterWriting (graphWriteTests (front
 madeRoom (NoGraph r) S room = room
 
 -- the deck in front of tables
-abbrev pub ReadFits : DeckRead → List ℕ → List ℕ → List ℤ → List ℤ → List ℕ → List ℕ → Type 0
-ReadFits (DeckFound n edges count paths allowed) starts ends early late listed lengths =
-    (edges ≤ length starts) × (edges ≤ length ends) × (edges ≤ length early) × (edges ≤ length late) × (count ≤ length listed) × (paths ≤ length lengths)
-ReadFits (NoDeck r) starts ends early late listed lengths = Unit {0}
+abbrev pub ReadFits : DeckRead → List ℕ → List ℕ → List ℤ → List ℤ → List ℕ → List ℕ → List ℕ → Type 0
+ReadFits (DeckFound n edges count paths k allowed) starts ends early late marked listed lengths =
+    (edges ≤ length starts) × (edges ≤ length ends) × (edges ≤ length early) × (edges ≤ length late) × (k ≤ length marked)
+    × (count ≤ length listed) × (paths ≤ length lengths)
+ReadFits (NoDeck r) starts ends early late marked listed lengths = Unit {0}
 
 -- and its true graph
-abbrev pub readRemoval : DeckRead → List ℕ → List ℕ → List ℤ → List ℤ → List ℕ → List ℕ → Outcome Graph
-readRemoval (DeckFound n edges count paths allowed) starts ends early late listed lengths =
-    programRemoval (deckOf (design n (take edges starts) (take edges ends) (take edges early) (take edges late)) (pathList (take count listed) (take paths lengths)) allowed)
-readRemoval (NoDeck r) starts ends early late listed lengths = refused r
+abbrev pub readRemoval : DeckRead → List ℕ → List ℕ → List ℤ → List ℤ → List ℕ → List ℕ → List ℕ → Outcome Graph
+readRemoval (DeckFound n edges count paths k allowed) starts ends early late marked listed lengths =
+    programRemoval
+    (deckOf
+    (design n (take edges starts) (take edges ends) (take edges early) (take edges late) (take k marked))
+    (pathList (take count listed) (take paths lengths))
+    allowed)
+readRemoval (NoDeck r) starts ends early late marked listed lengths = refused r

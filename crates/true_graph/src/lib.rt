@@ -16,18 +16,20 @@ use timing::Written;
 use unfit::test_deck;
 use verdicts::refuse;
 
-// Packs the graph that was made, which stands in front of its four slices, into the room.
+// Packs the graph that was made, which stands in front of its five slices, into the room.
 fn write_made(
     made: GraphMade,
     nodes: &[u32],
+    endpoint: &[u32],
     from: &[u32],
     to: &[u32],
     via: &[u32],
     room: &mut [u8],
 ) -> Written
-    requires { ⌜ MadeFits made (graphSlices (now nodes) (now from) (now to) (now via)) ⌝ }
+    requires { ⌜ MadeFits made (graphSlices (now nodes) (now endpoint) (now from) (now to) (now via)) ⌝ }
     ensures { λ r.
-        let S = graphSlices (now (nodes .entry)) (now (from .entry)) (now (to .entry)) (now (via .entry)) in
+        let S = graphSlices (now (nodes .entry)) (now (endpoint .entry))
+        (now (from .entry)) (now (to .entry)) (now (via .entry)) in
         ⌜ (r ≡ madeWritten made S (now (room .entry)))
         × (now (room .exit) ≡ madeRoom made S (now (room .entry))) ⌝ }
 {
@@ -35,6 +37,7 @@ fn write_made(
         GraphMade::Refused(r) => Written::Refused(r),
         GraphMade::Counts { copies, edges } => write_graph(
             &nodes[..copies],
+            &endpoint[..copies],
             &from[..edges],
             &to[..edges],
             &via[..edges],
@@ -50,18 +53,21 @@ fn pack_graph(
     ends: &[u32],
     early: &[i32],
     late: &[i32],
+    marked: &[u32],
     listed: &[u32],
     lengths: &[u32],
     room: &mut [u8],
 ) -> Written
     ensures { λ r.
-        let D = design n (now (starts .entry)) (now (ends .entry)) (now (early .entry)) (now (late .entry)) in
+        let D = design n (now (starts .entry)) (now (ends .entry)) (now (early .entry)) (now (late .entry))
+        (now (marked .entry)) in
         let L = pathList (now (listed .entry)) (now (lengths .entry)) in
         let o = removeFromDesign D (removal L programRoom 16384) in
         ⌜ (r ≡ cWritten o (now (room .entry)))
         × (now (room .exit) ≡ roomAfterC o (now (room .entry))) ⌝ }
 {
     let mut room_nodes = [0; 512];
+    let mut room_endpoint = [0; 512];
     let mut room_from = [0; 2048];
     let mut room_to = [0; 2048];
     let mut room_via = [0; 2048];
@@ -72,15 +78,25 @@ fn pack_graph(
         ends,
         early,
         late,
+        marked,
         listed,
         lengths,
         &mut room_nodes,
+        &mut room_endpoint,
         &mut room_from,
         &mut room_to,
         &mut room_via,
         &mut scratch,
     );
-    write_made(made, &room_nodes, &room_from, &room_to, &room_via, room)
+    write_made(
+        made,
+        &room_nodes,
+        &room_endpoint,
+        &room_from,
+        &room_to,
+        &room_via,
+        room,
+    )
 }
 
 // The same for a deck: 25 is tested before 31.
@@ -90,23 +106,35 @@ fn pack_tested(
     ends: &[u32],
     early: &[i32],
     late: &[i32],
+    marked: &[u32],
     listed: &[u32],
     lengths: &[u32],
     allowed: u32,
     room: &mut [u8],
 ) -> Written
     ensures { λ r.
-        let D = design n (now (starts .entry)) (now (ends .entry)) (now (early .entry)) (now (late .entry)) in
+        let D = design n (now (starts .entry)) (now (ends .entry)) (now (early .entry)) (now (late .entry))
+        (now (marked .entry)) in
         let L = pathList (now (listed .entry)) (now (lengths .entry)) in
         let o = programRemoval (deckOf D L allowed) in
         ⌜ (r ≡ cWritten o (now (room .entry)))
         × (now (room .exit) ≡ roomAfterC o (now (room .entry))) ⌝ }
 {
-    let verdict = test_deck(n, starts, ends, early, late, listed, lengths, allowed);
+    let verdict = test_deck(
+        n,
+        starts,
+        ends,
+        early,
+        late,
+        marked,
+        listed,
+        lengths,
+        allowed,
+    );
     if let Verdict::Refused(r) = verdict {
         return Written::Refused(r);
     }
-    pack_graph(n, starts, ends, early, late, listed, lengths, room)
+    pack_graph(n, starts, ends, early, late, marked, listed, lengths, room)
 }
 
 // The same for a deck that was read into tables: it stands in front of them.
@@ -116,14 +144,15 @@ fn pack_read(
     ends: &[u32],
     early: &[i32],
     late: &[i32],
+    marked: &[u32],
     listed: &[u32],
     lengths: &[u32],
     room: &mut [u8],
 ) -> Written
-    requires { ⌜ ReadFits read (now starts) (now ends) (now early) (now late) (now listed) (now lengths) ⌝ }
+    requires { ⌜ ReadFits read (now starts) (now ends) (now early) (now late) (now marked) (now listed) (now lengths) ⌝ }
     ensures { λ r.
         let o = readRemoval read (now (starts .entry)) (now (ends .entry))
-        (now (early .entry)) (now (late .entry)) (now (listed .entry)) (now (lengths .entry)) in
+        (now (early .entry)) (now (late .entry)) (now (marked .entry)) (now (listed .entry)) (now (lengths .entry)) in
         ⌜ (r ≡ cWritten o (now (room .entry)))
         × (now (room .exit) ≡ roomAfterC o (now (room .entry))) ⌝ }
 {
@@ -134,6 +163,7 @@ fn pack_read(
             edges,
             listed: count,
             paths,
+            marked: marked_nodes,
             allowed,
         } => pack_tested(
             nodes,
@@ -141,6 +171,7 @@ fn pack_read(
             &ends[..edges],
             &early[..edges],
             &late[..edges],
+            &marked[..marked_nodes],
             &listed[..count],
             &lengths[..paths],
             allowed,
@@ -165,6 +196,7 @@ pub fn pack(deck: &[u8], room: &mut [u8]) -> Written
     let mut late = [0; 1024];
     let mut listed = [0; 1024];
     let mut lengths = [0; 256];
+    let mut marked = [0; 1024];
     let read = read_deck(
         deck,
         &mut starts,
@@ -173,6 +205,17 @@ pub fn pack(deck: &[u8], room: &mut [u8]) -> Written
         &mut late,
         &mut listed,
         &mut lengths,
+        &mut marked,
     );
-    pack_read(read, &starts, &ends, &early, &late, &listed, &lengths, room)
+    pack_read(
+        read,
+        &starts,
+        &ends,
+        &early,
+        &late,
+        &marked,
+        &listed,
+        &lengths,
+        room,
+    )
 }

@@ -11,34 +11,44 @@ use timing::MAX_ALLOWED_TIME;
 use timing::Verdict;
 use verdicts::and_unless;
 
-// Tests a design: 30, and 10 to 15.
-pub fn test_design(n: u32, starts: &[u32], ends: &[u32], early: &[i32], late: &[i32]) -> Verdict
+// Tests a design: 30, and 10 to 16.
+pub fn test_design(
+    n: u32,
+    starts: &[u32],
+    ends: &[u32],
+    early: &[i32],
+    late: &[i32],
+    marked: &[u32],
+) -> Verdict
     ensures { λ r.
-        let D = design n (now (starts .entry)) (now (ends .entry)) (now (early .entry)) (now (late .entry)) in
+        let D = design n (now (starts .entry)) (now (ends .entry)) (now (early .entry)) (now (late .entry))
+        (now (marked .entry)) in
         ⌜ r ≡ testDesign D ⌝ }
 {
     let sizes = design_sizes(starts, ends, early, late);
-    and_design_tests(sizes, n, starts, ends, early, late)
+    and_design_tests(sizes, n, starts, ends, early, late, marked)
 }
 
-// Tests a design and a list of paths: 30, 10 to 15, and 20 to 24.
+// Tests a design and a list of paths: 30, 10 to 16, and 20 to 24.
 pub fn test_list(
     n: u32,
     starts: &[u32],
     ends: &[u32],
     early: &[i32],
     late: &[i32],
+    marked: &[u32],
     listed: &[u32],
     lengths: &[u32],
 ) -> Verdict
     ensures { λ r.
-        let D = design n (now (starts .entry)) (now (ends .entry)) (now (early .entry)) (now (late .entry)) in
+        let D = design n (now (starts .entry)) (now (ends .entry)) (now (early .entry)) (now (late .entry))
+        (now (marked .entry)) in
         let L = pathList (now (listed .entry)) (now (lengths .entry)) in
         ⌜ r ≡ testList D L ⌝ }
 {
     let slices = design_sizes(starts, ends, early, late);
     let sizes = and_list_sizes(slices, listed, lengths);
-    let fit = and_design_tests(sizes, n, starts, ends, early, late);
+    let fit = and_design_tests(sizes, n, starts, ends, early, late, marked);
     and_list_tests(fit, starts, ends, listed, lengths)
 }
 
@@ -49,15 +59,17 @@ pub fn test_deck(
     ends: &[u32],
     early: &[i32],
     late: &[i32],
+    marked: &[u32],
     listed: &[u32],
     lengths: &[u32],
     allowed: u32,
 ) -> Verdict
     ensures { λ r.
-        let D = design n (now (starts .entry)) (now (ends .entry)) (now (early .entry)) (now (late .entry)) in
+        let D = design n (now (starts .entry)) (now (ends .entry)) (now (early .entry)) (now (late .entry))
+        (now (marked .entry)) in
         let L = pathList (now (listed .entry)) (now (lengths .entry)) in
         ⌜ r ≡ testDeck D L allowed ⌝ }
 {
-    let fit = test_list(n, starts, ends, early, late, listed, lengths);
+    let fit = test_list(n, starts, ends, early, late, marked, listed, lengths);
     and_unless(fit, 25, allowed <= MAX_ALLOWED_TIME)
 }

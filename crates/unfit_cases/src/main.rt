@@ -1,6 +1,6 @@
 // Tests the decks on standard input, and prints what is found. The input is two blocks of 65,536 bytes,
-// each of packed numbers: a count, and for each deck n, T, and then its six slices: starts, ends, early
-// and late delays, listed edges, lengths.
+// each of packed numbers: a count, and for each deck n, T, and then its seven slices: starts, ends, early
+// and late delays, marked nodes, listed edges, lengths.
 // Crate `cases` says how a slice is packed.
 use cases::Slice;
 use cases::fill;
@@ -39,6 +39,7 @@ fn test(
     ends: &[u32],
     early: &[i32],
     late: &[i32],
+    marked: &[u32],
 ) -> usize {
     let mut listed = [0u32; 8200];
     let mut lengths = [0u32; 1040];
@@ -50,6 +51,7 @@ fn test(
         ends,
         early,
         late,
+        marked,
         front(&listed, a.len),
         front(&lengths, b.len),
         allowed,
@@ -65,19 +67,22 @@ fn case(s: &[u8], at: usize) -> usize {
     let mut ends = [0u32; 16400];
     let mut early = [0i32; 16400];
     let mut late = [0i32; 16400];
+    let mut marked = [0u32; 4200];
     let a = fill(s, allowed.next, &mut starts);
     let b = fill(s, a.next, &mut ends);
     let c = fill_delays(s, b.next, &mut early);
     let d = fill_delays(s, c.next, &mut late);
+    let e = fill(s, d.next, &mut marked);
     test(
         s,
-        d.next,
+        e.next,
         n.value,
         allowed.value,
         front(&starts, a.len),
         front(&ends, b.len),
         front_delays(&early, c.len),
         front_delays(&late, d.len),
+        front(&marked, e.len),
     )
 }
 

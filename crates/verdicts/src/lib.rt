@@ -2,7 +2,8 @@
 ghost use mathlib.Core.Path.{_≡_};
 ghost use Rattle.timing.specs.Refusals.{refusal, refusalWithin, unlessFault, _then_};
 ghost use Rattle.timing.specs.Refusals.{unless as passedIf};
-ghost use Rattle.timing.specs.Tests.{sameSizes};
+ghost use Rattle.timing.specs.WellFormed.{zeroOrOne};
+ghost use Rattle.timing.specs.Tests.{sameSizes, markedCount, roomSizes};
 use timing::Fault;
 use timing::Refusal;
 use timing::Verdict;
@@ -74,4 +75,40 @@ pub fn same_sizes(a: usize, b: usize, c: usize) -> Verdict
         return unless(30, a == c);
     }
     unless(30, false)
+}
+
+// 30 for the five slices of a graph, or of a room for one, by their lengths.
+pub fn graph_sizes(nodes: usize, endpoint: usize, from: usize, to: usize, via: usize) -> Verdict
+    ensures { λ r.
+        ⌜ r ≡ roomSizes (record { nodes = nodes; endpoints = endpoint; starts = from; ends = to; names = via }) ⌝ }
+{
+    let copies = same_sizes(nodes, nodes, endpoint);
+    let edges = same_sizes(from, to, via);
+    then(copies, edges)
+}
+
+// 16 for more marked nodes than the n that there are, by their count: no marked node of index n can be right.
+pub fn marked_count(n: u32, count: usize) -> Verdict
+    ensures { λ r. ⌜ r ≡ markedCount n count ⌝ }
+{
+    let n = n as usize;
+    if count <= n {
+        Verdict::Passed
+    } else {
+        Verdict::Refused(refuse(16, n))
+    }
+}
+
+// Whether each endpoint number is 0 or 1, for 32.
+pub fn zero_or_one(endpoint: &[u32]) -> bool
+    ensures { λ r. ⌜ r ≡ zeroOrOne (now (endpoint .entry)) ⌝ }
+{
+    let mut c = 0;
+    while c < endpoint.len() {
+        if 1 < endpoint[c] {
+            return false;
+        }
+        c += 1;
+    }
+    true
 }

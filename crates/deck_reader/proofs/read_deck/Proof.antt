@@ -12,10 +12,10 @@ use Rattle.deck_reader.proofs.read_deck.Tie as tie
 
 -- the tables, and the outcome
 abbrev tablesAt : tie.Start → Tables
-tablesAt st = record { edges = length (st .args .starts .now); listed = length (st .args .listed .now); paths = length (st .args .lengths .now) }
+tablesAt st = record { edges = length (st .args .starts .now); listed = length (st .args .listed .now); paths = length (st .args .lengths .now); marked = length (st .args .marked .now) }
 
 abbrev outcomeAt : tie.Start → Outcome Deck
-outcomeAt st = let a = st .args in deckRead (a .s .now) (length (a .starts .now)) (length (a .ends .now)) (length (a .early .now)) (length (a .late .now)) (length (a .listed .now)) (length (a .lengths .now))
+outcomeAt st = let a = st .args in deckRead (a .s .now) (length (a .starts .now)) (length (a .ends .now)) (length (a .early .now)) (length (a .late .now)) (length (a .listed .now)) (length (a .lengths .now)) (length (a .marked .now))
 
 edge-sizes-requires : tie.Need-edge-sizes-requires
 edge-sizes-requires c κs = search needs
@@ -26,10 +26,10 @@ enum-known-sizes c = search needs
 returns : tie.Need-returns
 returns c =
     let z = c .before .before .before in
-    let st = z .before .before .before .before .before .before in
+    let st = z .before .before .before .before .before .before .before in
     let a = st .args in
-    tables-kept (a .starts .now) (a .ends .now) (a .early .now) (a .late .now) (a .listed .now) (a .lengths .now) (outcomeAt st) _
-    (read-sizes (a .s .now) (length (a .starts .now)) (length (a .ends .now)) (length (a .early .now)) (length (a .late .now)) (length (a .listed .now)) (length (a .lengths .now)) _ (sym (z .edge-sizes .ensures) ∙ c .before .sizes .given .1))
+    tables-kept (a .starts .now) (a .ends .now) (a .early .now) (a .late .now) (a .listed .now) (a .lengths .now) (a .marked .now) (outcomeAt st) _
+    (read-sizes (a .s .now) (length (a .starts .now)) (length (a .ends .now)) (length (a .early .now)) (length (a .late .now)) (length (a .listed .now)) (length (a .lengths .now)) (length (a .marked .now)) _ (sym (z .edge-sizes .ensures) ∙ c .before .sizes .given .1))
 
 enum-told : tie.Need-enum-told
 enum-told c = search needs
@@ -44,10 +44,10 @@ returns-2 : tie.Need-returns-2
 returns-2 c =
     let k = c .before .before .before in
     let z = k .before .before .before in
-    let st = z .before .before .before .before .before .before in
+    let st = z .before .before .before .before .before .before .before in
     let a = st .args in
-    tables-kept (a .starts .now) (a .ends .now) (a .early .now) (a .late .now) (a .listed .now) (a .lengths .now) (outcomeAt st) _
-    (read-stopped (a .s .now) (length (a .starts .now)) (length (a .ends .now)) (length (a .early .now)) (length (a .late .now)) (length (a .listed .now)) (length (a .lengths .now)) _
+    tables-kept (a .starts .now) (a .ends .now) (a .early .now) (a .late .now) (a .listed .now) (a .lengths .now) (a .marked .now) (outcomeAt st) _
+    (read-stopped (a .s .now) (length (a .starts .now)) (length (a .ends .now)) (length (a .early .now)) (length (a .late .now)) (length (a .listed .now)) (length (a .lengths .now)) (length (a .marked .now)) _
     (sym (z .edge-sizes .ensures) ∙ k .before .enum-told .given .1) (sym (k .look-deck .ensures) ∙ c .before .look .given .1))
 
 enum-told-2 : tie.Need-enum-told-2
@@ -55,10 +55,10 @@ enum-told-2 c = search needs
 
 fill-deck-requires : tie.Need-fill-deck-requires
 fill-deck-requires c κs =
-    let t = c .before .before .before .before .before .before in
+    let t = c .before .before .before .before .before .before .before in
     let k = t .before .before in
     let z = k .before .before .before in
-    let st = z .before .before .before .before .before .before in
+    let st = z .before .before .before .before .before .before .before in
     let a = st .args in
     let q = edges-passed (length (a .starts .now)) (length (a .ends .now)) (length (a .early .now)) (length (a .late .now)) (sym (z .edge-sizes .ensures) ∙ k .before .enum-told .given .1) in
     (read-passed (a .s .now) (tablesAt st) (sym (k .look-deck .ensures) ∙ t .enum-told2 .given .1) .1, q .0, q .1, q .2)
@@ -81,16 +81,19 @@ same-length-5 c = search needs
 same-length-6 : tie.Need-same-length-6
 same-length-6 c = search needs
 
+same-length-7 : tie.Need-same-length-7
+same-length-7 c = search needs
+
 returns-3 : tie.Need-returns-3
 returns-3 c =
-    let f = c .before .before .before .before .before .before .before .before .before .before in
-    let t = f .before .before .before .before .before .before .before in
+    let f = c .before .before .before .before .before .before .before .before .before .before .before .before in
+    let t = f .before .before .before .before .before .before .before .before in
     let k = t .before .before in
     let z = k .before .before .before in
-    let st = z .before .before .before .before .before .before in
+    let st = z .before .before .before .before .before .before .before in
     let a = st .args in
-    tables-filled (a .starts .now) (a .ends .now) (a .early .now) (a .late .now) (a .listed .now) (a .lengths .now) (outcomeAt st) (deckFrom (a .s .now) 0) _ _ _ _ _ _ _
-    (read-made (a .s .now) (length (a .starts .now)) (length (a .ends .now)) (length (a .early .now)) (length (a .late .now)) (length (a .listed .now)) (length (a .lengths .now))
+    tables-filled (a .starts .now) (a .ends .now) (a .early .now) (a .late .now) (a .listed .now) (a .lengths .now) (a .marked .now) (outcomeAt st) (deckFrom (a .s .now) 0) _ _ _ _ _ _ _ _
+    (read-made (a .s .now) (length (a .starts .now)) (length (a .ends .now)) (length (a .early .now)) (length (a .late .now)) (length (a .listed .now)) (length (a .lengths .now)) (length (a .marked .now))
     (sym (z .edge-sizes .ensures) ∙ k .before .enum-told .given .1) (sym (k .look-deck .ensures) ∙ t .enum-told2 .given .1)) (f .fill-deck .ensures)
 
 pub read-deck-spec : {M : Type 1} → statement M
@@ -112,4 +115,5 @@ read-deck-spec =
     same-length-4
     same-length-5
     same-length-6
+    same-length-7
     returns-3)

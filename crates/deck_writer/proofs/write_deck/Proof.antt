@@ -13,10 +13,10 @@ use Rattle.deck_writer.proofs.write_deck.Tie as tie
 
 -- the deck that is written, and its tests
 abbrev deckAt : tie.Start → Deck
-deckAt s = let a = s .args in deckOf (a .n) (a .starts .now) (a .ends .now) (a .early .now) (a .late .now) (a .listed .now) (a .lengths .now) (a .allowed)
+deckAt s = let a = s .args in deckOf (a .n) (a .starts .now) (a .ends .now) (a .early .now) (a .late .now) (a .marked .now) (a .listed .now) (a .lengths .now) (a .allowed)
 
-tested : (c : tie.After-write-tests) → deckWriteTests (deckAt (c .before .before .before .before .before .before)) ≡ c .write-tests .result
-tested c = sym (tests-untimed (deckAt (c .before .before .before .before .before .before))) ∙ sym (c .write-tests .ensures)
+tested : (c : tie.After-write-tests) → deckWriteTests (deckAt (c .before .before .before .before .before .before .before)) ≡ c .write-tests .result
+tested c = sym (tests-untimed (deckAt (c .before .before .before .before .before .before .before))) ∙ sym (c .write-tests .ensures)
 
 write-tests-requires : tie.Need-write-tests-requires
 write-tests-requires c κs = search needs
@@ -33,7 +33,7 @@ enum-told : tie.Need-enum-told
 enum-told c = search needs
 
 deck-size-requires : tie.Need-deck-size-requires
-deck-size-requires c κs = fit-of (deckAt (c .before .before .before .before .before .before .before .before)) (tested (c .before .before) ∙ c .enum-told .given .1)
+deck-size-requires c κs = fit-of (deckAt (c .before .before .before .before .before .before .before .before .before)) (tested (c .before .before) ∙ c .enum-told .given .1)
 
 refuse-requires : tie.Need-refuse-requires
 refuse-requires c κs = search needs
@@ -46,7 +46,7 @@ returns-2 c =
 put-deck-requires : tie.Need-put-deck-requires
 put-deck-requires c κs =
     let e = c .before .before .before in
-    (fit-of (deckAt (e .before .before .before .before .before .before .before .before)) (tested (e .before .before) ∙ e .enum-told .given .1), omega (arith, c .before .before .deck-size .ensures))
+    (fit-of (deckAt (e .before .before .before .before .before .before .before .before .before)) (tested (e .before .before) ∙ e .enum-told .given .1), omega (arith, c .before .before .deck-size .ensures))
 
 same-length : tie.Need-same-length
 same-length c = search needs
@@ -54,7 +54,7 @@ same-length c = search needs
 returns-3 : tie.Need-returns-3
 returns-3 c =
     let e = c .before .before .before .before .before .before in
-    write-done _ (deckAt (e .before .before .before .before .before .before .before .before)) _ _ _ (tested (e .before .before) ∙ e .enum-told .given .1) (omega (arith, c .before .before .before .before .before .deck-size .ensures)) (c .before .before .put-deck .ensures)
+    write-done _ (deckAt (e .before .before .before .before .before .before .before .before .before)) _ _ _ (tested (e .before .before) ∙ e .enum-told .given .1) (omega (arith, c .before .before .before .before .before .deck-size .ensures)) (c .before .before .put-deck .ensures)
 
 pub write-deck-spec : {M : Type 1} → statement M
 write-deck-spec =

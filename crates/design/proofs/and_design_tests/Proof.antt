@@ -1,9 +1,9 @@
 use lib.ListN.{length}
 use Rattle.timing.specs.Lists.{upto}
-use Rattle.timing.specs.Refusals.{firstBad}
+use Rattle.timing.specs.Refusals.{_then_, firstBad}
 use Rattle.timing.specs.Graphs.{design}
-use Rattle.timing.specs.Tests.{designCounts, strays, falls, outOfRange, earlyAboveLate, designTests}
-use Rattle.timing.proofs.Verdicts.{chain-five}
+use Rattle.timing.specs.Tests.{designCounts, strays, falls, outOfRange, earlyAboveLate, wrongMarked, designTests}
+use Rattle.timing.proofs.Verdicts.{chain-two, chain-five}
 use borrow.Author.Needs.{needs}
 use Rattle.design.proofs.and_design_tests.Statement.{statement}
 use Rattle.design.proofs.and_design_tests.Tie as tie
@@ -23,19 +23,28 @@ and-in-range-requires c κs = search needs
 and-ordered-requires : tie.Need-and-ordered-requires
 and-ordered-requires c κs = search needs
 
+and-marked-requires : tie.Need-and-marked-requires
+and-marked-requires c κs = search needs
+
 returns : tie.Need-returns
 unfolding designTests
 returns c =
-    let ranged = c .before in
+    let ordered = c .before in
+    let ranged = ordered .before in
     let rising = ranged .before in
     let known = rising .before in
     let counts = known .before in
-    let a = counts .before .before .before .args in
-    let D = design (a .n) (a .starts .now) (a .ends .now) (a .early .now) (a .late .now) in
+    let a = counts .before .before .before .before .args in
+    let D = design (a .n) (a .starts .now) (a .ends .now) (a .early .now) (a .late .now) (a .marked .now) in
     let edges = upto (length (a .starts .now)) 0 in
-    chain-five (a .before) (designCounts D) (firstBad 12 (strays D) 0 edges) (firstBad 13 (falls D) 0 edges)
-    (firstBad 14 (outOfRange D) 0 edges) (firstBad 15 (earlyAboveLate D) 0 edges)
-    (counts .and-design-counts .ensures) (known .and-known .ensures) (rising .and-rise .ensures) (ranged .and-in-range .ensures) (c .and-ordered .ensures)
+    let t12 = firstBad 12 (strays D) 0 edges in
+    let t13 = firstBad 13 (falls D) 0 edges in
+    let t14 = firstBad 14 (outOfRange D) 0 edges in
+    let t15 = firstBad 15 (earlyAboveLate D) 0 edges in
+    let t16 = firstBad 16 (wrongMarked D) 0 (upto (length (a .marked .now)) 0) in
+    chain-two (a .before) (designCounts D) (t12 then t13 then t14 then t15 then t16) (counts .and-design-counts .ensures)
+    (chain-five (counts .and-design-counts .result) t12 t13 t14 t15 t16
+    (known .and-known .ensures) (rising .and-rise .ensures) (ranged .and-in-range .ensures) (ordered .and-ordered .ensures) (c .and-marked .ensures))
 
 pub and-design-tests-spec : {M : Type 1} → statement M
 and-design-tests-spec =
@@ -46,4 +55,5 @@ and-design-tests-spec =
     and-rise-requires
     and-in-range-requires
     and-ordered-requires
+    and-marked-requires
     returns)

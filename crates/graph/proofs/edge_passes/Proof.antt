@@ -31,7 +31,7 @@ returns c =
     let k = c .before .before in
     let n = k .before .before .before in
     let a = n .before .before .before .before .before .before .before .args in
-    let fits = k .edge-fits .ensures ∙ (λ i. edgeFits (design 0 (a .starts .now) (a .ends .now) [] []) (graph (a .nodes .now) []) (edge (n .number-at .ensures i) (k .before .before .number-at2 .ensures i) (k .before .number-at3 .ensures i))) in
+    let fits = k .edge-fits .ensures ∙ (λ i. edgeFits (design 0 (a .starts .now) (a .ends .now) [] [] []) (graph (a .nodes .now) [] []) (edge (n .number-at .ensures i) (k .before .before .number-at2 .ensures i) (k .before .number-at3 .ensures i))) in
     c .both .ensures ∙ (λ i. fits i && c .before .next-rises .ensures i)
 
 pub edge-passes-spec : {M : Type 1} → statement M

@@ -1,27 +1,27 @@
 -- The tests refuse; or the graph is too long; or it is written whole.
 use native.Mathlib.Omega.{arith}
 use mathlib.Core.Path.{_≡_, sym, _∙_}
-use lib.ListN.{length}
 use borrow.Author.Needs.{needs}
 use Rattle.timing.specs.declared.Verdict.the-variants.{Passed}
 use Rattle.timing.specs.Calls.{GraphSlices, graphSlices, graphOf, graphWriteTests}
-use Rattle.graph_writer.proofs.Writing.{Fits, tests-are, tests-fit, write-done}
+use Rattle.graph_writer.specs.Writing.{Fits}
+use Rattle.graph_writer.proofs.Writing.{tests-are, tests-fit, write-done}
 use Rattle.packed_lists.proofs.Rooms.{write-refused, write-long}
 use Rattle.graph_writer.proofs.write_graph.Statement.{statement}
 use Rattle.graph_writer.proofs.write_graph.Tie as tie
 
 -- the graph that is written, and its tests
 abbrev slicesAt : tie.Start → GraphSlices
-slicesAt s = let a = s .args in graphSlices (a .nodes .now) (a .from .now) (a .to .now) (a .via .now)
+slicesAt s = let a = s .args in graphSlices (a .nodes .now) (a .endpoint .now) (a .from .now) (a .to .now) (a .via .now)
 
 abbrev start : tie.After-write-tests → tie.Start
-start c = c .before .before .before .before .before .before
+start c = c .before .before .before .before .before .before .before
 
 tested : (c : tie.After-write-tests) → graphWriteTests (slicesAt (start c)) ≡ c .write-tests .result
-tested c = let a = start c .args in tests-are (a .nodes .now) (a .from .now) (a .to .now) (a .via .now) ∙ sym (c .write-tests .ensures)
+tested c = let a = start c .args in tests-are (a .nodes .now) (a .endpoint .now) (a .from .now) (a .to .now) (a .via .now) ∙ sym (c .write-tests .ensures)
 
-fits : (c : tie.After-write-tests) → c .write-tests .result ≡ Passed → let a = start c .args in Fits (a .nodes .now) (a .from .now) (a .to .now) (a .via .now)
-fits c e = let a = start c .args in tests-fit (a .nodes .now) (a .from .now) (a .to .now) (a .via .now) (sym (c .write-tests .ensures) ∙ e)
+fits : (c : tie.After-write-tests) → c .write-tests .result ≡ Passed → let a = start c .args in Fits (a .nodes .now) (a .endpoint .now) (a .from .now) (a .to .now) (a .via .now)
+fits c e = let a = start c .args in tests-fit (a .nodes .now) (a .endpoint .now) (a .from .now) (a .to .now) (a .via .now) (sym (c .write-tests .ensures) ∙ e)
 
 write-tests-requires : tie.Need-write-tests-requires
 write-tests-requires c κs = search needs
@@ -38,7 +38,7 @@ enum-told : tie.Need-enum-told
 enum-told c = search needs
 
 graph-size-requires : tie.Need-graph-size-requires
-graph-size-requires c κs = let k = fits (c .before .before) (c .enum-told .given .1) in (k .copies, k .edges, k .ends, k .names)
+graph-size-requires c κs = fits (c .before .before) (c .enum-told .given .1)
 
 refuse-requires : tie.Need-refuse-requires
 refuse-requires c κs = search needs
@@ -51,8 +51,7 @@ returns-2 c =
 write-all-requires : tie.Need-write-all-requires
 write-all-requires c κs =
     let e = c .before .before .before in
-    let k = fits (e .before .before) (e .enum-told .given .1) in
-    (k .copies, k .edges, k .ends, k .names)
+    fits (e .before .before) (e .enum-told .given .1)
 
 same-length : tie.Need-same-length
 same-length c = search needs

@@ -10,28 +10,31 @@ remove-from-design-requires c κs = tt
 
 graph-number-requires : tie.Need-graph-number-requires
 graph-number-requires c κs =
-    let w = c .before .before .before .before .before .before .before .before .before .before in
+    let w = c .before .before .before .before .before .before .before .before .before .before .before .before in
     made-small (w .remove-from-design .ensures .0) (small-from-design _ _)
 
 same-length : tie.Need-same-length
-same-length c = c .before .before .before .before .before .before .before .before .before .before .room-nodes .given
+same-length c = c .before .before .before .before .before .before .before .before .before .before .before .before .room-nodes .given
 
 same-length-2 : tie.Need-same-length-2
-same-length-2 c = c .before .before .before .before .before .before .before .before .room-from .given
+same-length-2 c = c .before .before .before .before .before .before .before .before .before .before .room-endpoint .given
 
 same-length-3 : tie.Need-same-length-3
-same-length-3 c = c .before .before .before .before .before .before .room-to .given
+same-length-3 c = c .before .before .before .before .before .before .before .before .room-from .given
 
 same-length-4 : tie.Need-same-length-4
-same-length-4 c = c .before .before .before .before .room-via .given
+same-length-4 c = c .before .before .before .before .before .before .room-to .given
 
 same-length-5 : tie.Need-same-length-5
-same-length-5 c = c .before .before .scratch .given
+same-length-5 c = c .before .before .before .before .room-via .given
+
+same-length-6 : tie.Need-same-length-6
+same-length-6 c = c .before .before .scratch .given
 
 returns : tie.Need-returns
 returns c =
-    let w = c .before .before .before .before .before .before .before .before .before .before .before in
-    (made-number (w .remove-from-design .ensures .0) (c .graph-number .result) (c .graph-number .ok) (c .graph-number .ensures), search needs, search needs, search needs, search needs, search needs)
+    let w = c .before .before .before .before .before .before .before .before .before .before .before .before .before in
+    (made-number (w .remove-from-design .ensures .0) (c .graph-number .result) (c .graph-number .ok) (c .graph-number .ensures), search needs, search needs, search needs, search needs, search needs, search needs)
 
 pub jaqhweni-remove-from-design-spec : {M : Type 1} → statement M
 jaqhweni-remove-from-design-spec =
@@ -44,4 +47,5 @@ jaqhweni-remove-from-design-spec =
     same-length-3
     same-length-4
     same-length-5
+    same-length-6
     returns)

@@ -12,8 +12,10 @@ write-graph-requires c κs = tt
 written-number-requires : tie.Need-written-number-requires
 written-number-requires c κs =
     let w = c .before .before in
-    let a = w .before .before .before .before .before .before .before .args in
-    written-small (w .write-graph .ensures .0) (small-graph (a .room .now) (omega arith) _)
+    let s = w .before .before .before .before .before .before .before .before in
+    let a = s .args in
+    let size = s .good .1 .1 .1 .1 .1 .0 .1 in
+    written-small (w .write-graph .ensures .0) (small-graph (a .room .now) (omega (arith, size)) _)
 
 same-length : tie.Need-same-length
 same-length c = search needs

@@ -28,8 +28,8 @@ returns c =
     let counts = filled .before in
     let a = counts .before .before .before .before .before .args in
     let L = pathList (a .listed .now) (a .lengths .now) in
-    λ n early late.
-    let D = design n (a .starts .now) (a .ends .now) early late in
+    λ n early late marked.
+    let D = design n (a .starts .now) (a .ends .now) early late marked in
     chain-four (a .before) (listCounts L) (firstFault 22 emptyAt 0 (pathsOf L)) (firstFault 23 (firstUnknown (length (a .starts .now)) 0) 0 (pathsOf L))
     (firstFault 24 (firstBreak (meets D) 0) 0 (pathsOf L))
     (counts .and-list-counts .ensures) (filled .and-filled .ensures) (named .and-named .ensures) (c .and-joined .ensures)

@@ -17,7 +17,7 @@ use Rattle.removal.specs.Table.{table, Frame}
 use Rattle.removal.specs.Positions.{restAt, Ordered}
 use Rattle.removal.specs.Slots.{Bounds, Bounded, slots, slotBase}
 use Rattle.removal.specs.Links.{Linkable, Chained, Linked}
-use Rattle.removal.specs.Names.{LinkedNamed}
+use Rattle.removal.specs.Names.{Named}
 use Rattle.removal.specs.Listed.{Rests, RestTable}
 use Rattle.removal.specs.Ranks.{RestsFall, Ranked}
 use Rattle.removal.specs.Tails.{LinkedTo, Orderable, Tabulated}
@@ -38,9 +38,8 @@ module _ (copies edges positions : ℕ) (l : Layout) (w : LaidOut copies edges p
     rank = omega (arith, w .rank, w .low);
     link = omega (arith, w .link, w .low);
     low = omega (arith, w .low, w .into, w .copies);
-    into = omega (arith, w .into, w .out, w .copies, w .edges);
-    out = omega (arith, w .out, w .slots, w .copies, w .edges);
-    named = omega (arith, w .out, w .slots, w .copies, w .edges);
+    into = omega (arith, w .into, w .named, w .copies, w .edges);
+    named = omega (arith, w .named, w .slots, w .edges);
     size = e;
   }
 
@@ -100,7 +99,7 @@ pub listed-few : (D : Design) (L : PathList) (G : Graph) (starts listed lengths 
 listed-few D L G starts listed lengths nodes from to via g = omega (arith, g .fits .fewEdges, ap (λ (K : PathList). length (K .edges)) (g .list))
 
 -- What is asked of the scratch before each table, and what all of them are at the end. s₁ to s₆ are the scratch after the rests,
--- the order, the bounds, the chains into and out of copies, and the cleared slots.
+-- the order, the bounds, the chains into copies, the words of named edges, and the cleared slots.
 module _ (D : Design) (L : PathList) (G : Graph) (starts listed lengths nodes from to via : List ℕ)
     (g : Given D L G starts listed lengths nodes from to via) (l : Layout) (w : LaidOut (length nodes) (length from) (length listed) l) where
   list-fits : ListFits D (pathList listed lengths)
@@ -116,9 +115,6 @@ module _ (D : Design) (L : PathList) (G : Graph) (starts listed lengths nodes fr
 
   end-inside : (e : ℕ) → e < length from → getD to e 0 < length nodes
   end-inside e h = omega (arith, g .legal .rising .inside (edgeAt from to via e) (edge-in e h), ap length (g .copies))
-
-  start-inside : (e : ℕ) → e < length from → getD from e 0 < length nodes
-  start-inside e h = omega (arith, g .legal .rising .up (edgeAt from to via e) (edge-in e h), end-inside e h)
 
   ordered-list : (s t : List ℕ) → RestTable (pathList listed lengths) s (l .rest) → Tabulated starts listed s t (l .rest) (l .order) (l .rank) (l .link)
       → Ordered D L (table t (l .order) (length listed))
@@ -201,17 +197,10 @@ module _ (D : Design) (L : PathList) (G : Graph) (starts listed lengths nodes fr
           }
 
           module _ (s₄ : List ℕ) (r₄ : Linked to s₃ s₄ (l .into) (l .copies)) where
-            pub linkable-out : Linkable s₄ from (l .out) (l .copies)
-            linkable-out = record {
-              room = omega (arith, enough, size₃, r₄ .frame .size, w .out, w .copies, w .slots);
-              few = g .few-edges;
-              inside = λ e h. omega (arith, start-inside e h, w .copies);
-            }
+            pub named-room : l .named + length via ≤ length s₄
+            named-room = omega (arith, enough, size₃, r₄ .frame .size, w .named, w .slots, g .names)
 
-            pub named-room : l .out + l .copies + length from + length via ≤ length s₄
-            named-room = omega (arith, enough, size₃, r₄ .frame .size, w .out, w .copies, w .slots, g .names)
-
-            module _ (s₅ : List ℕ) (r₅ : LinkedNamed from listed via s₄ s₅ (l .out) (l .copies)) where
+            module _ (s₅ : List ℕ) (r₅ : Named listed via s₄ s₅ (l .named) (length via)) where
               pub clear-room : l .slots + total ≤ length s₅
               clear-room = omega (arith, enough, size₃, r₄ .frame .size, r₅ .frame .size, total-is)
 
@@ -222,11 +211,11 @@ module _ (D : Design) (L : PathList) (G : Graph) (starts listed lengths nodes fr
                 kept₅ : (b m : ℕ) → b + m ≤ l .slots → table (take (l .slots) s₆) b m ≡ table s₅ b m
                 kept₅ b m h = table-take (l .slots) b m s₆ h ∙ r₆ .below b m h
 
-                kept₄ : (b m : ℕ) → b + m ≤ l .out → table (take (l .slots) s₆) b m ≡ table s₄ b m
-                kept₄ b m h = kept₅ b m (omega (arith, w .out, w .slots)) ∙ r₅ .frame .below b m h
+                kept₄ : (b m : ℕ) → b + m ≤ l .named → table (take (l .slots) s₆) b m ≡ table s₄ b m
+                kept₄ b m h = kept₅ b m (omega (arith, w .named, w .slots)) ∙ r₅ .frame .below b m h
 
                 kept₃ : (b m : ℕ) → b + m ≤ l .into → table (take (l .slots) s₆) b m ≡ table s₃ b m
-                kept₃ b m h = kept₄ b m (omega (arith, w .into, w .out)) ∙ r₄ .frame .below b m h
+                kept₃ b m h = kept₄ b m (omega (arith, w .into, w .named)) ∙ r₄ .frame .below b m h
 
                 kept₂ : (b m : ℕ) → b + m ≤ l .low → table (take (l .slots) s₆) b m ≡ table s₂ b m
                 kept₂ b m h = kept₃ b m (omega (arith, w .low, w .into)) ∙ r₃ .frame .below b m h
@@ -301,24 +290,17 @@ module _ (D : Design) (L : PathList) (G : Graph) (starts listed lengths nodes fr
                   into =
                       chained-same to (table s₄ (l .into) (l .copies)) (table s₄ (l .into + l .copies) (length to))
                       (table (take (l .slots) s₆) (l .into) (l .copies)) (table (take (l .slots) s₆) (l .into + l .copies) (l .edges)) (l .copies) (length to) (l .edges)
-                      (kept₄ (l .into) (l .copies) (omega (arith, w .into, w .copies, w .out)))
-                      (kept₄ (l .into + l .copies) (l .edges) (omega (arith, w .into, w .copies, w .edges, w .out)) ∙ ap (table s₄ (l .into + l .copies)) edges-to)
+                      (kept₄ (l .into) (l .copies) (omega (arith, w .into, w .copies, w .named)))
+                      (kept₄ (l .into + l .copies) (l .edges) (omega (arith, w .into, w .copies, w .edges, w .named)) ∙ ap (table s₄ (l .into + l .copies)) edges-to)
                       edges-to (r₄ .chains);
-                  out =
-                      chained-same from (table s₅ (l .out) (l .copies)) (table s₅ (l .out + l .copies) (length from))
-                      (table (take (l .slots) s₆) (l .out) (l .copies)) (table (take (l .slots) s₆) (l .out + l .copies) (l .edges)) (l .copies) (length from) (l .edges)
-                      (kept₅ (l .out) (l .copies) (omega (arith, w .out, w .copies, w .slots)))
-                      (kept₅ (l .out + l .copies) (l .edges) (omega (arith, w .out, w .copies, w .edges, w .slots)) ∙ ap (table s₅ (l .out + l .copies)) (w .edges))
-                      (w .edges) (r₅ .chains);
                   named = λ e h z. r₅ .named e (omega (arith, w .edges, g .names)) (sym (named-word e h) ∙ z);
                 }
                   where
-                    named-word : (e : ℕ) → e < l .edges → getD (take (l .slots) s₆) (l .out + l .copies + l .edges + e) 0 ≡ getD s₅ (l .out + l .copies + length from + e) 0
+                    named-word : (e : ℕ) → e < l .edges → getD (take (l .slots) s₆) (l .named + e) 0 ≡ getD s₅ (l .named + e) 0
                     named-word e h =
-                        sym (table-at (take (l .slots) s₆) (l .out + l .copies + l .edges) (l .edges) e h)
-                        ∙ ap (λ (t : List ℕ). getD t e 0) (kept₅ (l .out + l .copies + l .edges) (l .edges) (omega (arith, w .out, w .copies, w .edges, w .slots)))
-                        ∙ table-at s₅ (l .out + l .copies + l .edges) (l .edges) e h
-                        ∙ ap (λ (m : ℕ). getD s₅ (l .out + l .copies + m + e) 0) (w .edges)
+                        sym (table-at (take (l .slots) s₆) (l .named) (l .edges) e h)
+                        ∙ ap (λ (t : List ℕ). getD t e 0) (kept₅ (l .named) (l .edges) (omega (arith, w .named, w .edges, w .slots)))
+                        ∙ table-at s₅ (l .named) (l .edges) e h
 
                     edges-to : l .edges ≡ length to
                     edges-to = w .edges ∙ sym (g .ends)
@@ -379,7 +361,7 @@ module _ (starts listed lengths nodes from to via : List ℕ) where
       → Tabulated starts listed s₁ s₂ (l .rest) (l .order) (l .rank) (l .link)
       → Filled starts listed lengths nodes s₂ s₃ (l .order) (l .low) total
       → Linked to s₃ s₄ (l .into) (l .copies)
-      → LinkedNamed from listed via s₄ s₅ (l .out) (l .copies)
+      → Named listed via s₄ s₅ (l .named) (length via)
       → (table s₆ (l .slots) total ≡ replicate total 0) × Frame s₅ s₆ (l .slots) total
       → Built starts listed lengths nodes from to via s₀ s₆ l
   built s₀ s₁ s₂ s₃ s₄ s₅ s₆ l total b w r₁ r₂ r₃ r₄ r₅ r₆ = record {

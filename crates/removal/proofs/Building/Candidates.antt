@@ -11,26 +11,26 @@ use lib.Dec.{T, eqb, eqb→eq, eqb-refl}
 use lib.ListN.{length, getD, take, drop, length-drop}
 use lib.Seq.{getD-drop}
 use borrow.Author.Tests.{lt-ltb, le-ltb, ne-eqb}
-use Rattle.timing.specs.Lists.{countOf, upto, sum}
+use Rattle.timing.specs.Lists.{oneIf, countOf, upto, sum}
 use Rattle.timing.specs.Graphs.{Design, edgeStart, Graph, nodeOf}
 use Rattle.timing.specs.Marks.{PathList, pathList, cut, pathsOf}
 use Rattle.timing.specs.Tests.{candidates}
 use Rattle.theorems.proofs.Lists.{and-intro, and-left, and-right, of-upto}
-use Rattle.theorems.proofs.Counting.{one, count-cons, count-append, count-le, nodup-upto}
+use Rattle.theorems.proofs.Counting.{count-cons, count-append, count-le, nodup-upto}
 use Rattle.removal.specs.Positions.{headIn, headAt, startAt, Ordered}
 use Rattle.removal.specs.Slots.{Bounds, Bounded, slots, slotBase}
 use Rattle.removal.specs.Search.{ofStarts, ofNodes}
 
 -- counts
-one-holds : (b : Bool) → T b → one b ≡ 1
+one-holds : (b : Bool) → T b → oneIf b ≡ 1
 one-holds true t = refl
 one-holds false t = absurd t
 
-one-fails : (b : Bool) → (T b → ⊥) → one b ≡ 0
+one-fails : (b : Bool) → (T b → ⊥) → oneIf b ≡ 0
 one-fails true f = absurd (f tt)
 one-fails false f = refl
 
-one-not : (b : Bool) → one b + one (not b) ≡ 1
+one-not : (b : Bool) → oneIf b + oneIf (not b) ≡ 1
 one-not true = refl
 one-not false = refl
 
@@ -59,7 +59,7 @@ count-agree r g (suc n) i e =
       arith,
       count-cons r i (upto n (suc i)),
       count-cons g i (upto n (suc i)),
-      ap one (e i (omega arith) (omega arith)),
+      ap oneIf (e i (omega arith) (omega arith)),
       count-agree r g n (suc i) (λ j h l. e j (omega arith) (omega arith)),
     )
 
@@ -67,7 +67,7 @@ count-shifted : (r g : ℕ → Bool) (n i k : ℕ) → ((j : ℕ) → r (k + j) 
 count-shifted r g zero i k e = refl
 count-shifted r g (suc n) i k e =
     let next : countOf r (upto n (suc (k + i))) ≡ countOf r (upto n (k + suc i)) = ap (λ (m : ℕ). countOf r (upto n m)) (omega arith) in
-    omega (arith, count-cons r (k + i) (upto n (suc (k + i))), count-cons g i (upto n (suc i)), ap one (e i), next, count-shifted r g n (suc i) k e)
+    omega (arith, count-cons r (k + i) (upto n (suc (k + i))), count-cons g i (upto n (suc i)), ap oneIf (e i), next, count-shifted r g n (suc i) k e)
 
 -- a count over places is a count over what stands there
 count-past : (q : ℕ → Bool) (n x : ℕ) (l : List ℕ) → countOf (λ i. q (getD (x ∷ l) i 0)) (upto n 1) ≡ countOf (λ i. q (getD l i 0)) (upto n 0)
@@ -100,7 +100,7 @@ inner-first q (suc k) (x ∷ edges) lengths h =
     r : ℕ → Bool
     r i = q (getD (x ∷ edges) i 0) && eqb (headIn (suc k ∷ lengths) i) 0
 
-    first : one (r 0) ≡ 0
+    first : oneIf (r 0) ≡ 0
     first = rw (lt-ltb 0 (suc k) (omega arith), and-false (q x))
 
     others : (j : ℕ) → 1 ≤ j → j < 1 + k → r j ≡ q (getD (x ∷ edges) j 0)

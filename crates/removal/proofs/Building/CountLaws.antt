@@ -10,11 +10,11 @@ use lib.Dec.{eqb}
 use lib.ListN.{length, getD, take, drop, set, replicate, length-set}
 use lib.Seq.{drop-drop, getD-set-same, getD-set-other}
 use borrow.Author.Tests.{ne-eqb, eq-eqb}
-use Rattle.timing.specs.Lists.{sum, countOf}
+use Rattle.timing.specs.Lists.{oneIf, sum, countOf}
 use Rattle.timing.specs.Graphs.{Design, Graph}
 use Rattle.timing.specs.Marks.{PathList, pathList, cut}
 use Rattle.timing.specs.Tests.{candidates}
-use Rattle.theorems.proofs.Counting.{one, count-cons, count-append}
+use Rattle.theorems.proofs.Counting.{count-cons, count-append}
 use Rattle.theorems.proofs.Legal.{Legal}
 use Rattle.theorems.proofs.Tested.{DesignFits, ListFits}
 use Rattle.removal.specs.Search.{ofStarts, ofNodes}
@@ -44,7 +44,7 @@ getD-past (x ∷ l) zero h = absurd (omega arith)
 getD-past (x ∷ l) (suc k) h = getD-past l k (omega arith)
 
 -- the next edge
-starts-cons : (starts : List ℕ) (v k : ℕ) (es : List ℕ) → startsIn starts v (k ∷ es) ≡ one (eqb (getD starts k 0) v) + startsIn starts v es
+starts-cons : (starts : List ℕ) (v k : ℕ) (es : List ℕ) → startsIn starts v (k ∷ es) ≡ oneIf (eqb (getD starts k 0) v) + startsIn starts v es
 unfolding startsIn
 starts-cons starts v k es = count-cons (λ e. eqb (getD starts e 0) v) k es
 
@@ -72,7 +72,7 @@ module _ (starts listed s t : List ℕ) (first end i : ℕ) (h : Counting starts
   abbrev node : ℕ
   node = getD starts (getD listed i 0) 0
 
-  next : (v : ℕ) → startsIn starts v (take (end - i) (drop i listed)) ≡ one (eqb node v) + startsIn starts v (take (end - suc i) (drop (suc i) listed))
+  next : (v : ℕ) → startsIn starts v (take (end - i) (drop i listed)) ≡ oneIf (eqb node v) + startsIn starts v (take (end - suc i) (drop (suc i) listed))
   next v =
       let e : end - i ≡ suc (end - suc i) = omega arith in
       rw (e, drop-cons listed i (omega (arith, h .room))) (starts-cons starts v (getD listed i 0) (take (end - suc i) (drop (suc i) listed)))
@@ -99,9 +99,9 @@ module _ (starts listed s t : List ℕ) (first end i : ℕ) (h : Counting starts
       count : (v : ℕ) → Dec (v ≡ node)
           → getD (set t node (getD t node 0 + 1)) v 0 + startsIn starts v (take (end - suc i) (drop (suc i) listed)) ≡ getD t v 0 + startsIn starts v (take (end - i) (drop i listed))
       count v (yes q) =
-          rw (q, getD-set-same t node (getD t node 0 + 1) 0 node-inside) (omega (arith, next node, ap one (eq-eqb node node refl)))
+          rw (q, getD-set-same t node (getD t node 0 + 1) 0 node-inside) (omega (arith, next node, ap oneIf (eq-eqb node node refl)))
       count v (no q) =
-          rw (getD-set-other t node v (getD t node 0 + 1) 0 q) (omega (arith, next v, ap one (ne-eqb node v (λ e. q (sym e)))))
+          rw (getD-set-other t node v (getD t node 0 + 1) 0 q) (omega (arith, next v, ap oneIf (ne-eqb node v (λ e. q (sym e)))))
 
 pub counting-done : (starts listed s t : List ℕ) (first end i : ℕ) → CountingAt starts listed s t first end i → end ≤ i → Counted starts listed s t first end
 counting-done starts listed s t first end i a f = record {

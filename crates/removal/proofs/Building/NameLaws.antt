@@ -6,10 +6,9 @@ use mathlib.Core.Path.{_≡_, refl, sym, _∙_, ap, subst}
 use mathlib.Core.List.{List}
 use lib.ListN.{length, getD, set, length-set}
 use lib.Seq.{getD-set-same, getD-set-other}
-use Rattle.removal.specs.Table.{table, Frame}
-use Rattle.removal.specs.Links.{Chained, Linked}
-use Rattle.removal.specs.Names.{Unlisted, Flagged, Noted, NotedAt, Named, LinkedNamed}
-use Rattle.removal.proofs.Building.Region.{frame-refl, frame-set, frame-trans, frame-wider}
+use Rattle.removal.specs.Table.{Frame}
+use Rattle.removal.specs.Names.{Unlisted, Flagged, Noted, NotedAt, Named}
+use Rattle.removal.proofs.Building.Region.{frame-refl, frame-set}
 
 pub flagged-set : (a : List ℕ) (k : ℕ) → k < length a → Flagged a (set a k 1) k
 flagged-set a k h = record {
@@ -54,15 +53,3 @@ named-step listed via a b s t base e k r room h q n f m = record {
         let x : getD (set t (base + e) r) (base + d) 0 ≡ r = ap (λ (i : ℕ). getD (set t (base + e) r) (base + i) 0) p ∙ getD-set-same t (base + e) r 0 (omega (arith, m .frame .size)) in
         subst (Unlisted listed) (q ∙ ap (λ (i : ℕ). getD via i 0) (sym p)) (flag-unlisted listed a b k r n f (sym x ∙ z))
     go d l z (no g) = m .named d (omega arith) (sym (getD-set-other t (base + e) (base + d) r 0 (λ y. g (omega arith))) ∙ z)
-
-pub linked-named : (from listed via s t u : List ℕ) (first n : ℕ) → Linked from s t first n → Named listed via t u (first + n + length from) (length via) → LinkedNamed from listed via s u first n
-linked-named from listed via s t u first n l m = record {
-  chains =
-      subst (λ (x : List ℕ). Chained from x (table u (first + n) (length from)) n (length from) 0) (sym (m .frame .below first n (omega arith)))
-      (subst (λ (x : List ℕ). Chained from (table t first n) x n (length from) 0) (sym (m .frame .below (first + n) (length from) (omega arith))) (l .chains));
-  named = m .named;
-  frame =
-      frame-trans s t u first (n + length from + length via)
-      (frame-wider s t first (n + length from) first (n + length from + length via) (omega arith) (omega arith) (l .frame))
-      (frame-wider t u (first + n + length from) (length via) first (n + length from + length via) (omega arith) (omega arith) (m .frame));
-}

@@ -1,17 +1,18 @@
--- Marking over the chain of the edges into a copy, and over all copies: the rows are what pass 1 makes.
+-- Flagging over the chain of the edges into a copy, and over all copies: the rows are what pass 1 makes.
 use Prim.Native.Nat.{ℕ, suc, _+_, _≤_, _<_}
 use native.Mathlib.Omega.{arith}
 use native.Mathlib.Decide.{ℕ-discrete}
 use mathlib.Core.Path.{_≡_, refl, sym, _∙_, ap, subst}
 use mathlib.Core.Logic.{_⊎_, inl, inr, ⊎-elim}
 use mathlib.Core.List.{List, [], _∷_, _++_, map, append-assoc, List·Memᴰ, List·Memᴰ·head, List·Memᴰ·not-nil, List·Memᴰ·cases-cons, List·Memᴰ·append-cases, Memᴰ·append-left, Memᴰ·append-right, Memᴰ·of-map}
-use lib.Dec.{T, ltb, eqb}
+use lib.Dec.{T, ltb, eqb, eqb→eq}
 use lib.ListN.{length, getD, take, set}
 use lib.Seq.{getD-take}
 use borrow.Author.Tests.{ltb-true, lt-ltb, eq-eqb, ne-eqb}
-use Rattle.timing.specs.Lists.{isNil, keep}
-use Rattle.timing.specs.Graphs.{Design, Edge, Graph, edgesOut, endsAt}
+use Rattle.timing.specs.Lists.{keep}
+use Rattle.timing.specs.Graphs.{Design, Edge, Graph, edgesOut, endpointOf, endsAt}
 use Rattle.timing.specs.Marks.{PathList}
+use Rattle.theorems.proofs.Lists.{holds}
 use Rattle.theorems.proofs.Runs.{mem-out}
 use Rattle.removal.specs.declared.rows.Layout.{Layout}
 use Rattle.removal.specs.Table.{table}
@@ -19,14 +20,14 @@ use Rattle.removal.specs.Chains.{Chain, edgesAt}
 use Rattle.removal.specs.Slots.{slots, slotBase, slotMark, Used}
 use Rattle.removal.specs.Rows.{boundsIn, orderIn, Tabled, slotPlace, flagIn}
 use Rattle.removal.specs.Flags.{ReachedRow, StepBack, Backward}
-use Rattle.removal.specs.Reach.{flagOf, reachedOf, SlotsOnly, Pushes, Marking, FromSlot, FromList, FromAll, endSet, RowsReached, AllZero}
+use Rattle.removal.specs.Reach.{flagOf, reachedOf, SlotsOnly, Pushes, Flagging, FromSlot, FromList, FromAll, endSet, RowsReached, AllZero}
 use Rattle.removal.proofs.Building.Region.{table-at}
 use Rattle.removal.proofs.Building.ChainLaws.{RisesIn, edges-rise, edges-member, chain-ends, chain-goes, chainLeft, chain-falls}
 use Rattle.removal.proofs.Showing.IntoLaws.{edgeAt, edges-out-at}
 use Rattle.removal.proofs.Reaching.SlotLaws.{used-empty}
 use Rattle.removal.proofs.Reaching.FlagLaws.{reached-same, reached-row}
 use Rattle.removal.proofs.Stepping.AlongLaws.{edge-mem, edge-up, end-inside}
-use Rattle.removal.proofs.Reaching.ReachLaws.{only-refl, only-trans, marking-same, marking-keeps, marking-join, into-end, flag-here, flag-other, stored-only}
+use Rattle.removal.proofs.Reaching.ReachLaws.{only-refl, only-trans, flagging-same, flagging-keeps, flagging-join, into-end, flag-here, flag-other, stored-only}
 
 append-nil : (l : List ℕ) → l ++ [] ≡ l
 append-nil [] = refl
@@ -45,7 +46,7 @@ pub record Chaining (l : Layout) (listed from to via p s t : List ℕ) (c j h : 
   pub whole : done ++ left ≡ edgesAt to c (l .edges) 0
   pub chain : Chain (table p (l .into + l .copies) (l .edges)) h left
   pub rises : RisesIn first (l .edges) left
-  pub marks : Marking l listed from to via p s t c (FromList done j)
+  pub marks : Flagging l listed from to via p s t c (FromList done j)
 
 module _ (D : Design) (L : PathList) (G : Graph) (l : Layout) (listed from to via p : List ℕ) (x : Tabled D L G l listed from to via p) (c : ℕ) (copy : c < l .copies) (j : ℕ) where
   abbrev nexts : List ℕ
@@ -53,7 +54,7 @@ module _ (D : Design) (L : PathList) (G : Graph) (l : Layout) (listed from to vi
 
   pub chaining-start : (s : List ℕ) (h : ℕ) → take (l .slots) s ≡ p → h ≡ getD s (l .into + c) 0 → Chaining l listed from to via p s s c j h
   chaining-start s h e q =
-      let r : h ≡ getD (table p (l .into) (l .copies)) c 0 = q ∙ read-table s p (l .slots) (l .into) (l .copies) c e copy (omega (arith, x .laid .into, x .laid .out)) in
+      let r : h ≡ getD (table p (l .into) (l .copies)) c 0 = q ∙ read-table s p (l .slots) (l .into) (l .copies) c e copy (omega (arith, x .laid .into, x .laid .named)) in
       record {
         done = [];
         left = edgesAt to c (l .edges) 0;
@@ -61,7 +62,7 @@ module _ (D : Design) (L : PathList) (G : Graph) (l : Layout) (listed from to vi
         whole = refl;
         chain = subst (λ (i : ℕ). Chain nexts i (edgesAt to c (l .edges) 0)) (sym r) (x .into c copy);
         rises = edges-rise to c (l .edges);
-        marks = marking-same l listed from to via p c s (FromList [] j) (λ D' L' G' y d i e k z. List·Memᴰ·not-nil (z .0 .0));
+        marks = flagging-same l listed from to via p c s (FromList [] j) (λ D' L' G' y d i e k z. List·Memᴰ·not-nil (z .0 .0));
       }
 
   module _ (s t : List ℕ) (h e : ℕ) (g : Chaining l listed from to via p s t c j h) (next : h ≡ suc e) where
@@ -90,9 +91,9 @@ module _ (D : Design) (L : PathList) (G : Graph) (l : Layout) (listed from to vi
         subst (λ (i : ℕ). chainLeft (l .edges) (getD nexts e 0) < chainLeft (l .edges) i) (sym next)
         (chain-falls nexts e (g .first) (l .edges) (g .left) (g .rises) (subst (λ (i : ℕ). Chain nexts i (g .left)) next (g .chain)))
 
-    pub chaining-turn : (u : List ℕ) (k : ℕ) → k ≡ getD nexts e 0 → Marking l listed from to via p t u (getD to e 0) (FromSlot e j) → Chaining l listed from to via p s u c j k
+    pub chaining-turn : (u : List ℕ) (k : ℕ) → k ≡ getD nexts e 0 → Flagging l listed from to via p t u (getD to e 0) (FromSlot e j) → Chaining l listed from to via p s u c j k
     chaining-turn u k q b =
-        let m : Marking l listed from to via p t u c (FromSlot e j) = subst (λ (d : ℕ). Marking l listed from to via p t u d (FromSlot e j)) (chaining-edge .1) b in
+        let m : Flagging l listed from to via p t u c (FromSlot e j) = subst (λ (d : ℕ). Flagging l listed from to via p t u d (FromSlot e j)) (chaining-edge .1) b in
         record {
           done = g .done ++ (e ∷ []);
           left = goes .0;
@@ -100,7 +101,7 @@ module _ (D : Design) (L : PathList) (G : Graph) (l : Layout) (listed from to vi
           whole = append-assoc (g .done) (e ∷ []) (goes .0) ∙ ap (λ (es : List ℕ). g .done ++ es) (sym (goes .1)) ∙ g .whole;
           chain = subst (λ (i : ℕ). Chain nexts i (goes .0)) (sym q) (goes .2);
           rises = rising .2;
-          marks = marking-join l listed from to via p c s t u (FromList (g .done) j) (FromSlot e j) (FromList (g .done ++ (e ∷ [])) j) (g .marks) m
+          marks = flagging-join l listed from to via p c s t u (FromList (g .done) j) (FromSlot e j) (FromList (g .done ++ (e ∷ [])) j) (g .marks) m
               (λ d i y. (Memᴰ·append-left (e ∷ []) (y .0), y .1))
               (λ d i y. (Memᴰ·append-right (g .done) (List·Memᴰ·head (y .0)), y .1))
               (λ d i y.
@@ -111,61 +112,58 @@ module _ (D : Design) (L : PathList) (G : Graph) (l : Layout) (listed from to vi
               (λ d i y. into-end l listed from to via p c D L G x d (subst (λ (es : List ℕ). List·Memᴰ d es) (g .whole) (Memᴰ·append-left (g .left) (y .0))));
         }
 
-  pub chaining-done : (s t : List ℕ) (h : ℕ) → h ≡ 0 → Chaining l listed from to via p s t c j h → Marking l listed from to via p s t c (FromList (edgesAt to c (l .edges) 0) j)
+  pub chaining-done : (s t : List ℕ) (h : ℕ) → h ≡ 0 → Chaining l listed from to via p s t c j h → Flagging l listed from to via p s t c (FromList (edgesAt to c (l .edges) 0) j)
   chaining-done s t h z g =
       let e = chain-ends nexts (g .left) (subst (λ (i : ℕ). Chain nexts i (g .left)) z (g .chain)) in
       let w : g .done ≡ edgesAt to c (l .edges) 0 = sym (append-nil (g .done)) ∙ ap (λ (es : List ℕ). g .done ++ es) (sym e) ∙ g .whole in
-      subst (λ (es : List ℕ). Marking l listed from to via p s t c (FromList es j)) w (g .marks)
+      subst (λ (es : List ℕ). Flagging l listed from to via p s t c (FromList es j)) w (g .marks)
 
--- the edges out of a copy are those that its chain lists
+-- the edges out of a copy, by their numbers
 module _ (D : Design) (L : PathList) (G : Graph) (l : Layout) (listed from to via p : List ℕ) (x : Tabled D L G l listed from to via p) (c : ℕ) where
   outs : edgesOut G c ≡ map (edgeAt from to via) (edgesAt from c (l .edges) 0)
   unfolding edgesOut
   outs =
       ap (keep (λ (e : Edge). eqb (e .start) c)) (x .edges)
-      ∙ edges-out-at (G .nodes) from to via (x .ends ∙ sym (x .starts)) (x .names ∙ sym (x .starts)) c
+      ∙ edges-out-at (G .nodes) (G .endpoints) from to via (x .ends ∙ sym (x .starts)) (x .names ∙ sym (x .starts)) c
       ∙ ap (λ (m : ℕ). map (edgeAt from to via) (edgesAt from c m 0)) (x .starts)
 
   pub out-edge : (e : Edge) → List·Memᴰ e (G .edges) → e .start ≡ c → (n : ℕ) × List·Memᴰ n (edgesAt from c (l .edges) 0) × (edgeAt from to via n ≡ e)
   out-edge e m q = Memᴰ·of-map (edgeAt from to via) (edgesAt from c (l .edges) 0) (subst (λ (es : List Edge). List·Memᴰ e es) outs (mem-out G c e .1 (m, q)))
 
-  pub ends-if : edgesAt from c (l .edges) 0 ≡ [] → T (endsAt G c)
-  ends-if z = subst (λ (es : List Edge). T (isNil es)) (sym (outs ∙ ap (map (edgeAt from to via)) z)) tt
+-- paths end at a copy where its endpoint number is 1
+ends-if : (G : Graph) (endpoint : List ℕ) (c : ℕ) → G .endpoints ≡ endpoint → getD endpoint c 0 ≡ 1 → T (endsAt G c)
+ends-if G endpoint c q z = holds (endsAt G c) (eq-eqb (endpointOf G c) 1 (ap (λ (k : List ℕ). getD k c 0) q ∙ z))
 
-  pub ends-only : T (endsAt G c) → edgesAt from c (l .edges) 0 ≡ []
-  ends-only t = go (edgesAt from c (l .edges) 0) (subst (λ (es : List Edge). T (isNil es)) outs t)
-    where
-      go : (es : List ℕ) → T (isNil (map (edgeAt from to via) es)) → es ≡ []
-      go [] y = refl
-      go (e ∷ es) y = absurd y
+ends-only : (G : Graph) (endpoint : List ℕ) (c : ℕ) → G .endpoints ≡ endpoint → T (endsAt G c) → getD endpoint c 0 ≡ 1
+ends-only G endpoint c q t = ap (λ (k : List ℕ). getD k c 0) (sym q) ∙ eqb→eq (endpointOf G c) 1 t
 
--- Slot 0 of copy c was set if no edge goes out of c, and nothing else.
-pub record EndMarked (l : Layout) (from p s t : List ℕ) (c : ℕ) : Type 0 where
+-- Slot 0 of copy c was set if its endpoint number is 1, and nothing else.
+pub record EndMarked (l : Layout) (endpoint p s t : List ℕ) (c : ℕ) : Type 0 where
   pub only : SlotsOnly l p s t
   pub others : (d i : ℕ) → d < l .copies → i < slots (boundsIn l p) d → (d ≡ c → ⊥) → flagOf l p t d i ≡ flagOf l p s d i
   pub small : (i : ℕ) → i < slots (boundsIn l p) c → (flagOf l p t c i ≡ flagOf l p s c i) ⊎ (flagOf l p t c i ≡ 1)
-  pub sound : (i : ℕ) → i < slots (boundsIn l p) c → 0 < flagOf l p t c i → (0 < flagOf l p s c i) ⊎ ((edgesAt from c (l .edges) 0 ≡ []) × (i ≡ 0))
-  pub complete : edgesAt from c (l .edges) 0 ≡ [] → 0 < flagOf l p t c 0
+  pub sound : (i : ℕ) → i < slots (boundsIn l p) c → 0 < flagOf l p t c i → (0 < flagOf l p s c i) ⊎ ((getD endpoint c 0 ≡ 1) × (i ≡ 0))
+  pub complete : getD endpoint c 0 ≡ 1 → 0 < flagOf l p t c 0
 
-module _ (l : Layout) (from p s : List ℕ) (c : ℕ) where
-  end-same : (edgesAt from c (l .edges) 0 ≡ [] → ⊥) → EndMarked l from p s s c
-  end-same some =
+module _ (l : Layout) (endpoint p s : List ℕ) (c : ℕ) where
+  end-same : (getD endpoint c 0 ≡ 1 → ⊥) → EndMarked l endpoint p s s c
+  end-same not-one =
       record {
         only = only-refl l p s;
         others = λ d i h k f. refl;
         small = λ i h. inl refl;
         sound = λ i h f. inl f;
-        complete = λ z. absurd (some z);
+        complete = λ z. absurd (not-one z);
       }
 
-  end-stored : edgesAt from c (l .edges) 0 ≡ [] → c < l .copies → l .slots + slotBase (boundsIn l p) (l .copies) ≤ length s
-      → EndMarked l from p s (set s (slotPlace l p c 0) 1) c
-  end-stored none copy room =
+  end-stored : getD endpoint c 0 ≡ 1 → c < l .copies → l .slots + slotBase (boundsIn l p) (l .copies) ≤ length s
+      → EndMarked l endpoint p s (set s (slotPlace l p c 0) 1) c
+  end-stored is-one copy room =
       record {
         only = stored-only l p s room c 0 1 copy (omega arith);
         others = λ d i h k f. flag-other l p s room c 0 1 copy (omega arith) d i k (λ q. f (q .0));
         small = λ i h. elim (ℕ-discrete i 0) [ yes q ↦ inr (ap (flagOf l p t c) q ∙ here) | no f ↦ inl (other i h f) ];
-        sound = λ i h y. elim (ℕ-discrete i 0) [ yes q ↦ inr (none, q) | no f ↦ inl (omega (arith, y, other i h f)) ];
+        sound = λ i h y. elim (ℕ-discrete i 0) [ yes q ↦ inr (is-one, q) | no f ↦ inl (omega (arith, y, other i h f)) ];
         complete = λ z. omega (arith, here);
       }
     where
@@ -178,53 +176,38 @@ module _ (l : Layout) (from p s : List ℕ) (c : ℕ) where
       other : (i : ℕ) → i < slots (boundsIn l p) c → (i ≡ 0 → ⊥) → flagOf l p t c i ≡ flagOf l p s c i
       other i h f = flag-other l p s room c 0 1 copy (omega arith) c i h (λ q. f (q .1))
 
--- the first link of a copy is 0 where no edge goes out
-pub first-link : (D : Design) (L : PathList) (G : Graph) (l : Layout) (listed from to via p : List ℕ) → Tabled D L G l listed from to via p → (c : ℕ) → c < l .copies
-    → (t : List ℕ) (h : ℕ) → take (l .slots) t ≡ p → h ≡ getD t (l .out + c) 0
-    → (h ≡ 0 → edgesAt from c (l .edges) 0 ≡ []) × (edgesAt from c (l .edges) 0 ≡ [] → h ≡ 0)
-first-link D L G l listed from to via p x c copy t h e q =
-    let r : h ≡ getD (table p (l .out) (l .copies)) c 0 = q ∙ read-table t p (l .slots) (l .out) (l .copies) c e copy (omega (arith, x .laid .out)) in
-    let k : Chain (table p (l .out + l .copies) (l .edges)) h (edgesAt from c (l .edges) 0) =
-    subst (λ (i : ℕ). Chain (table p (l .out + l .copies) (l .edges)) i (edgesAt from c (l .edges) 0)) (sym r) (x .out c copy) in (
-      λ z. chain-ends (table p (l .out + l .copies) (l .edges)) (edgesAt from c (l .edges) 0) (subst (λ (i : ℕ). Chain (table p (l .out + l .copies) (l .edges)) i (edgesAt from c (l .edges) 0)) z k),
-      λ z. subst (λ (es : List ℕ). Chain (table p (l .out + l .copies) (l .edges)) h es) z k,
-    )
-
-pub end-marked : (D : Design) (L : PathList) (G : Graph) (l : Layout) (listed from to via p : List ℕ) → Tabled D L G l listed from to via p → (c : ℕ) → c < l .copies
-    → (s t : List ℕ) → take (l .slots) s ≡ p → l .slots + slotBase (boundsIn l p) (l .copies) ≤ length s → t ≡ endSet l s c → EndMarked l from p s t c
-end-marked D L G l listed from to via p x c copy s t same room q =
-    subst (λ (u : List ℕ). EndMarked l from p s u c) (sym q) (go (ℕ-discrete (getD s (l .out + c) 0) 0))
+pub end-marked : (l : Layout) (endpoint p : List ℕ) (c : ℕ) → c < l .copies
+    → (s t : List ℕ) → take (l .slots) s ≡ p → l .slots + slotBase (boundsIn l p) (l .copies) ≤ length s → t ≡ endSet l endpoint s c → EndMarked l endpoint p s t c
+end-marked l endpoint p c copy s t same room q =
+    subst (λ (u : List ℕ). EndMarked l endpoint p s u c) (sym q) (go (ℕ-discrete (getD endpoint c 0) 1))
   where
-    link : (getD s (l .out + c) 0 ≡ 0 → edgesAt from c (l .edges) 0 ≡ []) × (edgesAt from c (l .edges) 0 ≡ [] → getD s (l .out + c) 0 ≡ 0)
-    link = first-link D L G l listed from to via p x c copy s (getD s (l .out + c) 0) same refl
-
-    go : Dec (getD s (l .out + c) 0 ≡ 0) → EndMarked l from p s (endSet l s c) c
-    go (yes z) = rw (eq-eqb (getD s (l .out + c) 0) 0 z, same) (end-stored l from p s c (link .0 z) copy room)
-    go (no f) = rw (ne-eqb (getD s (l .out + c) 0) 0 f) (end-same l from p s c (λ z. f (link .1 z)))
+    go : Dec (getD endpoint c 0 ≡ 1) → EndMarked l endpoint p s (endSet l endpoint s c) c
+    go (yes z) = rw (eq-eqb (getD endpoint c 0) 1 z, same) (end-stored l endpoint p s c z copy room)
+    go (no f) = rw (ne-eqb (getD endpoint c 0) 1 f) (end-same l endpoint p s c f)
 
 -- the edges whose ends are copies from c on
 abbrev pub FromEnds : Layout → List ℕ → ℕ → ℕ → ℕ → Type 0
 FromEnds l to c = λ e k. (e < l .edges) × (c ≤ getD to e 0)
 
 -- The rows from copy c on are right, and the flags of the copies below c are what the edges to those rows set.
-pub record RowsPushed (l : Layout) (listed from to via p s t : List ℕ) (c : ℕ) : Type 0 where
-  pub reached : RowsReached l listed from to via p s t c
+pub record RowsPushed (l : Layout) (listed endpoint from to via p s t : List ℕ) (c : ℕ) : Type 0 where
+  pub reached : RowsReached l listed endpoint from to via p s t c
   pub sound : (D : Design) (L : PathList) (G : Graph) → Tabled D L G l listed from to via p → (d i : ℕ) → d < c → d < l .copies → i < slots (boundsIn l p) d → 0 < flagOf l p t d i
       → (e : ℕ) × (k : ℕ) × Pushes l listed from to via p t L (FromEnds l to c) d i e k
   pub complete : (D : Design) (L : PathList) (G : Graph) → Tabled D L G l listed from to via p → (d i e k : ℕ) → d < c → d < l .copies
       → Pushes l listed from to via p t L (FromEnds l to c) d i e k → 0 < flagOf l p t d i
 
-pub rows-start : (l : Layout) (listed from to via p s : List ℕ) → AllZero l p s → RowsPushed l listed from to via p s s (l .copies)
-rows-start l listed from to via p s z =
+pub rows-start : (l : Layout) (listed endpoint from to via p s : List ℕ) → AllZero l p s → RowsPushed l listed endpoint from to via p s s (l .copies)
+rows-start l listed endpoint from to via p s z =
     record {
-      reached = record { only = only-refl l p s; small = λ d i h n. omega (arith, z d i h n); rows = λ D L G x d h k. absurd (omega arith) };
+      reached = record { only = only-refl l p s; small = λ d i h n. omega (arith, z d i h n); rows = λ D L G x q d h k. absurd (omega arith) };
       sound = λ D L G x d i m h n f. absurd (omega (arith, f, z d i h n));
       complete = λ D L G x d i e k m h y. absurd (omega (arith, y .0 .1, end-inside D L G l listed from to via p x e (y .0 .0)));
     }
 
 -- one more copy: its slot 0 is marked if paths end there, and then what its slots reach
-module _ (l : Layout) (listed from to via p s t v u : List ℕ) (c : ℕ) (copy : c < l .copies) (a : RowsPushed l listed from to via p s t (suc c))
-    (m : EndMarked l from p t v c) (b : Marking l listed from to via p v u c (FromAll (edgesAt to c (l .edges) 0))) where
+module _ (l : Layout) (listed endpoint from to via p s t v u : List ℕ) (c : ℕ) (copy : c < l .copies) (a : RowsPushed l listed endpoint from to via p s t (suc c))
+    (m : EndMarked l endpoint p t v c) (b : Flagging l listed from to via p v u c (FromAll (edgesAt to c (l .edges) 0))) where
   -- the flags of the higher copies stay, and those of lower ones until c's slots are followed
   still : (d i : ℕ) → c < d → d < l .copies → i < slots (boundsIn l p) d → flagOf l p u d i ≡ flagOf l p t d i
   still d i h k n = b .higher d i (omega arith) k n ∙ m .others d i k n (λ q. omega arith)
@@ -271,44 +254,45 @@ module _ (l : Layout) (listed from to via p s t v u : List ℕ) (c : ℕ) (copy 
           record { alive = y .4; inside = h; marks = y .5; used = w },
         )
 
-    -- so the row of copy c is what pass 1 makes of the higher rows
-    backward : Backward G L (orderIn l listed p) (boundsIn l p) (reachedOf l p u) c
-    backward =
-        record {
-          sound = λ i h f.
-              ⊎-elim
-              (λ (y : 0 < flagOf l p t c i).
-              let z = a .sound D L G x c i (omega arith) copy h y in
-              (z .2 .4 .used, inr (edgeAt from to via (z .0), z .1, step-from i (z .0) (z .1) (z .2))))
-              (λ (y : (edgesAt from c (l .edges) 0 ≡ []) × (i ≡ 0)). (
-                subst (λ (j : ℕ). Used L (orderIn l listed p) (boundsIn l p) c j) (sym (y .1)) (used-empty L (orderIn l listed p) (boundsIn l p) c),
-                inl (ends-if D L G l listed from to via p x c (y .0), y .1),
-              ))
-              (m .sound i h (omega (arith, ltb-true 0 (flagOf l p u c i) f, b .higher c i (omega arith) copy h)));
-          ends = λ y. lt-ltb 0 (flagOf l p u c 0) (omega (arith, m .complete (ends-only D L G l listed from to via p x c y), b .higher c 0 (omega arith) copy (omega arith)));
-          steps = λ e k i h w y. lt-ltb 0 (flagOf l p u c i) (kept i h (step-sets e k i h w y));
-        }
+    module _ (q : G .endpoints ≡ endpoint) where
+      -- so the row of copy c is what pass 1 makes of the higher rows
+      backward : Backward G L (orderIn l listed p) (boundsIn l p) (reachedOf l p u) c
+      backward =
+          record {
+            sound = λ i h f.
+                ⊎-elim
+                (λ (y : 0 < flagOf l p t c i).
+                let z = a .sound D L G x c i (omega arith) copy h y in
+                (z .2 .4 .used, inr (edgeAt from to via (z .0), z .1, step-from i (z .0) (z .1) (z .2))))
+                (λ (y : (getD endpoint c 0 ≡ 1) × (i ≡ 0)). (
+                  subst (λ (j : ℕ). Used L (orderIn l listed p) (boundsIn l p) c j) (sym (y .1)) (used-empty L (orderIn l listed p) (boundsIn l p) c),
+                  inl (ends-if G endpoint c q (y .0), y .1),
+                ))
+                (m .sound i h (omega (arith, ltb-true 0 (flagOf l p u c i) f, b .higher c i (omega arith) copy h)));
+            ends = λ y. lt-ltb 0 (flagOf l p u c 0) (omega (arith, m .complete (ends-only G endpoint c q y), b .higher c 0 (omega arith) copy (omega arith)));
+            steps = λ e k i h w y. lt-ltb 0 (flagOf l p u c i) (kept i h (step-sets e k i h w y));
+          }
 
-    higher : (d : ℕ) → c < d → d < l .copies → ReachedRow G L (orderIn l listed p) (boundsIn l p) (reachedOf l p u) d
-    higher d h k =
-        reached-same G L (orderIn l listed p) (boundsIn l p) (reachedOf l p t) (reachedOf l p u) d
-        (λ j n. ap (λ (w : ℕ). ltb 0 w) (still d j h k n))
-        (a .reached .rows D L G x d (omega arith) k)
+      higher : (d : ℕ) → c < d → d < l .copies → ReachedRow G L (orderIn l listed p) (boundsIn l p) (reachedOf l p u) d
+      higher d h k =
+          reached-same G L (orderIn l listed p) (boundsIn l p) (reachedOf l p t) (reachedOf l p u) d
+          (λ j n. ap (λ (w : ℕ). ltb 0 w) (still d j h k n))
+          (a .reached .rows D L G x q d (omega arith) k)
 
-    here : ReachedRow G L (orderIn l listed p) (boundsIn l p) (reachedOf l p u) c
-    here =
-        reached-row D G L (orderIn l listed p) (boundsIn l p)
-        (record { legal = x .legal; fits = x .fits; ordered = x .ordered; bounded = λ d h. x .bounded d (omega (arith, x .copies)) })
-        (reachedOf l p u) c (omega (arith, x .copies))
-        (λ d h k. higher d h (omega (arith, x .copies)))
-        backward
+      here : ReachedRow G L (orderIn l listed p) (boundsIn l p) (reachedOf l p u) c
+      here =
+          reached-row D G L (orderIn l listed p) (boundsIn l p)
+          (record { legal = x .legal; fits = x .fits; ordered = x .ordered; bounded = λ d h. x .bounded d (omega (arith, x .copies)) })
+          (reachedOf l p u) c (omega (arith, x .copies))
+          (λ d h k. higher d h (omega (arith, x .copies)))
+          backward
 
-    rows : (d : ℕ) → c ≤ d → d < l .copies → ReachedRow G L (orderIn l listed p) (boundsIn l p) (reachedOf l p u) d
-    rows d h k =
-        elim (ℕ-discrete c d) [
-          | yes q ↦ subst (λ (y : ℕ). ReachedRow G L (orderIn l listed p) (boundsIn l p) (reachedOf l p u) y) q here
-          | no f ↦ higher d (omega arith) k
-        ]
+      rows : (d : ℕ) → c ≤ d → d < l .copies → ReachedRow G L (orderIn l listed p) (boundsIn l p) (reachedOf l p u) d
+      rows d h k =
+          elim (ℕ-discrete c d) [
+            | yes e ↦ subst (λ (y : ℕ). ReachedRow G L (orderIn l listed p) (boundsIn l p) (reachedOf l p u) y) e here
+            | no f ↦ higher d (omega arith) k
+          ]
 
     sound : (d i : ℕ) → d < c → d < l .copies → i < slots (boundsIn l p) d → 0 < flagOf l p u d i → (e : ℕ) × (k : ℕ) × Pushes l listed from to via p u L (FromEnds l to c) d i e k
     sound d i h k n f =
@@ -329,7 +313,7 @@ module _ (l : Layout) (listed from to via p s t v u : List ℕ) (c : ℕ) (copy 
           | yes q ↦ b .complete D L G x d i e k n (edges-member to c (l .edges) e .1 (y .0 .0, q), y .1, y .2, y .3, y .4)
           | no f ↦
               let up : c < getD to e 0 = omega (arith, y .0 .1) in
-              marking-keeps l listed from to via p c v u (FromAll (edgesAt to c (l .edges) 0)) b d i n (y .4 .inside)
+              flagging-keeps l listed from to via p c v u (FromAll (edgesAt to c (l .edges) 0)) b d i n (y .4 .inside)
               (omega (
                 arith,
                 a .complete D L G x d i e k (omega arith) n
@@ -359,7 +343,7 @@ module _ (l : Layout) (listed from to via p s t v u : List ℕ) (c : ℕ) (copy 
       (λ (y : flagOf l p u d i ≡ 1). omega arith)
       (b .small d i h n)
 
-  pub rows-next : RowsPushed l listed from to via p s u c
+  pub rows-next : RowsPushed l listed endpoint from to via p s u c
   rows-next =
       record {
         reached = record { only = only-trans l p s t u (a .reached .only) (only-trans l p t v u (m .only) (b .only)); small = small; rows = rows };

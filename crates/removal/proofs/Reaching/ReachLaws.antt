@@ -1,4 +1,4 @@
--- Laws of marking the reached slots: what one store does, and how markings follow one another.
+-- Laws of flagging the reached slots: what one store does, and how flaggings follow one another.
 use Prim.Native.Nat.{ℕ, _+_, _≤_, _<_}
 use native.Mathlib.Omega.{arith}
 use native.Mathlib.Decide.{decLt, ℕ-discrete}
@@ -16,7 +16,7 @@ use Rattle.removal.specs.Chains.{edgesAt}
 use Rattle.removal.specs.Slots.{Bounds, slots, slotBase, slotMark}
 use Rattle.removal.specs.Rows.{boundsIn, orderIn, Tabled, Ready, slotPlace}
 use Rattle.removal.specs.Along.{StepAlong}
-use Rattle.removal.specs.Reach.{flagOf, SlotsOnly, Leads, Pushes, Marking, FromSlot, FromList, FromBelow, FromAll}
+use Rattle.removal.specs.Reach.{flagOf, SlotsOnly, Leads, Pushes, Flagging, FromSlot, FromList, FromBelow, FromAll}
 use Rattle.removal.proofs.Building.ChainLaws.{edges-member}
 use Rattle.removal.proofs.Reaching.SlotLaws.{used-one}
 use Rattle.removal.proofs.Stepping.StepLaws.{true-false}
@@ -74,10 +74,10 @@ ready-still l listed from to via s t o r =
 
 module _ (l : Layout) (listed from to via p : List ℕ) (c : ℕ) where
   -- nothing is set where nothing leads on
-  pub marking-same : (s : List ℕ) (From : ℕ → ℕ → Type 0)
+  pub flagging-same : (s : List ℕ) (From : ℕ → ℕ → Type 0)
       → ((D : Design) (L : PathList) (G : Graph) → Tabled D L G l listed from to via p → (d i e k : ℕ) → Pushes l listed from to via p s L From d i e k → ⊥)
-      → Marking l listed from to via p s s c From
-  marking-same s From none =
+      → Flagging l listed from to via p s s c From
+  flagging-same s From none =
       record {
         only = only-refl l p s;
         higher = λ d i m h k. refl;
@@ -87,20 +87,20 @@ module _ (l : Layout) (listed from to via p : List ℕ) (c : ℕ) where
       }
 
   -- a flag that is set stays so
-  pub marking-keeps : (s t : List ℕ) (From : ℕ → ℕ → Type 0) → Marking l listed from to via p s t c From
+  pub flagging-keeps : (s t : List ℕ) (From : ℕ → ℕ → Type 0) → Flagging l listed from to via p s t c From
       → (d i : ℕ) → d < l .copies → i < slots (boundsIn l p) d → 0 < flagOf l p s d i → 0 < flagOf l p t d i
-  marking-keeps s t From a d i h k f =
+  flagging-keeps s t From a d i h k f =
       ⊎-elim
       (λ (q : flagOf l p t d i ≡ flagOf l p s d i). omega arith)
       (λ (q : flagOf l p t d i ≡ 1). omega arith)
       (a .small d i h k)
 
-  -- one marking after another; the ends of the edges of the first one are not below c
-  module _ (s t u : List ℕ) (One Two Both : ℕ → ℕ → Type 0) (a : Marking l listed from to via p s t c One) (b : Marking l listed from to via p t u c Two)
+  -- one flagging after another; the ends of the edges of the first one are not below c
+  module _ (s t u : List ℕ) (One Two Both : ℕ → ℕ → Type 0) (a : Flagging l listed from to via p s t c One) (b : Flagging l listed from to via p t u c Two)
       (one : (e k : ℕ) → One e k → Both e k) (two : (e k : ℕ) → Two e k → Both e k) (both : (e k : ℕ) → Both e k → One e k ⊎ Two e k)
       (end : (e k : ℕ) → One e k → (getD to e 0 < l .copies) × (c ≤ getD to e 0)) where
-    pub marking-join : Marking l listed from to via p s u c Both
-    marking-join =
+    pub flagging-join : Flagging l listed from to via p s u c Both
+    flagging-join =
         record {
           only = only-trans l p s t u (a .only) (b .only);
           higher = λ d i m h k. b .higher d i m h k ∙ a .higher d i m h k;
@@ -129,7 +129,7 @@ module _ (l : Layout) (listed from to via p : List ℕ) (c : ℕ) where
             (λ (z : 0 < flagOf l p s d i). inl z)
             (λ (z : (e : ℕ) × (k : ℕ) × Pushes l listed from to via p t L One d i e k).
             let y = z .2 in
-            inr (z .0, z .1, (one (z .0) (z .1) (y .0), y .1, y .2, marking-keeps t u Two b (getD to (z .0) 0) (z .1) (end (z .0) (z .1) (y .0) .0) (y .2) (y .3), y .4)))
+            inr (z .0, z .1, (one (z .0) (z .1) (y .0), y .1, y .2, flagging-keeps t u Two b (getD to (z .0) 0) (z .1) (end (z .0) (z .1) (y .0) .0) (y .2) (y .3), y .4)))
             (a .sound D L G x d i h n y))
             (λ (z : (e : ℕ) × (k : ℕ) × Pushes l listed from to via p u L Two d i e k).
             let y = z .2 in
@@ -141,26 +141,26 @@ module _ (l : Layout) (listed from to via p : List ℕ) (c : ℕ) where
         complete D L G x d i e k h y =
             ⊎-elim
             (λ (n : One e k).
-            marking-keeps t u Two b d i h (y .4 .inside)
+            flagging-keeps t u Two b d i h (y .4 .inside)
             (a .complete D L G x d i e k h (n, y .1, y .2, omega (arith, y .3, b .higher (getD to e 0) k (end e k n .1) (end e k n .0) (y .2)), y .4)))
             (λ (n : Two e k). b .complete D L G x d i e k h (n, y .1, y .2, y .3, y .4))
             (both e k (y .0))
 
--- the marking of one step
+-- the flagging of one step
 module _ (l : Layout) (listed from to via p s : List ℕ) (e j : ℕ) where
   abbrev word : PathList → ℕ → ℕ → List ℕ
   word L d k = getD via d 0 ∷ slotMark L (orderIn l listed p) (boundsIn l p) (getD to d 0) k
 
-  pub marking-dead : StepAlong l listed from to via p e j Dead → Marking l listed from to via p s s (getD to e 0) (FromSlot e j)
+  pub marking-dead : StepAlong l listed from to via p e j Dead → Flagging l listed from to via p s s (getD to e 0) (FromSlot e j)
   unfolding StepAlong
   marking-dead dead =
-      marking-same l listed from to via p (getD to e 0) s (FromSlot e j)
+      flagging-same l listed from to via p (getD to e 0) s (FromSlot e j)
       (λ D L G t d i f k x.
       true-false (ap₂ (λ (a b : ℕ). begins (pathsOf L) (word L a b)) (x .0 .0) (x .0 .1) ∙ dead D L G t) (x .4 .alive))
 
   pub marking-live : (r : ℕ) → StepAlong l listed from to via p e j (Live r) → l .slots + slotBase (boundsIn l p) (l .copies) ≤ length s
       → getD from e 0 < l .copies → getD from e 0 < getD to e 0 → r < slots (boundsIn l p) (getD from e 0) → j < slots (boundsIn l p) (getD to e 0) → 0 < flagOf l p s (getD to e 0) j
-      → Marking l listed from to via p s (set s (slotPlace l p (getD from e 0) r) 1) (getD to e 0) (FromSlot e j)
+      → Flagging l listed from to via p s (set s (slotPlace l p (getD from e 0) r) 1) (getD to e 0) (FromSlot e j)
   unfolding StepAlong
   marking-live r live room copy up slot here on =
       record { only = stored-only l p s room c r 1 copy slot; higher = higher; small = small; sound = sound; complete = complete }
@@ -233,18 +233,18 @@ module _ (l : Layout) (listed from to via p s : List ℕ) (e j : ℕ) where
 -- the slots of copy c, one after the other, each followed over the edges into c
 module _ (l : Layout) (listed from to via p : List ℕ) (c : ℕ) where
   -- nothing is set from a slot that is not reached
-  pub marking-off : (s : List ℕ) (j : ℕ) → flagOf l p s c j ≡ 0 → Marking l listed from to via p s s c (FromList (edgesAt to c (l .edges) 0) j)
+  pub marking-off : (s : List ℕ) (j : ℕ) → flagOf l p s c j ≡ 0 → Flagging l listed from to via p s s c (FromList (edgesAt to c (l .edges) 0) j)
   marking-off s j z =
-      marking-same l listed from to via p c s (FromList (edgesAt to c (l .edges) 0) j)
+      flagging-same l listed from to via p c s (FromList (edgesAt to c (l .edges) 0) j)
       (λ D L G t d i e k y.
       let q : flagOf l p s (getD to e 0) k ≡ flagOf l p s c j = ap₂ (λ (a b : ℕ). flagOf l p s a b) (edges-member to c (l .edges) e .0 (y .0 .0) .1) (y .0 .1) in
       omega (arith, y .3))
 
-  pub below-none : (s : List ℕ) → Marking l listed from to via p s s c (FromBelow (edgesAt to c (l .edges) 0) 0)
-  below-none s = marking-same l listed from to via p c s (FromBelow (edgesAt to c (l .edges) 0) 0) (λ D L G t d i e k y. omega (arith, y .0 .1))
+  pub below-none : (s : List ℕ) → Flagging l listed from to via p s s c (FromBelow (edgesAt to c (l .edges) 0) 0)
+  below-none s = flagging-same l listed from to via p c s (FromBelow (edgesAt to c (l .edges) 0) 0) (λ D L G t d i e k y. omega (arith, y .0 .1))
 
-  pub below-all : (s t : List ℕ) (j : ℕ) → slots (boundsIn l p) c ≤ j → Marking l listed from to via p s t c (FromBelow (edgesAt to c (l .edges) 0) j)
-      → Marking l listed from to via p s t c (FromAll (edgesAt to c (l .edges) 0))
+  pub below-all : (s t : List ℕ) (j : ℕ) → slots (boundsIn l p) c ≤ j → Flagging l listed from to via p s t c (FromBelow (edgesAt to c (l .edges) 0) j)
+      → Flagging l listed from to via p s t c (FromAll (edgesAt to c (l .edges) 0))
   below-all s t j h a =
       record {
         only = a .only;
@@ -267,10 +267,10 @@ module _ (l : Layout) (listed from to via p : List ℕ) (c : ℕ) where
         let r = edges-member to c (l .edges) e .0 m in
         (end-inside D L G l listed from to via p x e (r .0), omega (arith, r .1))
 
-    pub below-next : (s t u : List ℕ) (j : ℕ) → Marking l listed from to via p s t c (FromBelow (edgesAt to c (l .edges) 0) j)
-        → Marking l listed from to via p t u c (FromList (edgesAt to c (l .edges) 0) j) → Marking l listed from to via p s u c (FromBelow (edgesAt to c (l .edges) 0) (j + 1))
+    pub below-next : (s t u : List ℕ) (j : ℕ) → Flagging l listed from to via p s t c (FromBelow (edgesAt to c (l .edges) 0) j)
+        → Flagging l listed from to via p t u c (FromList (edgesAt to c (l .edges) 0) j) → Flagging l listed from to via p s u c (FromBelow (edgesAt to c (l .edges) 0) (j + 1))
     below-next s t u j a b =
-        marking-join l listed from to via p c s t u (FromBelow es j) (FromList es j) (FromBelow es (j + 1)) a b
+        flagging-join l listed from to via p c s t u (FromBelow es j) (FromList es j) (FromBelow es (j + 1)) a b
         (λ d k m. (m .0, omega (arith, m .1)))
         (λ d k m. (m .0, omega (arith, m .1)))
         (λ d k m. elim (decLt k j) [ yes y ↦ inl (m .0, y) | no f ↦ inr (m .0, omega (arith, m .1)) ])

@@ -60,7 +60,7 @@ module _ (l : Layout) (s : List ℕ) (h : Held l s) where
 pub ready-held : (l : Layout) (listed from to via s : List ℕ) → Ready l listed from to via s → Held l s
 ready-held l listed from to via s r =
     record {
-      tables = omega (arith, r .tabled .laid .low, r .tabled .laid .into, r .tabled .laid .out);
+      tables = omega (arith, r .tabled .laid .low, r .tabled .laid .into, r .tabled .laid .named);
       room = r .room;
       up = λ c h. r .tabled .bounded c h .tails-up;
       bases = λ c h. r .tabled .bases c h;

@@ -5,9 +5,9 @@ use mathlib.Core.Path.{_≡_, refl, sym, ap, ap₂, _∙_}
 use mathlib.Core.Bool.{Bool, true, false, cond}
 use mathlib.Core.List.{List, [], _∷_, _++_, map, flatMap, List·Memᴰ, List·Memᴰ·head, List·Memᴰ·tail, append-assoc, append-nil}
 use lib.ListN.{length, length-append, length-map}
-use Rattle.timing.specs.Lists.{keep, countOf, upto}
+use Rattle.timing.specs.Lists.{oneIf, keep, countOf, upto}
 use Rattle.theorems.proofs.Lists.{of-upto}
-use Rattle.theorems.proofs.Counting.{one, count-cons, count-append}
+use Rattle.theorems.proofs.Counting.{count-cons, count-append}
 use Rattle.removal.specs.Slots.{Bounds, slots}
 use Rattle.removal.proofs.Showing.ResultLaws.{Slot, slotAt, shownIn, shownBelow, numberOf}
 
@@ -74,7 +74,7 @@ module _ (B : Bounds) (shown : ℕ → ℕ → Bool) where
       ∙ flatMap-last (λ c. shownIn shown c (slots B c)) (upto c 0) c
 
   -- and their numbers
-  pub number-next : (c j : ℕ) → numberOf B shown c (suc j) ≡ numberOf B shown c j + one (shown c j)
+  pub number-next : (c j : ℕ) → numberOf B shown c (suc j) ≡ numberOf B shown c j + oneIf (shown c j)
   number-next c j =
       let z : 0 + j ≡ j = omega arith in
       let u : upto (suc j) 0 ≡ upto j 0 ++ (j ∷ []) = upto-last j 0 ∙ ap (λ (x : ℕ). upto j 0 ++ (x ∷ [])) z in

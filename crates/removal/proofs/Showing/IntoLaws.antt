@@ -124,15 +124,15 @@ keep-map {A} {B} p f (x ∷ l) = go (p (f x)) (keep-map p f l)
     go true e = ap (λ (k : List B). f x ∷ k) e
     go false e = e
 
--- the edges into a copy, and out of it, are those that its chain lists
-module _ (nodes starts ends names : List ℕ) (p : length ends ≡ length starts) (q : length names ≡ length starts) (c : ℕ) where
-  pub edges-in-at : edgesIn (graph nodes (edgesOf starts ends names)) c ≡ map (edgeAt starts ends names) (edgesAt ends c (length starts) 0)
+-- the edges into a copy, and out of it, by their numbers
+module _ (nodes endpoint starts ends names : List ℕ) (p : length ends ≡ length starts) (q : length names ≡ length starts) (c : ℕ) where
+  pub edges-in-at : edgesIn (graph nodes endpoint (edgesOf starts ends names)) c ≡ map (edgeAt starts ends names) (edgesAt ends c (length starts) 0)
   unfolding edgesIn
   edges-in-at =
       ap (keep (λ (e : Edge). eqb (e .end) c)) (edges-map starts ends names p q)
       ∙ keep-map (λ (e : Edge). eqb (e .end) c) (edgeAt starts ends names) (upto (length starts) 0)
 
-  pub edges-out-at : edgesOut (graph nodes (edgesOf starts ends names)) c ≡ map (edgeAt starts ends names) (edgesAt starts c (length starts) 0)
+  pub edges-out-at : edgesOut (graph nodes endpoint (edgesOf starts ends names)) c ≡ map (edgeAt starts ends names) (edgesAt starts c (length starts) 0)
   unfolding edgesOut
   edges-out-at =
       ap (keep (λ (e : Edge). eqb (e .start) c)) (edges-map starts ends names p q)

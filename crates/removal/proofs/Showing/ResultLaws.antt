@@ -1,26 +1,27 @@
 -- The shown slots in order are the copies of the true graph, with their places as numbers, and the edges into them that come
 -- from shown slots are its edges.
-use Prim.Native.Nat.{ℕ, _+_, _<_}
+use Prim.Native.Nat.{ℕ, zero, suc, _+_, _≤_, _<_}
 use native.Mathlib.Omega.{arith}
-use mathlib.Core.Path.{_≡_, refl, sym, ap, _∙_, subst}
+use mathlib.Core.Path.{_≡_, refl, sym, ap, ap₂, _∙_, subst}
 use mathlib.Core.Logic.{_⊎_, inl, inr}
-use mathlib.Core.Bool.{Bool, true, false, _&&_}
-use mathlib.Core.List.{List, [], _∷_, map, List·Memᴰ, Memᴰ·cast, Memᴰ·map, Memᴰ·of-map, map-map}
+use mathlib.Core.Bool.{Bool, true, false, cond, _&&_}
+use mathlib.Core.List.{List, [], _∷_, map, List·Memᴰ, List·Memᴰ·head, List·Memᴰ·tail, Memᴰ·cast, Memᴰ·map, Memᴰ·of-map, map-map}
 use lib.Dec.{T, eqb, ltb, lt→ltb}
 use lib.ListN.{length}
-use Rattle.timing.specs.Lists.{keep, countOf, upto}
-use Rattle.timing.specs.Graphs.{Design, Edge, edge, Graph, graph, nodeOf}
+use borrow.Author.Tests.{ne-eqb}
+use Rattle.timing.specs.Lists.{isNil, keep, countOf, oneIf, upto}
+use Rattle.timing.specs.Graphs.{Design, Edge, edge, Graph, graph, nodeOf, endpointOf, endsAt}
 use Rattle.timing.specs.Marks.{PathList, pathsOf, mark}
 use Rattle.timing.specs.Sorting.{before, place}
-use Rattle.timing.specs.TrueGraphs.{Copy, Join, copyBefore, edgeBefore, copies, numbered, trueGraph}
+use Rattle.timing.specs.TrueGraphs.{Copy, Join, copyBefore, edgeBefore, copies, pathEnds, numbered, trueGraph}
 use Rattle.theorems.proofs.Lists.{holds, or-left, mem-flatMap, of-flatMap, mem-keep, of-keep, mem-upto, of-upto}
 use Rattle.theorems.proofs.Marks.{begins}
 use Rattle.theorems.proofs.Sorting.{place-getD, place-less}
 use Rattle.theorems.proofs.Copies.{Shown, Joined, Link, copy-order, mem-copies, joined-link, link-joined}
 use Rattle.theorems.proofs.Stands.{passes-inside, copies-sorted}
-use Rattle.theorems.proofs.Back.{copies-are, edges-are}
-use Rattle.removal.specs.Slots.{Bounds, slots, slotMark}
-pub use Rattle.removal.specs.Result.{Slot, slotAt, shownIn, shownBelow, numberOf, shownSlots, numberedEdge, slotEdges, shownEdges, Linking}
+use Rattle.theorems.proofs.Back.{copies-are, edges-are, ends-locally}
+use Rattle.removal.specs.Slots.{Bounds, slots, slotMark, Used}
+pub use Rattle.removal.specs.Result.{Slot, slotAt, slotEndpoint, shownIn, shownBelow, numberOf, shownSlots, numberedEdge, slotEdges, shownEdges, Linking}
 pub use Rattle.removal.specs.Fill.{EdgesInto}
 use Rattle.removal.proofs.Reaching.SlotLaws.{Setting, before-skip, slots-rise}
 use Rattle.removal.proofs.Reaching.FlagLaws.{ShownRow, StepOn, shown-slot}
@@ -37,6 +38,16 @@ copyOf L order B s = record { at = s .copy; mark = slotMark L order B (s .copy) 
 is-true : (b : Bool) → T b → b ≡ true
 is-true true t = refl
 is-true false t = absurd t
+
+-- a number that is 0 or 1 says whether it is 1
+one-if : (x : ℕ) → x ≤ 1 → x ≡ oneIf (eqb x 1)
+one-if zero h = refl
+one-if (suc zero) h = refl
+one-if (suc (suc x)) h = absurd (omega arith)
+
+map-same : {A B : Type 0} (f g : A → B) (l : List A) → ((x : A) → List·Memᴰ x l → f x ≡ g x) → map f l ≡ map g l
+map-same f g [] h = refl
+map-same f g (x ∷ l) h = ap₂ (λ (y : _) (k : List _). y ∷ k) (h x (List·Memᴰ·head refl)) (map-same f g l (λ y m. h y (List·Memᴰ·tail m)))
 
 module _ (B : Bounds) (shown : ℕ → ℕ → Bool) where
   -- what is listed
@@ -162,6 +173,31 @@ module _ (D : Design) (G : Graph) (L : PathList) (order : List ℕ) (B : Bounds)
   unfolding trueGraph
   shown-nodes =
       sym (map-map (λ (p : Copy). nodeOf G (p .at)) (copyOf L order B) (shownSlots G B shown)) ∙ ap (map (λ (p : Copy). nodeOf G (p .at))) shown-copies
+
+  -- and so are the endpoint numbers: paths end at the slot of the empty mark, where they end at its copy
+  slot-ends : (s : Slot) → List·Memᴰ s (shownSlots G B shown) → slotEndpoint (G .endpoints) s ≡ oneIf (pathEnds (pathsOf L) G (copyOf L order B s))
+  slot-ends s m =
+      let o = of-shown B shown (length (G .nodes)) s m in
+      let r = right (s .copy) (o .0) (s .slot) (o .1) .0 (o .2) in
+      go (s .slot) (r .0) (ends-locally G (pathsOf L) (S .legal .rising) (copyOf L order B s) (r .1))
+    where
+      some : (k : List ℕ) → (k ≡ [] → ⊥) → isNil k ≡ false
+      some [] f = absurd (f refl)
+      some (x ∷ k) f = refl
+
+      go : (j : ℕ) → Used L order B (s .copy) j → pathEnds (pathsOf L) G (copyOf L order B (slotAt (s .copy) j)) ≡ (isNil (slotMark L order B (s .copy) j) && endsAt G (s .copy))
+          → slotEndpoint (G .endpoints) (slotAt (s .copy) j) ≡ oneIf (pathEnds (pathsOf L) G (copyOf L order B (slotAt (s .copy) j)))
+      go zero u e = one-if (endpointOf G (s .copy)) (S .legal .flags (s .copy)) ∙ ap oneIf (sym e)
+      go (suc j) u e =
+          ap (λ (b : Bool). cond b (endpointOf G (s .copy)) 0) (ne-eqb (suc j) 0 (λ q. omega arith))
+          ∙ ap oneIf (sym (e ∙ ap (λ (b : Bool). b && endsAt G (s .copy)) (some (slotMark L order B (s .copy) (suc j)) (λ q. u 0 (omega arith) (sym q)))))
+
+  pub shown-endpoints : map (slotEndpoint (G .endpoints)) (shownSlots G B shown) ≡ trueGraph G (pathsOf L) .endpoints
+  unfolding trueGraph
+  shown-endpoints =
+      map-same (slotEndpoint (G .endpoints)) (λ (s : Slot). oneIf (pathEnds (pathsOf L) G (copyOf L order B s))) (shownSlots G B shown) slot-ends
+      ∙ sym (map-map (λ (p : Copy). oneIf (pathEnds (pathsOf L) G p)) (copyOf L order B) (shownSlots G B shown))
+      ∙ ap (map (λ (p : Copy). oneIf (pathEnds (pathsOf L) G p))) shown-copies
 
   -- numbers keep the order of slots
   pub numbers-rise : (s t : Slot) → List·Memᴰ s (shownSlots G B shown) → List·Memᴰ t (shownSlots G B shown) → SlotLower s t

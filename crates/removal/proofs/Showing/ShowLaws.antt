@@ -10,12 +10,12 @@ use mathlib.Core.List.{List, [], _∷_, _++_, map, flatMap, List·Memᴰ, List·
 use lib.Dec.{T, eqb, ltb, eqb→eq}
 use lib.ListN.{length, length-append, length-map}
 use borrow.Author.Tests.{lt-ltb, le-ltb, ltb-true, eq-eqb}
-use Rattle.timing.specs.Lists.{keep, sum}
+use Rattle.timing.specs.Lists.{oneIf, keep, sum}
 use Rattle.timing.specs.Graphs.{Design, Edge, Graph, edgesIn, startsAt}
 use Rattle.timing.specs.Marks.{PathList, pathsOf, mark}
 use Rattle.theorems.proofs.Lists.{holds}
 use Rattle.theorems.proofs.Runs.{mem-in}
-use Rattle.theorems.proofs.Counting.{one, count-positive, of-count}
+use Rattle.theorems.proofs.Counting.{count-positive, of-count}
 use Rattle.removal.specs.Slots.{Bounds, slots, slotMark, Used}
 use Rattle.removal.specs.Result.{Slot, slotAt, shownIn, shownBelow, numberOf, shownSlots, numberedEdge, slotEdges, shownEdges}
 use Rattle.removal.specs.Show.{sameMark, firstFrom, slotOf, deadAlong, startSlot, fromShown, startFlag, reachedBy, shownBy, edgesTo, shows, shownTo, finally, edgesBefore, finalFlag, Passed}
@@ -295,7 +295,7 @@ module _ (D : Design) (G : Graph) (L : PathList) (order : List ℕ) (B : Bounds)
     pub pass-slot : (copies edges : ℕ)
         → ((d i : ℕ) → d < length (G .nodes) → i < slots B d → (d ≡ c → i ≡ j → ⊥) → after d i ≡ flags d i)
         → after c j ≡ cond (shows G L order B (reachedBy flags) (shownBy flags) c j) (2 + k) (flags c j)
-        → copies ≡ k + one (shows G L order B (reachedBy flags) (shownBy flags) c j)
+        → copies ≡ k + oneIf (shows G L order B (reachedBy flags) (shownBy flags) c j)
         → edges ≡ e + cond (shows G L order B (reachedBy flags) (shownBy flags) c j) (edgesTo G L order B (shownBy flags) c j) 0
         → Passed G L order B first after c (suc j) copies edges
     pass-slot copies edges others new more links =
@@ -314,7 +314,7 @@ module _ (D : Design) (G : Graph) (L : PathList) (order : List ℕ) (B : Bounds)
               ];
           rest = λ i h m l. others c i inside l (λ r t. omega arith) ∙ p .rest i (omega arith) m l;
           higher = λ d i h m l. others d i m l (λ r t. omega arith) ∙ p .higher d i h m l;
-          numbered = omega (arith, p .numbered, ap one rule-is, number-next B shown c j);
+          numbered = omega (arith, p .numbered, ap oneIf rule-is, number-next B shown c j);
           counted = omega (
             arith,
             p .counted,
@@ -343,13 +343,13 @@ module _ (D : Design) (G : Graph) (L : PathList) (order : List ℕ) (B : Bounds)
       }
 
   -- at the end the flags say what is shown, with its numbers
-  module _ (flags : ℕ → ℕ → ℕ) (k e : ℕ) (p : Passed G L order B first flags (length (G .nodes)) 0 k e)
-      (reached : (c : ℕ) → c < length (G .nodes) → ReachedRow G L order B (reachedBy first) c) where
+  module _ (flags : ℕ → ℕ → ℕ) (k e : ℕ) (p : Passed G L order B first flags (length (G .nodes)) 0 k e) where
     agree : (d i : ℕ) → d < length (G .nodes) → i < slots B d → shownBy flags d i ≡ finally G L order B (reachedBy first) d i
     agree = lower-shown flags (length (G .nodes)) 0 k e (omega arith) p
 
-    pub end-rows : (c : ℕ) → c < length (G .nodes) → ShownRow G L order B (shownBy flags) c
-    end-rows c h =
+    pub end-rows : ((c : ℕ) → c < length (G .nodes) → ReachedRow G L order B (reachedBy first) c)
+        → (c : ℕ) → c < length (G .nodes) → ShownRow G L order B (shownBy flags) c
+    end-rows reached c h =
         shown-same G L order B (finally G L order B (reachedBy first)) (shownBy flags) c (λ j l. agree c j h l) (final-rows D G L order B S (reachedBy first) reached c h)
 
     pub end-numbers : (c j : ℕ) → c < length (G .nodes) → j < slots B c → shownBy flags c j ≡ true → flags c j ≡ 2 + numberOf B (shownBy flags) c j

@@ -10,21 +10,19 @@ use lib.Dec.{ltb}
 use lib.ListN.{length, getD, take, set, length-set}
 use lib.Seq.{take-set-le, getD-set-same, getD-set-other}
 use borrow.Author.Tests.{lt-ltb}
-use Rattle.timing.specs.Lists.{isNil}
+use Rattle.timing.specs.Lists.{oneIf, isNil}
 use Rattle.timing.specs.Graphs.{Design, Graph, startsAt}
 use Rattle.timing.specs.Marks.{PathList}
-use Rattle.theorems.proofs.Counting.{one}
 use Rattle.removal.specs.declared.rows.Layout.{Layout}
 use Rattle.removal.specs.Table.{table}
 use Rattle.removal.specs.Slots.{Bounds, slots, slotBase}
 use Rattle.removal.specs.Chains.{Chain, edgesAt}
 use Rattle.removal.specs.Rows.{boundsIn, orderIn, Tabled, Ready, slotPlace, flagIn}
 use Rattle.removal.specs.Result.{edgeAt}
-use Rattle.removal.specs.Flags.{ReachedRow}
 use Rattle.removal.specs.Show.{reachedBy, shownBy, edgesTo, shows, Passed, EdgesMeet, SlotRoom, SlotRule, SlotShown, PassedTo, AllShown}
 use Rattle.removal.proofs.Building.ChainLaws.{chain-ends}
 use Rattle.removal.proofs.Reaching.RowLaws.{base-next, slot-inside, slots-apart, ready-held, place-inside}
-use Rattle.removal.proofs.Showing.ShowLaws.{links, pass-start, pass-slot, pass-copy, end-rows, end-numbers, end-copies, end-edges}
+use Rattle.removal.proofs.Showing.ShowLaws.{pass-start, pass-slot, pass-copy, end-rows, end-numbers, end-copies, end-edges}
 use Rattle.removal.proofs.Showing.ShowTables.{setting-of, edges-listed, first-chain}
 
 -- the tables, as the scratch has them
@@ -57,7 +55,7 @@ module _ (G : Graph) (L : PathList) (order : List ℕ) (B : Bounds) (flags : ℕ
   rule-off q =
       record {
         flag-is = sym (ap (λ (b : Bool). cond b (2 + copies) (flags c j)) q);
-        more-is = omega (arith, ap one q);
+        more-is = omega (arith, ap oneIf q);
         links-is = omega (arith, ap (λ (b : Bool). cond b (edgesTo G L order B (shownBy flags) c j) 0) q);
       }
 
@@ -66,7 +64,7 @@ module _ (G : Graph) (L : PathList) (order : List ℕ) (B : Bounds) (flags : ℕ
   rule-on flag more links n q f m k e =
       record {
         flag-is = omega (arith, ap (λ (b : Bool). cond b (2 + copies) (flags c j)) q);
-        more-is = omega (arith, ap one q);
+        more-is = omega (arith, ap oneIf q);
         links-is = omega (arith, ap (λ (b : Bool). cond b (edgesTo G L order B (shownBy flags) c j) 0) q);
       }
 
@@ -240,32 +238,41 @@ module _ (l : Layout) (listed from to via s : List ℕ) where
         }
 
 -- at the end
-pub to-all : (l : Layout) (listed from to via s t : List ℕ) (c copies edges : ℕ) → c ≡ l .copies → PassedTo l listed from to via s t 0 0 0 c 0 copies edges
-    → AllShown l listed from to via s t copies edges
-to-all l listed from to via s t c copies edges e x =
-    record {
-      size = x .size;
-      tables = x .tables;
-      past = x .past;
-      few-copies = omega (arith, x .few-copies, ap (slotBase (boundsOf l s)) e);
-      few-edges = x .few-edges;
-      meets = λ D L G g low rows.
-          let order = orderOf l listed s in
-          let B = boundsOf l s in
-          let S = setting-of D L G l listed from to via (take (l .slots) s) g in
-          let p : Passed G L order B (flagIn l s) (flagIn l t) (length (G .nodes)) 0 copies edges =
-          subst (λ (k : ℕ). Passed G L order B (flagIn l s) (flagIn l t) k 0 copies edges) (e ∙ sym (g .copies))
-          (x .meets D L G g (flagIn l s) (pass-start D G L order B S (flagIn l s) (λ d i h k. low d i (omega (arith, g .copies)) k))) in
-          let reached : (d : ℕ) → d < length (G .nodes) → ReachedRow G L order B (reachedBy (flagIn l s)) d = λ d h. rows d (omega (arith, g .copies)) in
-          let right = end-rows D G L order B S (flagIn l s) (flagIn l t) copies edges p reached in
-          record {
-            rows = right;
-            numbers = end-numbers D G L order B S (flagIn l s) (flagIn l t) copies edges p reached;
-            copies-are = end-copies D G L order B S (flagIn l s) (flagIn l t) copies edges p reached;
-            edges-are = end-edges D G L order B S (flagIn l s) (flagIn l t) copies edges p reached;
-            linking = links D G L order B S (shownBy (flagIn l t)) right;
-          };
-    }
+module _ (l : Layout) (listed from to via s t : List ℕ) (c copies edges : ℕ) (e : c ≡ l .copies) (x : PassedTo l listed from to via s t 0 0 0 c 0 copies edges) where
+  abbrev LowFlags : Type 0
+  LowFlags = (c j : ℕ) → c < l .copies → j < slots (boundsOf l s) c → flagIn l s c j ≤ 1
+
+  passed-all : (D : Design) (L : PathList) (G : Graph) → Tabled D L G l listed from to via (take (l .slots) s) → LowFlags
+      → Passed G L (orderOf l listed s) (boundsOf l s) (flagIn l s) (flagIn l t) (length (G .nodes)) 0 copies edges
+  passed-all D L G g low =
+      let order = orderOf l listed s in
+      let B = boundsOf l s in
+      let S = setting-of D L G l listed from to via (take (l .slots) s) g in
+      subst (λ (k : ℕ). Passed G L order B (flagIn l s) (flagIn l t) k 0 copies edges) (e ∙ sym (g .copies))
+      (x .meets D L G g (flagIn l s) (pass-start D G L order B S (flagIn l s) (λ d i h k. low d i (omega (arith, g .copies)) k)))
+
+  pub to-all : AllShown l listed from to via s t copies edges
+  to-all =
+      record {
+        size = x .size;
+        tables = x .tables;
+        past = x .past;
+        few-copies = omega (arith, x .few-copies, ap (slotBase (boundsOf l s)) e);
+        few-edges = x .few-edges;
+        meets = λ D L G g low.
+            let order = orderOf l listed s in
+            let B = boundsOf l s in
+            let S = setting-of D L G l listed from to via (take (l .slots) s) g in
+            let p = passed-all D L G g low in
+            record {
+              numbers = end-numbers D G L order B S (flagIn l s) (flagIn l t) copies edges p;
+              copies-are = end-copies D G L order B S (flagIn l s) (flagIn l t) copies edges p;
+              edges-are = end-edges D G L order B S (flagIn l s) (flagIn l t) copies edges p;
+            };
+        rows = λ D L G g low reached c h.
+            end-rows D G L (orderOf l listed s) (boundsOf l s) (setting-of D L G l listed from to via (take (l .slots) s) g) (flagIn l s) (flagIn l t) copies edges (passed-all D L G g low)
+            (λ d k. reached d (omega (arith, g .copies))) c (omega (arith, g .copies));
+      }
 
 -- what the next slot and the next copy ask
 module _ (l : Layout) (listed from to via s t : List ℕ) (c copies edges d j more links : ℕ) (x : PassedTo l listed from to via s t c copies edges d j more links) where

@@ -8,11 +8,11 @@ use lib.Dec.{eqb, ltb, eqb→eq}
 use lib.ListN.{length, getD, take}
 use lib.Seq.{getD-take}
 use borrow.Author.Tests.{lt-ltb, le-ltb}
-use Rattle.timing.specs.Lists.{keep, countOf, upto}
+use Rattle.timing.specs.Lists.{oneIf, keep, countOf, upto}
 use Rattle.timing.specs.Graphs.{Design, Edge, Graph, edgesIn}
 use Rattle.timing.specs.Marks.{PathList}
 use Rattle.theorems.proofs.Lists.{of-keep}
-use Rattle.theorems.proofs.Counting.{one, count-cons}
+use Rattle.theorems.proofs.Counting.{count-cons}
 use Rattle.removal.specs.declared.rows.Layout.{Layout}
 use Rattle.removal.specs.declared.step.Step.the-variants.{Dead, Live}
 use Rattle.removal.specs.Table.{table}
@@ -39,7 +39,7 @@ pub edges-listed : (D : Design) (L : PathList) (G : Graph) (l : Layout) (listed 
 unfolding edgesIn
 edges-listed D L G l listed from to via p t c =
     ap (keep (λ (e : Edge). eqb (e .end) c)) (t .edges)
-    ∙ edges-in-at (G .nodes) from to via (t .ends ∙ sym (t .starts)) (t .names ∙ sym (t .starts)) c
+    ∙ edges-in-at (G .nodes) (G .endpoints) from to via (t .ends ∙ sym (t .starts)) (t .names ∙ sym (t .starts)) c
     ∙ ap (λ (n : ℕ). map (edgeAt from to via) (edgesAt to c n 0)) (t .starts)
 
 -- what stands at the start of an edge: the step's answer, and the flag there
@@ -87,16 +87,16 @@ pub record Counting (l : Layout) (listed from to via s : List ℕ) (c j count h 
 -- the words of the chains
 module _ (l : Layout) (listed from to via s : List ℕ) (r : Ready l listed from to via s) where
   pub chain-room : l .into + (l .copies + l .edges) ≤ length s
-  chain-room = omega (arith, r .tabled .laid .into, r .tabled .laid .out, r .room)
+  chain-room = omega (arith, r .tabled .laid .into, r .tabled .laid .named, r .room)
 
   pub first-read : (c : ℕ) → c < l .copies → getD (table (take (l .slots) s) (l .into) (l .copies)) c 0 ≡ getD s (l .into + c) 0
   first-read c h =
-      table-at (take (l .slots) s) (l .into) (l .copies) c h ∙ getD-take (l .slots) s (l .into + c) 0 (omega (arith, r .tabled .laid .into, r .tabled .laid .out))
+      table-at (take (l .slots) s) (l .into) (l .copies) c h ∙ getD-take (l .slots) s (l .into + c) 0 (omega (arith, r .tabled .laid .into, r .tabled .laid .named))
 
   pub next-read : (e : ℕ) → e < l .edges → getD (table (take (l .slots) s) (l .into + l .copies) (l .edges)) e 0 ≡ getD s (l .into + l .copies + e) 0
   next-read e h =
       table-at (take (l .slots) s) (l .into + l .copies) (l .edges) e h
-      ∙ getD-take (l .slots) s (l .into + l .copies + e) 0 (omega (arith, r .tabled .laid .into, r .tabled .laid .out))
+      ∙ getD-take (l .slots) s (l .into + l .copies + e) 0 (omega (arith, r .tabled .laid .into, r .tabled .laid .named))
 
   -- no edge comes into a copy where its chain is empty
   pub first-chain : (c : ℕ) → c < l .copies → Chain (table (take (l .slots) s) (l .into + l .copies) (l .edges)) (getD s (l .into + c) 0) (edgesAt to c (l .edges) 0)
@@ -160,7 +160,7 @@ module _ (l : Layout) (listed from to via s : List ℕ) (r : Ready l listed from
         counting-more : (more : ℕ) (b : Bool)
             → ((D : Design) (L : PathList) (G : Graph) → Tabled D L G l listed from to via (take (l .slots) s)
             → fromShown L (orderIn l listed (take (l .slots) s)) (boundsIn l (take (l .slots) s)) (shownBy (flagIn l s)) c j (edgeAt from to via (h - 1)) ≡ b)
-            → more ≡ count + one b → more ≤ count + 1
+            → more ≡ count + oneIf b → more ≤ count + 1
             → Counting l listed from to via s c j more (getD s (l .into + l .copies + (h - 1)) 0)
         counting-more more b test q small =
             record {
@@ -178,7 +178,7 @@ module _ (l : Layout) (listed from to via s : List ℕ) (r : Ready l listed from
                     x .counts D L G t,
                     ap (λ (k : List ℕ). countOf f (map (edgeAt from to via) k)) (goes .1),
                     count-cons f (edgeAt from to via (h - 1)) (map (edgeAt from to via) (goes .0)),
-                    ap one (test D L G t),
+                    ap oneIf (test D L G t),
                   );
             }
 

@@ -17,6 +17,5 @@ pub shown-ready : (l : Layout) (listed from to via t : List ℕ) (copies edges :
 shown-ready l listed from to via t copies edges r a =
     record {
       ready = r;
-      rows = λ D L G x c h. a D L G x .rows c (omega (arith, x .copies));
       numbered = λ c j h i s. a (r .design) (r .list) (r .graph) (r .tabled) .numbers c j (omega (arith, r .tabled .copies)) i s;
     }

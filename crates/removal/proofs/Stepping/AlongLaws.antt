@@ -55,7 +55,7 @@ module _ (D : Design) (L : PathList) (G : Graph) (l : Layout) (listed from to vi
   pub slot-tables : (c : ℕ) → c < l .copies → SlotTables D L G (boundsIn l (take (l .slots) s)) s (l .rest) (l .order) c
   slot-tables c h =
       let n : length (L .edges) ≡ length listed = ap length (t .list-edges) in
-      let inside : l .order + length listed ≤ l .slots = omega (arith, t .laid .order, t .laid .low, t .laid .into, t .laid .out) in
+      let inside : l .order + length listed ≤ l .slots = omega (arith, t .laid .order, t .laid .low, t .laid .into, t .laid .named) in
       let first : l .rest + length listed ≤ l .slots = omega (arith, t .laid .rest) in
       let order = table-prefix s (l .slots) (l .order) (length listed) inside room in
       let rests = table-prefix s (l .slots) (l .rest) (length listed) first room in
@@ -86,9 +86,9 @@ module _ (D : Design) (L : PathList) (G : Graph) (l : Layout) (listed from to vi
   pub find-asked : (c low j at len : ℕ) → c < l .copies → low ≡ boundsIn l (take (l .slots) s) .low c → j < slots (boundsIn l (take (l .slots) s)) c
       → SpanIs s (l .rest) (l .order) low j at len → Findable listed s (l .rest) (l .rank) (l .link) at len
   find-asked c low j at len h e k is =
-      let first : l .rest + length listed ≤ l .slots = omega (arith, t .laid .rest, t .laid .order, t .laid .low, t .laid .into, t .laid .out) in
-      let second : l .rank + length listed ≤ l .slots = omega (arith, t .laid .rank, t .laid .low, t .laid .into, t .laid .out) in
-      let third : l .link + length listed ≤ l .slots = omega (arith, t .laid .link, t .laid .low, t .laid .into, t .laid .out) in
+      let first : l .rest + length listed ≤ l .slots = omega (arith, t .laid .rest, t .laid .order, t .laid .low, t .laid .into, t .laid .named) in
+      let second : l .rank + length listed ≤ l .slots = omega (arith, t .laid .rank, t .laid .low, t .laid .into, t .laid .named) in
+      let third : l .link + length listed ≤ l .slots = omega (arith, t .laid .link, t .laid .low, t .laid .into, t .laid .named) in
       let rests = table-prefix s (l .slots) (l .rest) (length listed) first room in
       let ranks = table-prefix s (l .slots) (l .rank) (length listed) second room in
       let links = table-prefix s (l .slots) (l .link) (length listed) third room in
@@ -133,7 +133,7 @@ module _ (D : Design) (L : PathList) (G : Graph) (l : Layout) (listed from to vi
       let start = start-inside D L G l listed from to via (take (l .slots) s) t e h in
       let end = end-inside D L G l listed from to via (take (l .slots) s) t e h in
       let n : length (L .edges) ≡ length listed = ap length (t .list-edges) in
-      let inside : l .order + length listed ≤ l .slots = omega (arith, t .laid .order, t .laid .low, t .laid .into, t .laid .out) in
+      let inside : l .order + length listed ≤ l .slots = omega (arith, t .laid .order, t .laid .low, t .laid .into, t .laid .named) in
       let order : table s (l .order) (length (L .edges)) ≡ orderIn l listed (take (l .slots) s) =
       ap (table s (l .order)) n ∙ sym (table-prefix s (l .slots) (l .order) (length listed) inside room) in
       let marks : take len (drop at (L .edges)) ≡ slotMark L (table s (l .order) (length (L .edges))) B (getD to e 0) j =
@@ -147,17 +147,17 @@ module _ (D : Design) (L : PathList) (G : Graph) (l : Layout) (listed from to vi
       (subst (λ (w : List ℕ). StepIs L (table s (l .order) (length (L .edges))) B (getD from e 0) (getD via e 0 ∷ w) r) marks step)
 
   -- an edge that names no listed one leads to the empty mark
-  pub along-unlisted : (e j : ℕ) → e < l .edges → getD s (l .out + l .copies + l .edges + e) 0 ≡ 0
+  pub along-unlisted : (e j : ℕ) → e < l .edges → getD s (l .named + e) 0 ≡ 0
       → StepIs L (orderIn l listed (take (l .slots) s)) (boundsIn l (take (l .slots) s)) (getD from e 0)
       (getD via e 0 ∷ slotMark L (orderIn l listed (take (l .slots) s)) (boundsIn l (take (l .slots) s)) (getD to e 0) j) (Live 0)
   along-unlisted e j h z =
       let B = boundsIn l (take (l .slots) s) in
       let start = start-inside D L G l listed from to via (take (l .slots) s) t e h in
       let n : length (L .edges) ≡ length listed = ap length (t .list-edges) in
-      let inside : l .order + length listed ≤ l .slots = omega (arith, t .laid .order, t .laid .low, t .laid .into, t .laid .out) in
+      let inside : l .order + length listed ≤ l .slots = omega (arith, t .laid .order, t .laid .low, t .laid .into, t .laid .named) in
       let order : table s (l .order) (length (L .edges)) ≡ orderIn l listed (take (l .slots) s) =
       ap (table s (l .order)) n ∙ sym (table-prefix s (l .slots) (l .order) (length listed) inside room) in
-      let unlisted : Unlisted listed (getD via e 0) = t .named e h (getD-take (l .slots) s (l .out + l .copies + l .edges + e) 0 (omega (arith, t .laid .named)) ∙ z) in
+      let unlisted : Unlisted listed (getD via e 0) = t .named e h (getD-take (l .slots) s (l .named + e) 0 (omega (arith, t .laid .named)) ∙ z) in
       subst (λ (o : List ℕ). LiveIs L o B (getD from e 0) (getD via e 0 ∷ slotMark L (orderIn l listed (take (l .slots) s)) B (getD to e 0) j) 0) order
       (step-unlisted D L G B s (l .rest) (l .order) (getD from e 0) (slot-tables (getD from e 0) start) (getD via e 0) (slotMark L (orderIn l listed (take (l .slots) s)) B (getD to e 0) j)
       (sym (t .legal .starts (edgeAt from to via e) (edge-mem D L G l listed from to via (take (l .slots) s) t e h)))

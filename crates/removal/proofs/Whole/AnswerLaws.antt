@@ -43,31 +43,32 @@ counts-fit copies edges nodes starts e =
     let b = leb→le edges (min starts 65536) (holds (leb edges (min starts 65536)) (unless-passed 34 (leb edges (min starts 65536)) (t .1))) in
     (omega (arith, a), omega (arith, b))
 
-module _ (l : Layout) (listed nodes from to via s room-nodes room-from room-to room-via : List ℕ) (copies edges : ℕ) (x : AllFound l listed nodes from to via s copies edges) where
-  tests-are : (D : Design) (L : PathList) (G : Graph) → Tabled D L G l listed from to via (take (l .slots) s) → EdgesInto G (edgesIn G)
-      → countTests copies edges (length room-nodes) (length room-from) ≡ roomTests (roomOf (graphSlices room-nodes room-from room-to room-via)) (trueGraph G (pathsOf L))
+module _ (l : Layout) (listed nodes endpoint from to via s room-nodes room-endpoint room-from room-to room-via : List ℕ) (copies edges : ℕ) (x : AllFound l listed nodes endpoint from to via s copies edges) where
+  tests-are : (D : Design) (L : PathList) (G : Graph) → Tabled D L G l listed from to via (take (l .slots) s) → G .endpoints ≡ endpoint → EdgesInto G (edgesIn G)
+      → countTests copies edges (length room-nodes) (length room-from) ≡ roomTests (roomOf (graphSlices room-nodes room-endpoint room-from room-to room-via)) (trueGraph G (pathsOf L))
   unfolding roomTests
-  tests-are D L G y into = λ i. countTests (x .copies-are D L G y i) (x .edges-are D L G y into i) (length room-nodes) (length room-from)
+  tests-are D L G y ends into = λ i. countTests (x .copies-are D L G y ends i) (x .edges-are D L G y ends into i) (length room-nodes) (length room-from)
 
   -- a refusal changes nothing
   pub room-refused : (r : Refusal) → countTests copies edges (length room-nodes) (length room-from) ≡ Refused r
-      → RoomAnswered l listed nodes from to via s (NoGraph r) room-nodes room-from room-to room-via room-nodes room-from room-to room-via
+      → RoomAnswered l listed nodes endpoint from to via s (NoGraph r) room-nodes room-endpoint room-from room-to room-via room-nodes room-endpoint room-from room-to room-via
   unfolding RoomAnswered
-  room-refused r e D L G y q into =
-      subst (λ (v : Verdict). Answered (outcome v (trueGraph G (pathsOf L))) (NoGraph r) room-nodes room-from room-to room-via room-nodes room-from room-to room-via) (sym e ∙ tests-are D L G y into)
-      (record { answer = refl; nodes = refl; starts = refl; ends = refl; names = refl })
+  room-refused r e D L G y q ends into =
+      subst (λ (v : Verdict). Answered (outcome v (trueGraph G (pathsOf L))) (NoGraph r) room-nodes room-endpoint room-from room-to room-via room-nodes room-endpoint room-from room-to room-via) (sym e ∙ tests-are D L G y ends into)
+      (record { answer = refl; nodes = refl; endpoints = refl; starts = refl; ends = refl; names = refl })
 
   -- and else the result is in the room
-  pub room-made : countTests copies edges (length room-nodes) (length room-from) ≡ Passed → (room-nodes′ room-from′ room-to′ room-via′ : List ℕ)
-      → ResultFilled l listed nodes from to via s room-nodes room-from room-to room-via room-nodes′ room-from′ room-to′ room-via′
-      → RoomAnswered l listed nodes from to via s (Counts copies edges) room-nodes room-from room-to room-via room-nodes′ room-from′ room-to′ room-via′
+  pub room-made : countTests copies edges (length room-nodes) (length room-from) ≡ Passed → (room-nodes′ room-endpoint′ room-from′ room-to′ room-via′ : List ℕ)
+      → ResultFilled l listed nodes endpoint from to via s room-nodes room-endpoint room-from room-to room-via room-nodes′ room-endpoint′ room-from′ room-to′ room-via′
+      → RoomAnswered l listed nodes endpoint from to via s (Counts copies edges) room-nodes room-endpoint room-from room-to room-via room-nodes′ room-endpoint′ room-from′ room-to′ room-via′
   unfolding RoomAnswered ResultFilled
-  room-made e room-nodes′ room-from′ room-to′ room-via′ f D L G y q into =
-      let r = f D L G y q into in
-      subst (λ (v : Verdict). Answered (outcome v (trueGraph G (pathsOf L))) (Counts copies edges) room-nodes room-from room-to room-via room-nodes′ room-from′ room-to′ room-via′) (sym e ∙ tests-are D L G y into)
+  room-made e room-nodes′ room-endpoint′ room-from′ room-to′ room-via′ f D L G y q ends into =
+      let r = f D L G y q ends into in
+      subst (λ (v : Verdict). Answered (outcome v (trueGraph G (pathsOf L))) (Counts copies edges) room-nodes room-endpoint room-from room-to room-via room-nodes′ room-endpoint′ room-from′ room-to′ room-via′) (sym e ∙ tests-are D L G y ends into)
       (record {
-        answer = λ i. Counts (x .copies-are D L G y i) (x .edges-are D L G y into i);
+        answer = λ i. Counts (x .copies-are D L G y ends i) (x .edges-are D L G y ends into i);
         nodes = r .nodes;
+        endpoints = r .endpoints;
         starts = r .starts;
         ends = r .ends;
         names = r .names;
@@ -88,28 +89,28 @@ room-scratch R H s = go (leb (length (H .nodes)) (min (R .nodes) 16384)) (leb (l
     go false b = refl
 
 -- what is made where the scratch is enough
-unfoldable pub SearchRemoved : List ℕ → List ℕ → List ℕ → List ℕ → List ℕ → List ℕ → List ℕ → GraphMade → List ℕ → List ℕ → List ℕ → List ℕ → List ℕ → List ℕ → List ℕ → List ℕ → List ℕ → List ℕ → Type 0
-SearchRemoved starts listed lengths nodes from to via r room-nodes room-from room-to room-via s room-nodes′ room-from′ room-to′ room-via′ s′ =
-    (D : Design) (L : PathList) (G : Graph) → Worked D L G starts listed lengths nodes from to via → Removed (roomOutcome L G room-nodes room-from room-to room-via) r room-nodes room-from room-to room-via s room-nodes′ room-from′ room-to′ room-via′ s′
+unfoldable pub SearchRemoved : List ℕ → List ℕ → List ℕ → List ℕ → List ℕ → List ℕ → List ℕ → List ℕ → GraphMade → List ℕ → List ℕ → List ℕ → List ℕ → List ℕ → List ℕ → List ℕ → List ℕ → List ℕ → List ℕ → List ℕ → List ℕ → Type 0
+SearchRemoved starts listed lengths nodes endpoint from to via r room-nodes room-endpoint room-from room-to room-via s room-nodes′ room-endpoint′ room-from′ room-to′ room-via′ s′ =
+    (D : Design) (L : PathList) (G : Graph) → Worked D L G starts listed lengths nodes endpoint from to via → Removed (roomOutcome L G room-nodes room-endpoint room-from room-to room-via) r room-nodes room-endpoint room-from room-to room-via s room-nodes′ room-endpoint′ room-from′ room-to′ room-via′ s′
 
-module _ (starts listed lengths nodes from to via room-nodes room-from room-to room-via s : List ℕ) where
-  pub search-removed : (l : Layout) (copies edges : ℕ) (t room-nodes′ room-from′ room-to′ room-via′ t′ : List ℕ) (r : GraphMade) → Found starts listed lengths nodes from to via s t l copies edges
-      → RoomAnswered l listed nodes from to via t r room-nodes room-from room-to room-via room-nodes′ room-from′ room-to′ room-via′ → t′ ≡ replicate (length t) 0
-      → SearchRemoved starts listed lengths nodes from to via r room-nodes room-from room-to room-via s room-nodes′ room-from′ room-to′ room-via′ t′
+module _ (starts listed lengths nodes endpoint from to via room-nodes room-endpoint room-from room-to room-via s : List ℕ) where
+  pub search-removed : (l : Layout) (copies edges : ℕ) (t room-nodes′ room-endpoint′ room-from′ room-to′ room-via′ t′ : List ℕ) (r : GraphMade) → Found starts listed lengths nodes endpoint from to via s t l copies edges
+      → RoomAnswered l listed nodes endpoint from to via t r room-nodes room-endpoint room-from room-to room-via room-nodes′ room-endpoint′ room-from′ room-to′ room-via′ → t′ ≡ replicate (length t) 0
+      → SearchRemoved starts listed lengths nodes endpoint from to via r room-nodes room-endpoint room-from room-to room-via s room-nodes′ room-endpoint′ room-from′ room-to′ room-via′ t′
   unfolding RoomAnswered SearchRemoved
-  search-removed l copies edges t room-nodes′ room-from′ room-to′ room-via′ t′ r f a z D L G w =
+  search-removed l copies edges t room-nodes′ room-endpoint′ room-from′ room-to′ room-via′ t′ r f a z D L G w =
       record {
-        answered = a D L G (f .tabled D L G (w .given)) (w .given .copies) (w .into);
-        scratch = z ∙ ap (λ (n : ℕ). replicate n 0) (f .size) ∙ zeros s ∙ room-scratch (roomOf (graphSlices room-nodes room-from room-to room-via)) (trueGraph G (pathsOf L)) s;
+        answered = a D L G (f .tabled D L G (w .given)) (w .given .copies) (w .endpoints) (w .into);
+        scratch = z ∙ ap (λ (n : ℕ). replicate n 0) (f .size) ∙ zeros s ∙ room-scratch (roomOf (graphSlices room-nodes room-endpoint room-from room-to room-via)) (trueGraph G (pathsOf L)) s;
       }
 
--- What 31 asks is enough for the tables: each copy is a candidate, so that with its slot it takes seven words of its eight.
+-- What 31 asks is enough for the tables: each copy is a candidate, so that with its slot it takes six words of its eight.
 tables-fit : (copies count listed edges : ℕ) → copies ≤ count → tableWords copies edges listed + count ≤ scratchWords count listed edges
 tables-fit copies count listed edges h = omega arith
 
 -- 31, from the count of candidates
-module _ (starts listed lengths nodes from to via : List ℕ) where
-  pub work-countable : Workable starts listed lengths nodes from to via → ListCountable starts listed lengths × CopiesCountable nodes
+module _ (starts listed lengths nodes endpoint from to via : List ℕ) where
+  pub work-countable : Workable starts listed lengths nodes endpoint from to via → ListCountable starts listed lengths × CopiesCountable nodes
   work-countable x =
       let w = x .worked in (
         list-countable (x .design) starts listed lengths (w .fits) (subst (λ (K : PathList). ListFits (x .design) K) (w .given .list) (w .given .fits)) (w .given .design),
@@ -120,8 +121,8 @@ module _ (starts listed lengths nodes from to via : List ℕ) where
     count-is : (D : Design) (L : PathList) (G : Graph) → Given D L G starts listed lengths nodes from to via → count ≡ candidates D G L
     count-is D L G g = e ∙ sym (candidates-slices D L G starts listed lengths nodes (g .design) (g .list) (g .copies))
 
-    pub work-in : (s : List ℕ) → Workable starts listed lengths nodes from to via → wordsTest count (length listed) (length from) (length s) ≡ Passed
-        → WorkableIn starts listed lengths nodes from to via s
+    pub work-in : (s : List ℕ) → Workable starts listed lengths nodes endpoint from to via → wordsTest count (length listed) (length from) (length s) ≡ Passed
+        → WorkableIn starts listed lengths nodes endpoint from to via s
     work-in s x p =
         let g = x .worked .given in
         let asked = scratchWords count (length listed) (length from) in
@@ -130,23 +131,23 @@ module _ (starts listed lengths nodes from to via : List ℕ) where
         let copies : length nodes ≤ count = omega (arith, is, copies-candidates (x .design) (x .graph) (x .list), ap length (g .copies)) in
         record { work = x; room = omega (arith, long, is, tables-fit (length nodes) count (length listed) (length from) copies) }
 
-    scratch-is : (s : List ℕ) (D : Design) (L : PathList) (G : Graph) → Worked D L G starts listed lengths nodes from to via
+    scratch-is : (s : List ℕ) (D : Design) (L : PathList) (G : Graph) → Worked D L G starts listed lengths nodes endpoint from to via
         → wordsTest count (length listed) (length from) (length s) ≡ scratchTest D G L (length s)
     unfolding scratchTest
     scratch-is s D L G w =
         let g = w .given in
         λ i. wordsTest (count-is D L G g i) (length (sym (g .list) i .edges)) (sym (ap length (g .edges) ∙ length-edges from to via (g .ends) (g .names)) i) (length s)
 
-    module _ (room-nodes room-from room-to room-via s : List ℕ) where
+    module _ (room-nodes room-endpoint room-from room-to room-via s : List ℕ) where
       pub removed-refused : (r : Refusal) → wordsTest count (length listed) (length from) (length s) ≡ Refused r
-          → AllRemoved starts listed lengths nodes from to via (NoGraph r) room-nodes room-from room-to room-via s room-nodes room-from room-to room-via s
+          → AllRemoved starts listed lengths nodes endpoint from to via (NoGraph r) room-nodes room-endpoint room-from room-to room-via s room-nodes room-endpoint room-from room-to room-via s
       unfolding AllRemoved
       removed-refused r f D L G w =
           subst
           (λ (v : Verdict).
-          Removed (outcome (v then roomTests (roomOf (graphSlices room-nodes room-from room-to room-via)) (trueGraph G (pathsOf L))) (trueGraph G (pathsOf L))) (NoGraph r) room-nodes room-from room-to room-via s room-nodes room-from room-to room-via s)
+          Removed (outcome (v then roomTests (roomOf (graphSlices room-nodes room-endpoint room-from room-to room-via)) (trueGraph G (pathsOf L))) (trueGraph G (pathsOf L))) (NoGraph r) room-nodes room-endpoint room-from room-to room-via s room-nodes room-endpoint room-from room-to room-via s)
           (sym f ∙ scratch-is s D L G w)
-          (record { answered = record { answer = refl; nodes = refl; starts = refl; ends = refl; names = refl }; scratch = kept })
+          (record { answered = record { answer = refl; nodes = refl; endpoints = refl; starts = refl; ends = refl; names = refl }; scratch = kept })
         where
           asked : ℕ
           asked = scratchWords count (length listed) (length from)
@@ -155,13 +156,13 @@ module _ (starts listed lengths nodes from to via : List ℕ) where
           kept : s ≡ scratchAfter (outcome (Refused r) (trueGraph G (pathsOf L))) s
           kept = ap (λ (x : Refusal). scratchAfter (outcome (Refused x) (trueGraph G (pathsOf L))) s) (unless-refused 31 (leb asked (length s)) r f)
 
-      pub removed-made : wordsTest count (length listed) (length from) (length s) ≡ Passed → (r : GraphMade) (room-nodes′ room-from′ room-to′ room-via′ s′ : List ℕ)
-          → SearchRemoved starts listed lengths nodes from to via r room-nodes room-from room-to room-via s room-nodes′ room-from′ room-to′ room-via′ s′
-          → AllRemoved starts listed lengths nodes from to via r room-nodes room-from room-to room-via s room-nodes′ room-from′ room-to′ room-via′ s′
+      pub removed-made : wordsTest count (length listed) (length from) (length s) ≡ Passed → (r : GraphMade) (room-nodes′ room-endpoint′ room-from′ room-to′ room-via′ s′ : List ℕ)
+          → SearchRemoved starts listed lengths nodes endpoint from to via r room-nodes room-endpoint room-from room-to room-via s room-nodes′ room-endpoint′ room-from′ room-to′ room-via′ s′
+          → AllRemoved starts listed lengths nodes endpoint from to via r room-nodes room-endpoint room-from room-to room-via s room-nodes′ room-endpoint′ room-from′ room-to′ room-via′ s′
       unfolding AllRemoved SearchRemoved
-      removed-made f r room-nodes′ room-from′ room-to′ room-via′ s′ x D L G w =
+      removed-made f r room-nodes′ room-endpoint′ room-from′ room-to′ room-via′ s′ x D L G w =
           subst
           (λ (v : Verdict).
-          Removed (outcome (v then roomTests (roomOf (graphSlices room-nodes room-from room-to room-via)) (trueGraph G (pathsOf L))) (trueGraph G (pathsOf L))) r room-nodes room-from room-to room-via s room-nodes′ room-from′ room-to′ room-via′ s′)
+          Removed (outcome (v then roomTests (roomOf (graphSlices room-nodes room-endpoint room-from room-to room-via)) (trueGraph G (pathsOf L))) (trueGraph G (pathsOf L))) r room-nodes room-endpoint room-from room-to room-via s room-nodes′ room-endpoint′ room-from′ room-to′ room-via′ s′)
           (sym f ∙ scratch-is s D L G w)
           (x D L G w)

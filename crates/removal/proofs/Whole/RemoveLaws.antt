@@ -12,21 +12,22 @@ use Rattle.theorems.proofs.Tested.{ListFits}
 use Rattle.removal.specs.declared.rows.Layout.{Layout}
 use Rattle.removal.specs.Slots.{slots}
 use Rattle.removal.specs.Rows.{boundsIn, orderIn, Tabled, Ready, flagIn}
-use Rattle.removal.specs.Flags.{ReachedRow}
+use Rattle.removal.specs.Flags.{ReachedRow, ShownRow}
 use Rattle.removal.specs.Reach.{SlotsOnly, RowsReached, AllZero, flagOf}
 use Rattle.removal.specs.Result.{Slot, shownBelow, shownSlots}
 use Rattle.removal.specs.Show.{AllShown, ShowsAll, reachedBy}
-use Rattle.removal.specs.Fill.{SameRooms, SlotsRoom, boundsNow, shownNow, edgesNow, comesNow, fromNow}
+use Rattle.removal.specs.Fill.{RowsShown, RoomsAlike, SlotsRoom, boundsNow, shownNow, edgesNow, comesNow, fromNow}
 use Rattle.removal.specs.Build.{Given, Buildable, Built}
 use Rattle.removal.specs.Remove.{Worked, Workable, WorkableIn, AllFound, Found}
 use Rattle.removal.proofs.Reaching.ReachLaws.{ready-still}
 use Rattle.removal.proofs.Building.CountLaws.{list-countable, copies-countable}
+use Rattle.removal.proofs.Showing.ShowLaws.{links}
 use Rattle.removal.proofs.Showing.ShowTables.{setting-of}
 use Rattle.removal.proofs.Showing.ShownReadyLaws.{shown-ready}
 use Rattle.removal.proofs.Showing.ResultLaws.{shown-nodes, shown-edges}
 
-pub buildable : (starts listed lengths nodes from to via s : List ℕ) → WorkableIn starts listed lengths nodes from to via s → Buildable starts listed lengths nodes from to via s
-buildable starts listed lengths nodes from to via s x =
+pub buildable : (starts listed lengths nodes endpoint from to via s : List ℕ) → WorkableIn starts listed lengths nodes endpoint from to via s → Buildable starts listed lengths nodes from to via s
+buildable starts listed lengths nodes endpoint from to via s x =
     let w = x .work .worked in
     record {
       design = x .work .design;
@@ -38,7 +39,7 @@ buildable starts listed lengths nodes from to via s x =
       room = x .room;
     }
 
-module _ (starts listed lengths nodes from to via s a : List ℕ) (l : Layout) (x : WorkableIn starts listed lengths nodes from to via s)
+module _ (starts listed lengths nodes endpoint from to via s a : List ℕ) (l : Layout) (x : WorkableIn starts listed lengths nodes endpoint from to via s)
     (built : Built starts listed lengths nodes from to via s a l) where
   pub built-ready : Ready l listed from to via a
   built-ready = built .ready (x .work .design) (x .work .list) (x .work .graph) (x .work .worked .given)
@@ -46,7 +47,7 @@ module _ (starts listed lengths nodes from to via s a : List ℕ) (l : Layout) (
   pub built-zero : AllZero l (take (l .slots) a) a
   built-zero d i h k = built .clear d i (omega (arith, built .laid .copies)) k
 
-  module _ (b : List ℕ) (reached : RowsReached l listed from to via (take (l .slots) a) a b 0) where
+  module _ (b : List ℕ) (reached : RowsReached l listed endpoint from to via (take (l .slots) a) a b 0) where
     pub reached-ready : Ready l listed from to via b
     reached-ready = ready-still l listed from to via a b (reached .only) built-ready
 
@@ -55,13 +56,13 @@ module _ (starts listed lengths nodes from to via s a : List ℕ) (l : Layout) (
     low-flags =
         subst (λ (p : List ℕ). (c j : ℕ) → c < l .copies → j < slots (boundsIn l p) c → flagOf l p b c j ≤ 1) (sym (reached .only .tables)) (reached .small)
 
-    reached-rows : (D : Design) (L : PathList) (G : Graph) → Tabled D L G l listed from to via (take (l .slots) b)
+    reached-rows : (D : Design) (L : PathList) (G : Graph) → Tabled D L G l listed from to via (take (l .slots) b) → G .endpoints ≡ endpoint
         → (c : ℕ) → c < l .copies → ReachedRow G L (orderIn l listed (take (l .slots) b)) (boundsIn l (take (l .slots) b)) (reachedBy (flagIn l b)) c
     reached-rows D L G =
         subst
-        (λ (p : List ℕ). Tabled D L G l listed from to via p → (c : ℕ) → c < l .copies → ReachedRow G L (orderIn l listed p) (boundsIn l p) (reachedBy (flagOf l p b)) c)
+        (λ (p : List ℕ). Tabled D L G l listed from to via p → G .endpoints ≡ endpoint → (c : ℕ) → c < l .copies → ReachedRow G L (orderIn l listed p) (boundsIn l p) (reachedBy (flagOf l p b)) c)
         (sym (reached .only .tables))
-        (λ t c h. reached .rows D L G t c (omega arith) h)
+        (λ t q c h. reached .rows D L G t q c (omega arith) h)
 
     module _ (t : List ℕ) (copies edges : ℕ) (shown : AllShown l listed from to via b t copies edges) where
       only : SlotsOnly l (take (l .slots) b) b t
@@ -73,7 +74,19 @@ module _ (starts listed lengths nodes from to via s a : List ℕ) (l : Layout) (
           subst
           (λ (p : List ℕ). Tabled D L G l listed from to via p → ShowsAll G L (orderIn l listed p) (boundsIn l p) (flagIn l t) copies edges)
           (sym (shown .tables))
-          (λ y. shown .meets D L G y low-flags (reached-rows D L G y))
+          (λ y. shown .meets D L G y low-flags)
+
+      rows : (D : Design) (L : PathList) (G : Graph) → Tabled D L G l listed from to via (take (l .slots) t) → G .endpoints ≡ endpoint
+          → (c : ℕ) → c < l .copies → ShownRow G L (orderIn l listed (take (l .slots) t)) (boundsNow l t) (shownNow l t) c
+      rows D L G =
+          subst
+          (λ (p : List ℕ). Tabled D L G l listed from to via p → G .endpoints ≡ endpoint → (c : ℕ) → c < l .copies → ShownRow G L (orderIn l listed p) (boundsIn l p) (shownNow l t) c)
+          (sym (shown .tables))
+          (λ y q. shown .rows D L G y low-flags (reached-rows D L G y q))
+
+      all-rows : RowsShown l listed endpoint from to via t
+      unfolding RowsShown
+      all-rows = rows
 
       ready : Ready l listed from to via t
       ready = ready-still l listed from to via b t only reached-ready
@@ -82,7 +95,7 @@ module _ (starts listed lengths nodes from to via s a : List ℕ) (l : Layout) (
       tables D L G g =
           subst (λ (p : List ℕ). Tabled D L G l listed from to via p) (sym (shown .tables ∙ reached .only .tables)) (built .tabled D L G g)
 
-      pub found : Found starts listed lengths nodes from to via s t l copies edges
+      pub found : Found starts listed lengths nodes endpoint from to via s t l copies edges
       found =
           let B = boundsNow l t in
           let sh = shownNow l t in
@@ -94,24 +107,30 @@ module _ (starts listed lengths nodes from to via s a : List ℕ) (l : Layout) (
             all =
                 record {
                   shown = shown-ready l listed from to via t copies edges ready shows;
+                  rows = all-rows;
                   copies-of = built .laid .copies;
                   slots-counted = shows (x .work .design) (x .work .list) (x .work .graph) own .copies-are ∙ ap (λ (n : ℕ). length (shownBelow B sh n)) (own .copies);
                   edges-counted = λ D L G y. shows D L G y .edges-are ∙ ap (λ (n : ℕ). length (flatMap (edgesNow l listed t L G) (shownBelow B sh n))) (y .copies);
-                  copies-are = λ D L G y.
+                  copies-are = λ D L G y q.
                       shows D L G y .copies-are
                       ∙ sym (length-map (shownSlots G B sh) (λ (k : Slot). nodeOf G (k .copy)))
-                      ∙ ap length (shown-nodes D G L (orderIn l listed (take (l .slots) t)) B (setting-of D L G l listed from to via (take (l .slots) t) y) sh (shows D L G y .rows));
-                  edges-are = λ D L G y into.
+                      ∙ ap length
+                      (shown-nodes D G L (orderIn l listed (take (l .slots) t)) B (setting-of D L G l listed from to via (take (l .slots) t) y) sh
+                      (λ c h. rows D L G y q c (omega (arith, y .copies))));
+                  edges-are = λ D L G y q into.
+                      let S = setting-of D L G l listed from to via (take (l .slots) t) y in
+                      let right : (c : ℕ) → c < length (G .nodes) → ShownRow G L (orderIn l listed (take (l .slots) t)) B sh c = λ c h. rows D L G y q c (omega (arith, y .copies)) in
                       shows D L G y .edges-are
                       ∙ ap length
-                      (shown-edges D G L (orderIn l listed (take (l .slots) t)) B (setting-of D L G l listed from to via (take (l .slots) t) y) sh (shows D L G y .rows) (edgesIn G) into (comesNow l listed t L) (fromNow l listed t L) (shows D L G y .linking));
+                      (shown-edges D G L (orderIn l listed (take (l .slots) t)) B S sh right (edgesIn G) into (comesNow l listed t L) (fromNow l listed t L)
+                      (links D G L (orderIn l listed (take (l .slots) t)) B S sh right));
                 };
           }
 
 -- there is room where 33 and 34 pass
-module _ (l : Layout) (listed nodes from to via s room-nodes room-from room-to room-via : List ℕ) (copies edges : ℕ) (x : AllFound l listed nodes from to via s copies edges) (same : SameRooms room-from room-to room-via) where
+module _ (l : Layout) (listed nodes endpoint from to via s room-nodes room-endpoint room-from room-to room-via : List ℕ) (copies edges : ℕ) (x : AllFound l listed nodes endpoint from to via s copies edges) (same : RoomsAlike room-nodes room-endpoint room-from room-to room-via) where
   pub slots-room : copies ≤ length room-nodes → edges ≤ length room-from
-      → SlotsRoom l listed nodes from to via s (shownBelow (boundsNow l s) (shownNow l s) (l .copies)) 0 room-nodes room-from room-to room-via 0
+      → SlotsRoom l listed nodes endpoint from to via s (shownBelow (boundsNow l s) (shownNow l s) (l .copies)) 0 room-nodes room-endpoint room-from room-to room-via 0
   slots-room h k =
       record {
         shown = x .shown;

@@ -22,14 +22,15 @@ use Rattle.timing.specs.TrueGraphs.{trueGraph}
 use Rattle.timing.specs.WellFormed.{wellFormed}
 use Rattle.timing.specs.Refusals.{unless, _then_}
 use Rattle.timing.specs.Tests.{sameSizes, designSizes, listSizes, nodeCount, designTests, listTests, graphTest}
-use Rattle.timing.specs.Calls.{GraphSlices, graphSlices, graphOf, graphSizes, Outcome, refused, outcome, Removal, lentRemoval, removalTests, removeFromDesign, removeFromGraph, graphAnswer, nodesAfter, startsAfter, endsAfter, namesAfter, scratchAfter}
+use Rattle.timing.specs.Calls.{GraphSlices, graphSlices, graphOf, roomOf, graphSizes, Outcome, refused, outcome, Removal, lentRemoval, removalTests, removeFromDesign, removeFromGraph, graphAnswer, nodesAfter, endpointsAfter, startsAfter, endsAfter, namesAfter, scratchAfter}
 use Rattle.theorems.proofs.Lists.{and-left, and-right, holds, length-upto}
-use Rattle.timing.proofs.Verdicts.{then-passed, unless-passed, same-passed, Every, every-then, every-unless}
+use Rattle.timing.proofs.Verdicts.{then-passed, unless-passed, room-passed, Every, every-then, every-unless}
 use Rattle.theorems.proofs.Tests.{every-design, every-list}
 use Rattle.theorems.proofs.Tested.{DesignFits, design-fits, ListFits, list-fits, formed, tests-count, no-delays}
 use Rattle.theorems.proofs.Legal.{fits-legal, formed-legal}
-use Rattle.removal.specs.Fill.{SameRooms}
+use Rattle.removal.specs.Fill.{RoomsAlike}
 use Rattle.removal.specs.Remove.{Worked, Workable, Removed, removalOutcome, AllRemoved}
+use Rattle.removal.specs.Endpoints.{EndpointsOf}
 use Rattle.removal.specs.Numbered.{Numberable, DesignRemoved}
 use Rattle.removal.proofs.Showing.IntoLaws.{design-into, formed-into, length-edges}
 
@@ -52,13 +53,13 @@ graph-chain Passed Passed Passed Passed (Refused x) u c w f = refl
 graph-chain Passed Passed Passed Passed Passed (Refused x) c w f = refl
 graph-chain Passed Passed Passed Passed Passed Passed c w f = ap (λ (v : Verdict). v then w) (f refl)
 
-pub graph-called : (n : ℕ) (starts ends : List ℕ) (early late : List ℤ) (L : PathList) (g o : Verdict) (G : Graph)
-    → let D = design n starts ends early late in
-    ((designSizes D then (listSizes L then ((g then o) then (designTests D then listTests D L)))) then (nodeCount n then graphTest (design n starts ends [] []) G))
+pub graph-called : (n : ℕ) (starts ends : List ℕ) (early late : List ℤ) (marked : List ℕ) (L : PathList) (g o : Verdict) (G : Graph)
+    → let D = design n starts ends early late marked in
+    ((designSizes D then (listSizes L then ((g then o) then (designTests D then listTests D L)))) then (nodeCount n then graphTest (design n starts ends [] [] marked) G))
     ≡ (designSizes D then (listSizes L then (g then (o then (designTests D then (listTests D L then graphTest D G))))))
-graph-called n starts ends early late L g o G =
-    let D = design n starts ends early late in
-    rw (no-delays n starts ends early late G) (graph-chain (designSizes D) (listSizes L) g o (designTests D) (listTests D L) (nodeCount n) (graphTest D G) (tests-count D))
+graph-called n starts ends early late marked L g o G =
+    let D = design n starts ends early late marked in
+    rw (no-delays n starts ends early late marked G) (graph-chain (designSizes D) (listSizes L) g o (designTests D) (listTests D L) (nodeCount n) (graphTest D G) (tests-count D))
 
 -- what the tests before 31 say where they pass
 record Tested (d l o t u : Verdict) : Type 0 where
@@ -101,6 +102,13 @@ design-sizes-early D =
     early-then (sameSizes m m (length (D .ends))) (sameSizes m (length (D .early)) (length (D .late)))
     (sizes-early m m (length (D .ends))) (sizes-early m (length (D .early)) (length (D .late)))
 
+graph-sizes-early : (S : GraphSlices) → Early (graphSizes S)
+graph-sizes-early S =
+    let n = length (S .nodes) in
+    let m = length (S .starts) in
+    early-then (sameSizes n n (length (S .endpoints))) (sameSizes m (length (S .ends)) (length (S .names)))
+    (sizes-early n n (length (S .endpoints))) (sizes-early m (length (S .ends)) (length (S .names)))
+
 design-early : (D : Design) → Early (designTests D)
 design-early D = every-design (λ x. keeps (x .number)) D (λ k j a b l. keeps-below k (omega arith))
 
@@ -113,24 +121,31 @@ chain-early D L o e =
     (early-then (listSizes L) (o then (designTests D then listTests D L)) (early-unless 30 refl (eqb (sum (L .lengths)) (length (L .edges))))
     (early-then o (designTests D then listTests D L) e (early-then (designTests D) (listTests D L) (design-early D) (list-early D L))))
 
+-- what 30 says of the room
+rooms-alike : (room-nodes room-endpoint room-from room-to room-via : List ℕ) → graphSizes (graphSlices room-nodes room-endpoint room-from room-to room-via) ≡ Passed
+    → RoomsAlike room-nodes room-endpoint room-from room-to room-via
+rooms-alike room-nodes room-endpoint room-from room-to room-via e =
+    let z = room-passed (roomOf (graphSlices room-nodes room-endpoint room-from room-to room-via)) e in (z .0, (z .1, z .2))
+
 -- an answer, the room and the scratch, as the contracts state them
-abbrev pub Stated : Outcome Graph → GraphMade → List ℕ → List ℕ → List ℕ → List ℕ → List ℕ → List ℕ → List ℕ → List ℕ → List ℕ → List ℕ → Type 0
-Stated o r room-nodes room-from room-to room-via s room-nodes′ room-from′ room-to′ room-via′ s′ =
+abbrev pub Stated : Outcome Graph → GraphMade → List ℕ → List ℕ → List ℕ → List ℕ → List ℕ → List ℕ → List ℕ → List ℕ → List ℕ → List ℕ → List ℕ → List ℕ → Type 0
+Stated o r room-nodes room-endpoint room-from room-to room-via s room-nodes′ room-endpoint′ room-from′ room-to′ room-via′ s′ =
     (r ≡ graphAnswer o)
     × (room-nodes′ ≡ nodesAfter o room-nodes)
+    × (room-endpoint′ ≡ endpointsAfter o room-endpoint)
     × (room-from′ ≡ startsAfter o room-from)
     × (room-to′ ≡ endsAfter o room-to)
     × (room-via′ ≡ namesAfter o room-via)
     × (s′ ≡ scratchAfter o s)
 
-stated-refused : (x : Refusal) (room-nodes room-from room-to room-via s : List ℕ) → keeps (x .number) → Stated (refused x) (NoGraph x) room-nodes room-from room-to room-via s room-nodes room-from room-to room-via s
-stated-refused x room-nodes room-from room-to room-via s e =
-    (refl, refl, refl, refl, refl, ap (λ (b : Bool). cond b (map (λ (w : ℕ). 0) s) s) (sym e))
+stated-refused : (x : Refusal) (room-nodes room-endpoint room-from room-to room-via s : List ℕ) → keeps (x .number) → Stated (refused x) (NoGraph x) room-nodes room-endpoint room-from room-to room-via s room-nodes room-endpoint room-from room-to room-via s
+stated-refused x room-nodes room-endpoint room-from room-to room-via s e =
+    (refl, refl, refl, refl, refl, refl, ap (λ (b : Bool). cond b (map (λ (w : ℕ). 0) s) s) (sym e))
 
-stated-removed : (o : Outcome Graph) (r : GraphMade) (room-nodes room-from room-to room-via s room-nodes′ room-from′ room-to′ room-via′ s′ : List ℕ) → Removed o r room-nodes room-from room-to room-via s room-nodes′ room-from′ room-to′ room-via′ s′
-    → Stated o r room-nodes room-from room-to room-via s room-nodes′ room-from′ room-to′ room-via′ s′
-stated-removed o r room-nodes room-from room-to room-via s room-nodes′ room-from′ room-to′ room-via′ s′ x =
-    (x .answered .answer, x .answered .nodes, x .answered .starts, x .answered .ends, x .answered .names, x .scratch)
+stated-removed : (o : Outcome Graph) (r : GraphMade) (room-nodes room-endpoint room-from room-to room-via s room-nodes′ room-endpoint′ room-from′ room-to′ room-via′ s′ : List ℕ) → Removed o r room-nodes room-endpoint room-from room-to room-via s room-nodes′ room-endpoint′ room-from′ room-to′ room-via′ s′
+    → Stated o r room-nodes room-endpoint room-from room-to room-via s room-nodes′ room-endpoint′ room-from′ room-to′ room-via′ s′
+stated-removed o r room-nodes room-endpoint room-from room-to room-via s room-nodes′ room-endpoint′ room-from′ room-to′ room-via′ s′ x =
+    (x .answered .answer, x .answered .nodes, x .answered .endpoints, x .answered .starts, x .answered .ends, x .answered .names, x .scratch)
 
 -- a test after the first five
 chain-on : (d l o t u w : Verdict) → ((d then (l then (o then (t then u)))) then w) ≡ (d then (l then (o then (t then (u then w)))))
@@ -165,51 +180,51 @@ early-refused : (v : Verdict) (x : Refusal) → Early v → v ≡ Refused x → 
 early-refused v x a e = subst Early e a
 
 -- the tests before 31 of a removal from the design, and of one from an earlier graph
-module _ (n : ℕ) (starts ends : List ℕ) (early late : List ℤ) (listed lengths : List ℕ) where
-  abbrev pub designBefore : List ℕ → List ℕ → List ℕ → Verdict
-  designBefore room-from room-to room-via =
-      let D = design n starts ends early late in
+module _ (n : ℕ) (starts ends : List ℕ) (early late : List ℤ) (marked listed lengths : List ℕ) where
+  abbrev pub designBefore : List ℕ → List ℕ → List ℕ → List ℕ → List ℕ → Verdict
+  designBefore room-nodes room-endpoint room-from room-to room-via =
+      let D = design n starts ends early late marked in
       let L = pathList listed lengths in
-      designSizes D then (listSizes L then (sameSizes (length room-from) (length room-to) (length room-via) then (designTests D then listTests D L)))
+      designSizes D then (listSizes L then (graphSizes (graphSlices room-nodes room-endpoint room-from room-to room-via) then (designTests D then listTests D L)))
 
-  abbrev pub graphBefore : List ℕ → List ℕ → List ℕ → List ℕ → List ℕ → List ℕ → List ℕ → Verdict
-  graphBefore nodes from to via room-from room-to room-via =
-      let D = design n starts ends early late in
+  abbrev pub graphBefore : List ℕ → List ℕ → List ℕ → List ℕ → List ℕ → List ℕ → List ℕ → List ℕ → List ℕ → List ℕ → Verdict
+  graphBefore nodes endpoint from to via room-nodes room-endpoint room-from room-to room-via =
+      let D = design n starts ends early late marked in
       let L = pathList listed lengths in
-      let S = graphSlices nodes from to via in
-      designSizes D then (listSizes L then (graphSizes S then (sameSizes (length room-from) (length room-to) (length room-via) then (designTests D then (listTests D L then graphTest D (graphOf S))))))
+      let S = graphSlices nodes endpoint from to via in
+      designSizes D then (listSizes L then (graphSizes S then (graphSizes (graphSlices room-nodes room-endpoint room-from room-to room-via) then (designTests D then (listTests D L then graphTest D (graphOf S))))))
 
 -- Removal from the design.
-module _ (n : ℕ) (starts ends : List ℕ) (early late : List ℤ) (listed lengths room-nodes room-from room-to room-via s : List ℕ) where
+module _ (n : ℕ) (starts ends : List ℕ) (early late : List ℤ) (marked listed lengths room-nodes room-endpoint room-from room-to room-via s : List ℕ) where
   abbrev D : Design
-  D = design n starts ends early late
+  D = design n starts ends early late marked
 
   abbrev L : PathList
   L = pathList listed lengths
 
   abbrev R : Removal
-  R = lentRemoval listed lengths room-nodes room-from room-to room-via s
+  R = lentRemoval listed lengths room-nodes room-endpoint room-from room-to room-via s
 
   abbrev before : Verdict
-  before = designBefore n starts ends early late listed lengths room-from room-to room-via
+  before = designBefore n starts ends early late marked listed lengths room-nodes room-endpoint room-from room-to room-via
 
   design-outcome : removeFromDesign D R ≡ outcome (before then removalTests D (designGraph D) R) (trueGraph (designGraph D) (pathsOf L))
   unfolding removeFromDesign
   design-outcome =
       ap (λ (v : Verdict). outcome v (trueGraph (designGraph D) (pathsOf L)))
-      (sym (chain-on (designSizes D) (listSizes L) (sameSizes (length room-from) (length room-to) (length room-via)) (designTests D) (listTests D L) (removalTests D (designGraph D) R)))
+      (sym (chain-on (designSizes D) (listSizes L) (graphSizes (graphSlices room-nodes room-endpoint room-from room-to room-via)) (designTests D) (listTests D L) (removalTests D (designGraph D) R)))
 
-  pub design-refused : (x : Refusal) → before ≡ Refused x → Stated (removeFromDesign D R) (NoGraph x) room-nodes room-from room-to room-via s room-nodes room-from room-to room-via s
+  pub design-refused : (x : Refusal) → before ≡ Refused x → Stated (removeFromDesign D R) (NoGraph x) room-nodes room-endpoint room-from room-to room-via s room-nodes room-endpoint room-from room-to room-via s
   design-refused x e =
-      subst (λ (o : Outcome Graph). Stated o (NoGraph x) room-nodes room-from room-to room-via s room-nodes room-from room-to room-via s)
+      subst (λ (o : Outcome Graph). Stated o (NoGraph x) room-nodes room-endpoint room-from room-to room-via s room-nodes room-endpoint room-from room-to room-via s)
       (ap (λ (v : Verdict). outcome v (trueGraph (designGraph D) (pathsOf L))) (sym (refused-on before (removalTests D (designGraph D) R) x e)) ∙ sym design-outcome)
-      (stated-refused x room-nodes room-from room-to room-via s (early-refused before x (chain-early D L (sameSizes (length room-from) (length room-to) (length room-via)) (sizes-early (length room-from) (length room-to) (length room-via))) e))
+      (stated-refused x room-nodes room-endpoint room-from room-to room-via s (early-refused before x (chain-early D L (graphSizes (graphSlices room-nodes room-endpoint room-from room-to room-via)) (graph-sizes-early (graphSlices room-nodes room-endpoint room-from room-to room-via))) e))
 
   module _ (e : before ≡ Passed) where
-    abbrev all : Tested (designSizes D) (listSizes L) (sameSizes (length room-from) (length room-to) (length room-via)) (designTests D) (listTests D L)
-    all = tested (designSizes D) (listSizes L) (sameSizes (length room-from) (length room-to) (length room-via)) (designTests D) (listTests D L) e
+    abbrev all : Tested (designSizes D) (listSizes L) (graphSizes (graphSlices room-nodes room-endpoint room-from room-to room-via)) (designTests D) (listTests D L)
+    all = tested (designSizes D) (listSizes L) (graphSizes (graphSlices room-nodes room-endpoint room-from room-to room-via)) (designTests D) (listTests D L) e
 
-    pub design-numberable : (m : ℕ) → m ≡ length starts → Numberable starts ends listed lengths n m room-from room-to room-via
+    pub design-numberable : (m : ℕ) → m ≡ length starts → Numberable starts ends marked listed lengths n m room-nodes room-endpoint room-from room-to room-via
     design-numberable m q =
         record {
           early = early;
@@ -217,25 +232,25 @@ module _ (n : ℕ) (starts ends : List ℕ) (early late : List ℤ) (listed leng
           design-fits = design-fits D (all .sizes) (all .design);
           list-fits = list-fits D L (all .sums) (all .list);
           numbers = q;
-          same = same-passed (length room-from) (length room-to) (length room-via) (all .others);
+          same = rooms-alike room-nodes room-endpoint room-from room-to room-via (all .others);
         }
 
-    pub design-removed : (r : GraphMade) (room-nodes′ room-from′ room-to′ room-via′ s′ : List ℕ) → DesignRemoved starts ends listed lengths n r room-nodes room-from room-to room-via s room-nodes′ room-from′ room-to′ room-via′ s′
-        → Stated (removeFromDesign D R) r room-nodes room-from room-to room-via s room-nodes′ room-from′ room-to′ room-via′ s′
+    pub design-removed : (r : GraphMade) (room-nodes′ room-endpoint′ room-from′ room-to′ room-via′ s′ : List ℕ) → DesignRemoved starts ends marked listed lengths n r room-nodes room-endpoint room-from room-to room-via s room-nodes′ room-endpoint′ room-from′ room-to′ room-via′ s′
+        → Stated (removeFromDesign D R) r room-nodes room-endpoint room-from room-to room-via s room-nodes′ room-endpoint′ room-from′ room-to′ room-via′ s′
     unfolding DesignRemoved
-    design-removed r room-nodes′ room-from′ room-to′ room-via′ s′ x =
+    design-removed r room-nodes′ room-endpoint′ room-from′ room-to′ room-via′ s′ x =
         let y = x early late (design-fits D (all .sizes) (all .design)) (list-fits D L (all .sums) (all .list)) in
-        subst (λ (o : Outcome Graph). Stated o r room-nodes room-from room-to room-via s room-nodes′ room-from′ room-to′ room-via′ s′)
+        subst (λ (o : Outcome Graph). Stated o r room-nodes room-endpoint room-from room-to room-via s room-nodes′ room-endpoint′ room-from′ room-to′ room-via′ s′)
         (ap (λ (v : Verdict). outcome v (trueGraph (designGraph D) (pathsOf L))) (sym (passed-on before (removalTests D (designGraph D) R) e)) ∙ sym design-outcome)
-        (stated-removed (removalOutcome D L (designGraph D) room-nodes room-from room-to room-via s) r room-nodes room-from room-to room-via s room-nodes′ room-from′ room-to′ room-via′ s′ y)
+        (stated-removed (removalOutcome D L (designGraph D) room-nodes room-endpoint room-from room-to room-via s) r room-nodes room-endpoint room-from room-to room-via s room-nodes′ room-endpoint′ room-from′ room-to′ room-via′ s′ y)
 
 -- the passes are asked about the design as a graph, and answer about it
-module _ (starts ends listed lengths : List ℕ) (n m : ℕ) (q : m ≡ length starts) where
-  numbered-worked : (early late : List ℤ) → DesignFits (design n starts ends early late) → ListFits (design n starts ends early late) (pathList listed lengths)
-      → Worked (design n starts ends early late) (pathList listed lengths) (designGraph (design n starts ends early late)) starts listed lengths (upto n 0) starts ends (upto m 0)
-  unfolding designGraph
+module _ (starts ends marked listed lengths : List ℕ) (n m : ℕ) (q : m ≡ length starts) (endpoint : List ℕ) (made : EndpointsOf n starts marked endpoint) where
+  numbered-worked : (early late : List ℤ) → DesignFits (design n starts ends early late marked) → ListFits (design n starts ends early late marked) (pathList listed lengths)
+      → Worked (design n starts ends early late marked) (pathList listed lengths) (designGraph (design n starts ends early late marked)) starts listed lengths (upto n 0) endpoint starts ends (upto m 0)
+  unfolding designGraph EndpointsOf
   numbered-worked early late f g =
-      let D = design n starts ends early late in
+      let D = design n starts ends early late marked in
       record {
         given =
             record {
@@ -250,45 +265,47 @@ module _ (starts ends listed lengths : List ℕ) (n m : ℕ) (q : m ≡ length s
               few-copies = omega (arith, length-upto n 0, f .fewNodes);
               few-edges = omega (arith, f .fewEdges);
             };
+        endpoints = sym (made ends early late (f .ends));
         fits = f;
         into = design-into D;
       }
 
-  pub numbered-workable : (room-from room-to room-via : List ℕ) → Numberable starts ends listed lengths n m room-from room-to room-via → Workable starts listed lengths (upto n 0) starts ends (upto m 0)
-  numbered-workable room-from room-to room-via x =
+  pub numbered-workable : (room-nodes room-endpoint room-from room-to room-via : List ℕ) → Numberable starts ends marked listed lengths n m room-nodes room-endpoint room-from room-to room-via
+      → Workable starts listed lengths (upto n 0) endpoint starts ends (upto m 0)
+  numbered-workable room-nodes room-endpoint room-from room-to room-via x =
       record {
-        design = design n starts ends (x .early) (x .late);
+        design = design n starts ends (x .early) (x .late) marked;
         list = pathList listed lengths;
-        graph = designGraph (design n starts ends (x .early) (x .late));
+        graph = designGraph (design n starts ends (x .early) (x .late) marked);
         worked = numbered-worked (x .early) (x .late) (x .design-fits) (x .list-fits);
       }
 
-  pub numbered-removed : (r : GraphMade) (room-nodes room-from room-to room-via s room-nodes′ room-from′ room-to′ room-via′ s′ : List ℕ)
-      → AllRemoved starts listed lengths (upto n 0) starts ends (upto m 0) r room-nodes room-from room-to room-via s room-nodes′ room-from′ room-to′ room-via′ s′
-      → DesignRemoved starts ends listed lengths n r room-nodes room-from room-to room-via s room-nodes′ room-from′ room-to′ room-via′ s′
+  pub numbered-removed : (r : GraphMade) (room-nodes room-endpoint room-from room-to room-via s room-nodes′ room-endpoint′ room-from′ room-to′ room-via′ s′ : List ℕ)
+      → AllRemoved starts listed lengths (upto n 0) endpoint starts ends (upto m 0) r room-nodes room-endpoint room-from room-to room-via s room-nodes′ room-endpoint′ room-from′ room-to′ room-via′ s′
+      → DesignRemoved starts ends marked listed lengths n r room-nodes room-endpoint room-from room-to room-via s room-nodes′ room-endpoint′ room-from′ room-to′ room-via′ s′
   unfolding AllRemoved DesignRemoved
-  numbered-removed r room-nodes room-from room-to room-via s room-nodes′ room-from′ room-to′ room-via′ s′ x early late f g =
-      x (design n starts ends early late) (pathList listed lengths) (designGraph (design n starts ends early late)) (numbered-worked early late f g)
+  numbered-removed r room-nodes room-endpoint room-from room-to room-via s room-nodes′ room-endpoint′ room-from′ room-to′ room-via′ s′ x early late f g =
+      x (design n starts ends early late marked) (pathList listed lengths) (designGraph (design n starts ends early late marked)) (numbered-worked early late f g)
 
 -- Removal from an earlier graph.
-module _ (n : ℕ) (starts ends : List ℕ) (early late : List ℤ) (listed lengths nodes from to via room-nodes room-from room-to room-via s : List ℕ) where
+module _ (n : ℕ) (starts ends : List ℕ) (early late : List ℤ) (marked listed lengths nodes endpoint from to via room-nodes room-endpoint room-from room-to room-via s : List ℕ) where
   abbrev E : Design
-  E = design n starts ends early late
+  E = design n starts ends early late marked
 
   abbrev K : PathList
   K = pathList listed lengths
 
   abbrev S : GraphSlices
-  S = graphSlices nodes from to via
+  S = graphSlices nodes endpoint from to via
 
   abbrev Q : Removal
-  Q = lentRemoval listed lengths room-nodes room-from room-to room-via s
+  Q = lentRemoval listed lengths room-nodes room-endpoint room-from room-to room-via s
 
   abbrev room : Verdict
-  room = sameSizes (length room-from) (length room-to) (length room-via)
+  room = graphSizes (graphSlices room-nodes room-endpoint room-from room-to room-via)
 
   abbrev prior : Verdict
-  prior = graphBefore n starts ends early late listed lengths nodes from to via room-from room-to room-via
+  prior = graphBefore n starts ends early late marked listed lengths nodes endpoint from to via room-nodes room-endpoint room-from room-to room-via
 
   graph-outcome : removeFromGraph E S Q ≡ outcome (prior then removalTests E (graphOf S) Q) (trueGraph (graphOf S) (pathsOf K))
   unfolding removeFromGraph
@@ -305,14 +322,14 @@ module _ (n : ℕ) (starts ends : List ℕ) (early late : List ℤ) (listed leng
       subst Early (sym joined)
       (early-then (designSizes E then (listSizes K then ((graphSizes S then room) then (designTests E then listTests E K)))) (graphTest E (graphOf S))
       (chain-early E K (graphSizes S then room)
-      (early-then (graphSizes S) room (sizes-early (length from) (length to) (length via)) (sizes-early (length room-from) (length room-to) (length room-via))))
+      (early-then (graphSizes S) room (graph-sizes-early S) (graph-sizes-early (graphSlices room-nodes room-endpoint room-from room-to room-via))))
       (early-unless 32 refl (wellFormed E (graphOf S))))
 
-  pub graph-refused : (x : Refusal) → prior ≡ Refused x → Stated (removeFromGraph E S Q) (NoGraph x) room-nodes room-from room-to room-via s room-nodes room-from room-to room-via s
+  pub graph-refused : (x : Refusal) → prior ≡ Refused x → Stated (removeFromGraph E S Q) (NoGraph x) room-nodes room-endpoint room-from room-to room-via s room-nodes room-endpoint room-from room-to room-via s
   graph-refused x e =
-      subst (λ (o : Outcome Graph). Stated o (NoGraph x) room-nodes room-from room-to room-via s room-nodes room-from room-to room-via s)
+      subst (λ (o : Outcome Graph). Stated o (NoGraph x) room-nodes room-endpoint room-from room-to room-via s room-nodes room-endpoint room-from room-to room-via s)
       (ap (λ (v : Verdict). outcome v (trueGraph (graphOf S) (pathsOf K))) (sym (refused-on prior (removalTests E (graphOf S) Q) x e)) ∙ sym graph-outcome)
-      (stated-refused x room-nodes room-from room-to room-via s (early-refused prior x graph-early e))
+      (stated-refused x room-nodes room-endpoint room-from room-to room-via s (early-refused prior x graph-early e))
 
   module _ (e : prior ≡ Passed) where
     passed : ((designSizes E then (listSizes K then ((graphSizes S then room) then (designTests E then listTests E K)))) ≡ Passed) × (graphTest E (graphOf S) ≡ Passed)
@@ -324,15 +341,15 @@ module _ (n : ℕ) (starts ends : List ℕ) (early late : List ℤ) (listed leng
     sizes : (graphSizes S ≡ Passed) × (room ≡ Passed)
     sizes = then-passed (graphSizes S) room (every .others)
 
-    pub graph-rooms : SameRooms room-from room-to room-via
-    graph-rooms = same-passed (length room-from) (length room-to) (length room-via) (sizes .1)
+    pub graph-rooms : RoomsAlike room-nodes room-endpoint room-from room-to room-via
+    graph-rooms = rooms-alike room-nodes room-endpoint room-from room-to room-via (sizes .1)
 
-    worked : Worked E K (graphOf S) starts listed lengths nodes from to via
+    worked : Worked E K (graphOf S) starts listed lengths nodes endpoint from to via
     worked =
         let f = design-fits E (every .sizes) (every .design) in
         let t = holds (wellFormed E (graphOf S)) (unless-passed 32 (wellFormed E (graphOf S)) (passed .1)) in
         let w = formed E (graphOf S) t in
-        let z = same-passed (length from) (length to) (length via) (sizes .0) in
+        let z = room-passed (roomOf S) (sizes .0) in
         record {
           given =
               record {
@@ -342,40 +359,41 @@ module _ (n : ℕ) (starts ends : List ℕ) (early late : List ℤ) (listed leng
                 list = refl;
                 copies = refl;
                 edges = refl;
-                ends = z .0;
-                names = z .1;
+                ends = z .1;
+                names = z .2;
                 few-copies = leb→le (length nodes) 16384 (and-left (leb (length nodes) 16384) (leb (length (graphOf S .edges)) 65536) (w .few));
-                few-edges = omega (arith, leb→le (length (graphOf S .edges)) 65536 (and-right (leb (length nodes) 16384) (leb (length (graphOf S .edges)) 65536) (w .few)), length-edges from to via (z .0) (z .1));
+                few-edges = omega (arith, leb→le (length (graphOf S .edges)) 65536 (and-right (leb (length nodes) 16384) (leb (length (graphOf S .edges)) 65536) (w .few)), length-edges from to via (z .1) (z .2));
               };
+          endpoints = refl;
           fits = f;
           into = formed-into (graphOf S) (w .rises);
         }
 
-    pub graph-workable : Workable starts listed lengths nodes from to via
+    pub graph-workable : Workable starts listed lengths nodes endpoint from to via
     graph-workable = record { design = E; list = K; graph = graphOf S; worked = worked }
 
-    pub graph-removed : (r : GraphMade) (room-nodes′ room-from′ room-to′ room-via′ s′ : List ℕ)
-        → AllRemoved starts listed lengths nodes from to via r room-nodes room-from room-to room-via s room-nodes′ room-from′ room-to′ room-via′ s′
-        → Stated (removeFromGraph E S Q) r room-nodes room-from room-to room-via s room-nodes′ room-from′ room-to′ room-via′ s′
+    pub graph-removed : (r : GraphMade) (room-nodes′ room-endpoint′ room-from′ room-to′ room-via′ s′ : List ℕ)
+        → AllRemoved starts listed lengths nodes endpoint from to via r room-nodes room-endpoint room-from room-to room-via s room-nodes′ room-endpoint′ room-from′ room-to′ room-via′ s′
+        → Stated (removeFromGraph E S Q) r room-nodes room-endpoint room-from room-to room-via s room-nodes′ room-endpoint′ room-from′ room-to′ room-via′ s′
     unfolding AllRemoved
-    graph-removed r room-nodes′ room-from′ room-to′ room-via′ s′ x =
-        subst (λ (o : Outcome Graph). Stated o r room-nodes room-from room-to room-via s room-nodes′ room-from′ room-to′ room-via′ s′)
+    graph-removed r room-nodes′ room-endpoint′ room-from′ room-to′ room-via′ s′ x =
+        subst (λ (o : Outcome Graph). Stated o r room-nodes room-endpoint room-from room-to room-via s room-nodes′ room-endpoint′ room-from′ room-to′ room-via′ s′)
         (ap (λ (v : Verdict). outcome v (trueGraph (graphOf S) (pathsOf K))) (sym (passed-on prior (removalTests E (graphOf S) Q) e)) ∙ sym graph-outcome)
-        (stated-removed (removalOutcome E K (graphOf S) room-nodes room-from room-to room-via s) r room-nodes room-from room-to room-via s room-nodes′ room-from′ room-to′ room-via′ s′ (x E K (graphOf S) worked))
+        (stated-removed (removalOutcome E K (graphOf S) room-nodes room-endpoint room-from room-to room-via s) r room-nodes room-endpoint room-from room-to room-via s room-nodes′ room-endpoint′ room-from′ room-to′ room-via′ s′ (x E K (graphOf S) worked))
 
 -- the tests as the calls have them, with the verdict of the room made first
-module _ (n : ℕ) (starts ends : List ℕ) (early late : List ℤ) (listed lengths room-from room-to room-via : List ℕ) where
-  pub design-tested : (v o : Verdict) → o ≡ sameSizes (length room-from) (length room-to) (length room-via)
-      → v ≡ (designSizes (design n starts ends early late) then (listSizes (pathList listed lengths) then (o then (designTests (design n starts ends early late) then listTests (design n starts ends early late) (pathList listed lengths)))))
-      → designBefore n starts ends early late listed lengths room-from room-to room-via ≡ v
+module _ (n : ℕ) (starts ends : List ℕ) (early late : List ℤ) (marked listed lengths room-nodes room-endpoint room-from room-to room-via : List ℕ) where
+  pub design-tested : (v o : Verdict) → o ≡ graphSizes (graphSlices room-nodes room-endpoint room-from room-to room-via)
+      → v ≡ (designSizes (design n starts ends early late marked) then (listSizes (pathList listed lengths) then (o then (designTests (design n starts ends early late marked) then listTests (design n starts ends early late marked) (pathList listed lengths)))))
+      → designBefore n starts ends early late marked listed lengths room-nodes room-endpoint room-from room-to room-via ≡ v
   design-tested v o p q =
-      sym (q ∙ ap (λ (x : Verdict). designSizes (design n starts ends early late) then (listSizes (pathList listed lengths) then (x then (designTests (design n starts ends early late) then listTests (design n starts ends early late) (pathList listed lengths))))) p)
+      sym (q ∙ ap (λ (x : Verdict). designSizes (design n starts ends early late marked) then (listSizes (pathList listed lengths) then (x then (designTests (design n starts ends early late marked) then listTests (design n starts ends early late marked) (pathList listed lengths))))) p)
 
-  pub graph-tested : (nodes from to via : List ℕ) (v o : Verdict) → o ≡ sameSizes (length room-from) (length room-to) (length room-via)
-      → v ≡ (designSizes (design n starts ends early late) then (listSizes (pathList listed lengths) then (graphSizes (graphSlices nodes from to via) then (o then (designTests (design n starts ends early late) then (listTests (design n starts ends early late) (pathList listed lengths) then graphTest (design n starts ends early late) (graphOf (graphSlices nodes from to via))))))))
-      → graphBefore n starts ends early late listed lengths nodes from to via room-from room-to room-via ≡ v
-  graph-tested nodes from to via v o p q =
-      sym (q ∙ ap (λ (x : Verdict). designSizes (design n starts ends early late) then (listSizes (pathList listed lengths) then (graphSizes (graphSlices nodes from to via) then (x then (designTests (design n starts ends early late) then (listTests (design n starts ends early late) (pathList listed lengths) then graphTest (design n starts ends early late) (graphOf (graphSlices nodes from to via)))))))) p)
+  pub graph-tested : (nodes endpoint from to via : List ℕ) (v o : Verdict) → o ≡ graphSizes (graphSlices room-nodes room-endpoint room-from room-to room-via)
+      → v ≡ (designSizes (design n starts ends early late marked) then (listSizes (pathList listed lengths) then (graphSizes (graphSlices nodes endpoint from to via) then (o then (designTests (design n starts ends early late marked) then (listTests (design n starts ends early late marked) (pathList listed lengths) then graphTest (design n starts ends early late marked) (graphOf (graphSlices nodes endpoint from to via))))))))
+      → graphBefore n starts ends early late marked listed lengths nodes endpoint from to via room-nodes room-endpoint room-from room-to room-via ≡ v
+  graph-tested nodes endpoint from to via v o p q =
+      sym (q ∙ ap (λ (x : Verdict). designSizes (design n starts ends early late marked) then (listSizes (pathList listed lengths) then (graphSizes (graphSlices nodes endpoint from to via) then (x then (designTests (design n starts ends early late marked) then (listTests (design n starts ends early late marked) (pathList listed lengths) then graphTest (design n starts ends early late marked) (graphOf (graphSlices nodes endpoint from to via)))))))) p)
 
 -- places that hold their own numbers
 pub front-upto : (n i : ℕ) (l : List ℕ) → n ≤ length l → ((k : ℕ) → k < n → getD l k 0 ≡ i + k) → take n l ≡ upto n i

@@ -27,14 +27,14 @@ and-list-tests-requires c κs = search needs
 
 returns : tie.Need-returns
 returns c =
-    let a = c .before .before .before .before .before .before .before .before .before .args in
-    let D = design (a .n) (a .starts .now) (a .ends .now) (a .early .now) (a .late .now) in
+    let a = c .before .before .before .before .before .before .before .before .before .before .args in
+    let D = design (a .n) (a .starts .now) (a .ends .now) (a .early .now) (a .late .now) (a .marked .now) in
     let L = pathList (a .listed .now) (a .lengths .now) in
-    c .and-list-tests .ensures (a .n) (a .early .now) (a .late .now)
+    c .and-list-tests .ensures (a .n) (a .early .now) (a .late .now) (a .marked .now)
     ∙ ap (λ (v : Verdict). v then listTests D L)
     (c .before .and-design-tests .ensures
     ∙ ap (λ (v : Verdict). v then designTests D)
-    (c .before .before .then .ensures ∙ ap (λ (v : Verdict). v then a .others) (c .before .before .before .and-list-sizes .ensures ∙ ap (λ (v : Verdict). v then listSizes L) (c .before .before .before .before .design-sizes .ensures (a .n)))))
+    (c .before .before .then .ensures ∙ ap (λ (v : Verdict). v then a .others) (c .before .before .before .and-list-sizes .ensures ∙ ap (λ (v : Verdict). v then listSizes L) (c .before .before .before .before .design-sizes .ensures (a .n) (a .marked .now)))))
     ∙ list-chain (designSizes D) (listSizes L) (a .others) (designTests D) (listTests D L)
 
 pub list-tests-spec : {M : Type 1} → statement M

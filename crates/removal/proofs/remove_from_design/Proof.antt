@@ -7,13 +7,13 @@ use Rattle.removal.proofs.remove_from_design.Statement.{statement}
 use Rattle.removal.proofs.remove_from_design.Tie as tie
 
 abbrev start : tie.After-list-tests → tie.Start
-start c = c .before .before .before .before .before .before .before .before .before .before .before
+start c = c .before .before .before .before .before .before .before .before .before .before .before .before .before
 
-tested : (c : tie.After-list-tests) → let a = start c .args in designBefore (a .n) (a .starts .now) (a .ends .now) (a .early .now) (a .late .now) (a .listed .now) (a .lengths .now) (a .room-from .now) (a .room-to .now) (a .room-via .now) ≡ c .list-tests .result
-tested c = let a = start c .args in design-tested (a .n) (a .starts .now) (a .ends .now) (a .early .now) (a .late .now) (a .listed .now) (a .lengths .now) (a .room-from .now) (a .room-to .now) (a .room-via .now) (c .list-tests .result) (c .before .same-sizes .result) (c .before .same-sizes .ensures) (c .list-tests .ensures)
+tested : (c : tie.After-list-tests) → let a = start c .args in designBefore (a .n) (a .starts .now) (a .ends .now) (a .early .now) (a .late .now) (a .marked .now) (a .listed .now) (a .lengths .now) (a .room-nodes .now) (a .room-endpoint .now) (a .room-from .now) (a .room-to .now) (a .room-via .now) ≡ c .list-tests .result
+tested c = let a = start c .args in design-tested (a .n) (a .starts .now) (a .ends .now) (a .early .now) (a .late .now) (a .marked .now) (a .listed .now) (a .lengths .now) (a .room-nodes .now) (a .room-endpoint .now) (a .room-from .now) (a .room-to .now) (a .room-via .now) (c .list-tests .result) (c .before .graph-sizes .result) (c .before .graph-sizes .ensures) (c .list-tests .ensures)
 
-same-sizes-requires : tie.Need-same-sizes-requires
-same-sizes-requires c κs = search needs
+graph-sizes-requires : tie.Need-graph-sizes-requires
+graph-sizes-requires c κs = search needs
 
 list-tests-requires : tie.Need-list-tests-requires
 list-tests-requires c κs = search needs
@@ -25,16 +25,16 @@ returns : tie.Need-returns
 returns c =
     let w = c .before .before .before in
     let a = start w .args in
-    design-refused (a .n) (a .starts .now) (a .ends .now) (a .early .now) (a .late .now) (a .listed .now) (a .lengths .now) (a .room-nodes .now) (a .room-from .now) (a .room-to .now) (a .room-via .now) (a .scratch .now) (c .before .verdict .given .0 .0) (tested w ∙ c .before .verdict .given .1)
+    design-refused (a .n) (a .starts .now) (a .ends .now) (a .early .now) (a .late .now) (a .marked .now) (a .listed .now) (a .lengths .now) (a .room-nodes .now) (a .room-endpoint .now) (a .room-from .now) (a .room-to .now) (a .room-via .now) (a .scratch .now) (c .before .verdict .given .0 .0) (tested w ∙ c .before .verdict .given .1)
 
 enum-told : tie.Need-enum-told
 enum-told c = search needs
 
 remove-tested-requires : tie.Need-remove-tested-requires
 remove-tested-requires c κs =
-    let w = c .before .before .before .before .before .before .before in
+    let w = c .before .before .before .before .before .before .before .before in
     let a = start w .args in
-    design-numberable (a .n) (a .starts .now) (a .ends .now) (a .early .now) (a .late .now) (a .listed .now) (a .lengths .now) (a .room-nodes .now) (a .room-from .now) (a .room-to .now) (a .room-via .now) (a .scratch .now) (tested w ∙ c .before .before .before .before .before .enum-told .given .1) (length (a .starts .now)) refl
+    design-numberable (a .n) (a .starts .now) (a .ends .now) (a .early .now) (a .late .now) (a .marked .now) (a .listed .now) (a .lengths .now) (a .room-nodes .now) (a .room-endpoint .now) (a .room-from .now) (a .room-to .now) (a .room-via .now) (a .scratch .now) (tested w ∙ c .before .before .before .before .before .before .enum-told .given .1) (length (a .starts .now)) refl
 
 same-length : tie.Need-same-length
 same-length c = search needs
@@ -51,18 +51,21 @@ same-length-4 c = search needs
 same-length-5 : tie.Need-same-length-5
 same-length-5 c = search needs
 
+same-length-6 : tie.Need-same-length-6
+same-length-6 c = search needs
+
 returns-2 : tie.Need-returns-2
 returns-2 c =
-    let t = c .before .before .before .before .before .before .before .before .before .before in
-    let w = t .before .before .before .before .before .before .before .before in
+    let t = c .before .before .before .before .before .before .before .before .before .before .before .before in
+    let w = t .before .before .before .before .before .before .before .before .before in
     let a = start w .args in
-    design-removed (a .n) (a .starts .now) (a .ends .now) (a .early .now) (a .late .now) (a .listed .now) (a .lengths .now) (a .room-nodes .now) (a .room-from .now) (a .room-to .now) (a .room-via .now) (a .scratch .now) (tested w ∙ t .before .before .before .before .before .before .enum-told .given .1) (t .remove-tested .result) (t .remove-tested .last .1 .1 .1 .1 .1 .0) (t .remove-tested .last .1 .1 .1 .1 .1 .1 .0) (t .remove-tested .last .1 .1 .1 .1 .1 .1 .1 .0) (t .remove-tested .last .1 .1 .1 .1 .1 .1 .1 .1 .0) (t .remove-tested .last .1 .1 .1 .1 .1 .1 .1 .1 .1 .0) (t .remove-tested .ensures)
+    design-removed (a .n) (a .starts .now) (a .ends .now) (a .early .now) (a .late .now) (a .marked .now) (a .listed .now) (a .lengths .now) (a .room-nodes .now) (a .room-endpoint .now) (a .room-from .now) (a .room-to .now) (a .room-via .now) (a .scratch .now) (tested w ∙ t .before .before .before .before .before .before .before .enum-told .given .1) (t .remove-tested .result) (t .remove-tested .last .1 .1 .1 .1 .1 .1 .0) (t .remove-tested .last .1 .1 .1 .1 .1 .1 .1 .0) (t .remove-tested .last .1 .1 .1 .1 .1 .1 .1 .1 .0) (t .remove-tested .last .1 .1 .1 .1 .1 .1 .1 .1 .1 .0) (t .remove-tested .last .1 .1 .1 .1 .1 .1 .1 .1 .1 .1 .0) (t .remove-tested .last .1 .1 .1 .1 .1 .1 .1 .1 .1 .1 .1 .0) (t .remove-tested .ensures)
 
 pub remove-from-design-spec : {M : Type 1} → statement M
 remove-from-design-spec =
     tie.close
     (tie.spec
-    same-sizes-requires
+    graph-sizes-requires
     list-tests-requires
     enum-known-verdict
     returns
@@ -73,4 +76,5 @@ remove-from-design-spec =
     same-length-3
     same-length-4
     same-length-5
+    same-length-6
     returns-2)

@@ -33,14 +33,14 @@ returns : tie.Need-returns
 returns c =
     let w = c .before .before .before .before in
     let p = w .before .before .before .before .before in
-    let a = p .before .before .before .before .before .before .before .args in
-    let D = (design (a .n) (a .starts .now) (a .ends .now) (a .early .now) (a .late .now)) in
-    let S = (graphSlices (a .nodes .now) (a .from .now) (a .to .now) (a .via .now)) in
+    let a = p .before .before .before .before .before .before .before .before .before .args in
+    let D = (design (a .n) (a .starts .now) (a .ends .now) (a .early .now) (a .late .now) (a .marked .now)) in
+    let S = (graphSlices (a .nodes .now) (a .endpoint .now) (a .from .now) (a .to .now) (a .via .now)) in
     let u = p .times-tests .result in
     let v = testTimes D S (a .allowed) (length (a .arrivals .now)) (length (a .requireds .now)) (length (a .slacks .now)) (length (a .earliests .now)) in
     let t : u ≡ v = p .times-tests .ensures in
     let e = w .times-where .ensures in
-    let m = w .times-where .last .1 .1 .1 .1 .1 .1 .1 .1 .1 .1 .1 in (
+    let m = w .times-where .last .1 .1 .1 .1 .1 .1 .1 .1 .1 .1 .1 .1 .1 in (
       after-told Verdict (w .times-where .result) (λ (x : Verdict). x) u v t (e .0),
       after-told (List ℤ) (m .0) (λ (x : Verdict). arrivalsAfter D S (a .allowed) x (a .arrivals .now)) u v t (e .1),
       after-told (List ℤ) (m .1 .0) (λ (x : Verdict). requiredsAfter D S (a .allowed) x (a .requireds .now)) u v t (e .2),

@@ -13,13 +13,13 @@ use Rattle.true_graph.proofs.pack.Statement.{statement}
 use Rattle.true_graph.proofs.pack.Tie as tie
 
 abbrev start : tie.After-read-deck → tie.Start
-start w = w .before .before .before .before .before .before .before .before .before .before
+start w = w .before .before .before .before .before .before .before .before .before .before .before
 
 abbrev tablesAt : tie.After-read-deck → Lent
-tablesAt w = let l = w .read-deck .last in lent (l .1 .0) (l .1 .1 .0) (l .1 .1 .1 .0) (l .1 .1 .1 .1 .0) (l .1 .1 .1 .1 .1 .0) (l .1 .1 .1 .1 .1 .1 .0)
+tablesAt w = let l = w .read-deck .last in lent (l .1 .0) (l .1 .1 .0) (l .1 .1 .1 .0) (l .1 .1 .1 .1 .0) (l .1 .1 .1 .1 .1 .1 .1 .0) (l .1 .1 .1 .1 .1 .0) (l .1 .1 .1 .1 .1 .1 .0)
 
 filled-tables : (w : tie.After-read-deck) → tablesAt w ≡ lentAfter (tablesRead (start w .args .deck .now)) tables
-filled-tables w = let e = w .read-deck .ensures in λ i. lent (e .1 i) (e .2 i) (e .3 i) (e .4 i) (e .5 i) (e .6 i)
+filled-tables w = let e = w .read-deck .ensures in λ i. lent (e .1 i) (e .2 i) (e .3 i) (e .4 i) (e .7 i) (e .5 i) (e .6 i)
 
 refuse-requires : tie.Need-refuse-requires
 refuse-requires c κs = search needs
@@ -48,6 +48,9 @@ slice-aggregate-read-deck-5 c = sym (length-replicate {A = ℕ} 1024 0)
 slice-aggregate-read-deck-6 : tie.Need-slice-aggregate-read-deck-6
 slice-aggregate-read-deck-6 c = sym (length-replicate {A = ℕ} 256 0)
 
+slice-aggregate-read-deck-7 : tie.Need-slice-aggregate-read-deck-7
+slice-aggregate-read-deck-7 c = sym (length-replicate {A = ℕ} 1024 0)
+
 read-deck-requires : tie.Need-read-deck-requires
 read-deck-requires c κs = tt
 
@@ -69,9 +72,12 @@ slice-aggregate-pack-read-5 c = search needs
 slice-aggregate-pack-read-6 : tie.Need-slice-aggregate-pack-read-6
 slice-aggregate-pack-read-6 c = search needs
 
+slice-aggregate-pack-read-7 : tie.Need-slice-aggregate-pack-read-7
+slice-aggregate-pack-read-7 c = search needs
+
 pack-read-requires : tie.Need-pack-read-requires
 pack-read-requires c κs =
-    let w = c .before .before .before .before .before .before .before .before .before .before .before .before .before in
+    let w = c .before .before .before .before .before .before .before .before .before .before .before .before .before .before .before in
     read-fits (start w .args .deck .now) (w .read-deck .result) (tablesAt w) (w .read-deck .ensures .0) (filled-tables w)
 
 same-length : tie.Need-same-length
@@ -80,9 +86,9 @@ same-length c = search needs
 returns-2 : tie.Need-returns-2
 returns-2 c =
     let g = c .before .before in
-    let w = g .before .before .before .before .before .before .before .before .before .before .before .before .before .before in
+    let w = g .before .before .before .before .before .before .before .before .before .before .before .before .before .before .before .before in
     let a = start w .args in
-    let e = read-program (a .deck .now) (w .read-deck .result) (tablesAt w) (w .read-deck .ensures .0) (filled-tables w) (omega (arith, w .before .before .before .before .before .before .before .if1 .left)) in
+    let e = read-program (a .deck .now) (w .read-deck .result) (tablesAt w) (w .read-deck .ensures .0) (filled-tables w) (omega (arith, w .before .before .before .before .before .before .before .before .if1 .left)) in
     (g .pack-read .ensures .0 ∙ ap (λ (o : Outcome Graph). cWritten o (a .room .now)) e, g .pack-read .ensures .1 ∙ ap (λ (o : Outcome Graph). roomAfterC o (a .room .now)) e)
 
 pub pack-spec : {M : Type 1} → statement M
@@ -97,6 +103,7 @@ pack-spec =
     slice-aggregate-read-deck-4
     slice-aggregate-read-deck-5
     slice-aggregate-read-deck-6
+    slice-aggregate-read-deck-7
     read-deck-requires
     slice-aggregate-pack-read
     slice-aggregate-pack-read-2
@@ -104,6 +111,7 @@ pack-spec =
     slice-aggregate-pack-read-4
     slice-aggregate-pack-read-5
     slice-aggregate-pack-read-6
+    slice-aggregate-pack-read-7
     pack-read-requires
     same-length
     returns-2)

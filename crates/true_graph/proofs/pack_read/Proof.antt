@@ -1,4 +1,5 @@
 -- A refusal is handed on; or the deck in front of the tables is packed.
+use native.Mathlib.Omega.{arith}
 use mathlib.Core.Path.{sym, ap, _∙_, subst}
 use Rattle.timing.specs.declared.DeckRead.{DeckRead}
 use Rattle.timing.specs.declared.DeckRead.the-variants.{Deck as DeckFound}
@@ -11,15 +12,15 @@ use Rattle.true_graph.proofs.pack_read.Statement.{statement}
 use Rattle.true_graph.proofs.pack_read.Tie as tie
 
 abbrev start : tie.After-known-told2 → tie.Start
-start k = k .before .before .before .before .before .before .before .before
+start k = k .before .before .before .before .before .before .before .before .before
 
 abbrev FitsAt : tie.Start → DeckRead → Type 0
-FitsAt s x = let a = s .args in ReadFits x (a .starts .now) (a .ends .now) (a .early .now) (a .late .now) (a .listed .now) (a .lengths .now)
+FitsAt s x = let a = s .args in ReadFits x (a .starts .now) (a .ends .now) (a .early .now) (a .late .now) (a .marked .now) (a .listed .now) (a .lengths .now)
 
 abbrev removalAt : tie.Start → DeckRead → Outcome Graph
-removalAt s x = let a = s .args in readRemoval x (a .starts .now) (a .ends .now) (a .early .now) (a .late .now) (a .listed .now) (a .lengths .now)
+removalAt s x = let a = s .args in readRemoval x (a .starts .now) (a .ends .now) (a .early .now) (a .late .now) (a .marked .now) (a .listed .now) (a .lengths .now)
 
-fits : (k : tie.After-known-told2) → let g = k .before .read2 .given .0 in FitsAt (start k) (DeckFound (g .0) (g .1 .0) (g .1 .1 .0) (g .1 .1 .1 .0) (g .1 .1 .1 .1 .0))
+fits : (k : tie.After-known-told2) → let g = k .before .read2 .given .0 in FitsAt (start k) (DeckFound (g .0) (g .1 .0) (g .1 .1 .0) (g .1 .1 .1 .0) (g .1 .1 .1 .1 .0) (g .1 .1 .1 .1 .1 .0))
 fits k = subst (FitsAt (start k)) (k .before .read2 .given .1) (start k .pre)
 
 enum-known-read : tie.Need-enum-known-read
@@ -51,19 +52,24 @@ slice-aggregate-pack-tested-4 c =
 slice-aggregate-pack-tested-5 : tie.Need-slice-aggregate-pack-tested-5
 slice-aggregate-pack-tested-5 c =
     let k = c .before .before .before .before .before in
-    length-front (k .before .read2 .given .0 .1 .1 .0) (start k .args .listed .now) (fits k .4)
+    length-front _ (start k .args .marked .now) (omega (arith, fits k .4))
 
 slice-aggregate-pack-tested-6 : tie.Need-slice-aggregate-pack-tested-6
 slice-aggregate-pack-tested-6 c =
     let k = c .before .before .before .before .before .before in
-    length-front (k .before .read2 .given .0 .1 .1 .1 .0) (start k .args .lengths .now) (fits k .5)
+    length-front (k .before .read2 .given .0 .1 .1 .0) (start k .args .listed .now) (fits k .5)
+
+slice-aggregate-pack-tested-7 : tie.Need-slice-aggregate-pack-tested-7
+slice-aggregate-pack-tested-7 c =
+    let k = c .before .before .before .before .before .before .before in
+    length-front (k .before .read2 .given .0 .1 .1 .1 .0) (start k .args .lengths .now) (fits k .6)
 
 pack-tested-requires : tie.Need-pack-tested-requires
 pack-tested-requires c κs = tt
 
 returns : tie.Need-returns
 returns c =
-    let s = c .before .before .before .before .before .before .before .before in
+    let s = c .before .before .before .before .before .before .before .before .before in
     let e = sym (c .before .read .given .1) in
     (ap (λ (x : DeckRead). cWritten (removalAt s x) (s .args .room .now)) e, ap (λ (x : DeckRead). roomAfterC (removalAt s x) (s .args .room .now)) e)
 
@@ -73,7 +79,7 @@ same-length c = search needs
 returns-2 : tie.Need-returns-2
 returns-2 c =
     let g = c .before .before in
-    let k = g .before .before .before .before .before .before .before .before in
+    let k = g .before .before .before .before .before .before .before .before .before in
     let s = start k in
     let e = sym (k .before .read2 .given .1) in
     (g .pack-tested .ensures .0 ∙ ap (λ (x : DeckRead). cWritten (removalAt s x) (s .args .room .now)) e, g .pack-tested .ensures .1 ∙ ap (λ (x : DeckRead). roomAfterC (removalAt s x) (s .args .room .now)) e)
@@ -90,6 +96,7 @@ pack-read-spec =
     slice-aggregate-pack-tested-4
     slice-aggregate-pack-tested-5
     slice-aggregate-pack-tested-6
+    slice-aggregate-pack-tested-7
     pack-tested-requires
     returns
     same-length

@@ -9,10 +9,10 @@ use Rattle.true_graph.proofs.pack_tested.Statement.{statement}
 use Rattle.true_graph.proofs.pack_tested.Tie as tie
 
 abbrev start : tie.After-test-deck → tie.Start
-start w = w .before .before .before .before .before .before
+start w = w .before .before .before .before .before .before .before
 
 abbrev designAt : tie.Start → Design
-designAt s = let a = s .args in design (a .n) (a .starts .now) (a .ends .now) (a .early .now) (a .late .now)
+designAt s = let a = s .args in design (a .n) (a .starts .now) (a .ends .now) (a .early .now) (a .late .now) (a .marked .now)
 
 abbrev listAt : tie.Start → PathList
 listAt s = pathList (s .args .listed .now) (s .args .lengths .now)

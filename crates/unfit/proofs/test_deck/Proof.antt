@@ -17,8 +17,8 @@ returns : tie.Need-returns
 unfolding testList testDeck
 returns c =
     let fit = c .before in
-    let a = fit .before .before .before .before .before .args in
-    let D = design (a .n) (a .starts .now) (a .ends .now) (a .early .now) (a .late .now) in
+    let a = fit .before .before .before .before .before .before .args in
+    let D = design (a .n) (a .starts .now) (a .ends .now) (a .early .now) (a .late .now) (a .marked .now) in
     let L = pathList (a .listed .now) (a .lengths .now) in
     after-four (designSizes D) (listSizes L) (designTests D) (listTests D L) (allowedTest (a .allowed)) (fit .test-list .ensures) (c .and-unless .ensures)
 

@@ -11,7 +11,9 @@ and-design-tests-requires c κs = search needs
 
 returns : tie.Need-returns
 unfolding testDesign
-returns c = rw (c .and-design-tests .ensures, c .before .design-sizes .ensures (c .before .before .before .before .args .n))
+returns c =
+    let a = c .before .before .before .before .before .args in
+    rw (c .and-design-tests .ensures, c .before .design-sizes .ensures (a .n) (a .marked .now))
 
 pub test-design-spec : {M : Type 1} → statement M
 test-design-spec = tie.close (tie.spec design-sizes-requires and-design-tests-requires returns)

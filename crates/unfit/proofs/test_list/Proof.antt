@@ -27,12 +27,12 @@ returns c =
     let fit = c .before in
     let sizes = fit .before in
     let slices = sizes .before in
-    let a = slices .before .before .before .before .before .args in
-    let D = design (a .n) (a .starts .now) (a .ends .now) (a .early .now) (a .late .now) in
+    let a = slices .before .before .before .before .before .before .args in
+    let D = design (a .n) (a .starts .now) (a .ends .now) (a .early .now) (a .late .now) (a .marked .now) in
     let L = pathList (a .listed .now) (a .lengths .now) in
     chain-three (designSizes D) (listSizes L) (designTests D) (listTests D L)
-    (sizes .and-list-sizes .ensures ∙ ap (λ v. v then listSizes L) (slices .design-sizes .ensures (a .n)))
-    (fit .and-design-tests .ensures) (c .and-list-tests .ensures (a .n) (a .early .now) (a .late .now))
+    (sizes .and-list-sizes .ensures ∙ ap (λ v. v then listSizes L) (slices .design-sizes .ensures (a .n) (a .marked .now)))
+    (fit .and-design-tests .ensures) (c .and-list-tests .ensures (a .n) (a .early .now) (a .late .now) (a .marked .now))
 
 pub test-list-spec : {M : Type 1} → statement M
 test-list-spec =

@@ -22,6 +22,9 @@ least-requires-5 c κs = tt
 least-requires-6 : tie.Need-least-requires-6
 least-requires-6 c κs = tt
 
+least-requires-7 : tie.Need-least-requires-7
+least-requires-7 c κs = tt
+
 array-borrow-prefix-starts : tie.Need-array-borrow-prefix-starts
 array-borrow-prefix-starts c = search needs
 
@@ -58,6 +61,12 @@ array-borrow-prefix-lengths c = search needs
 slice-aggregate-read-6 : tie.Need-slice-aggregate-read-6
 slice-aggregate-read-6 c = simp length-take (omega arith)
 
+array-borrow-prefix-marked : tie.Need-array-borrow-prefix-marked
+array-borrow-prefix-marked c = search needs
+
+slice-aggregate-read-7 : tie.Need-slice-aggregate-read-7
+slice-aggregate-read-7 c = simp length-take (omega arith)
+
 read-requires : tie.Need-read-requires
 read-requires c κs = tt
 
@@ -74,6 +83,7 @@ read-sized-spec =
     least-requires-4
     least-requires-5
     least-requires-6
+    least-requires-7
     array-borrow-prefix-starts
     slice-aggregate-read
     array-borrow-prefix-ends
@@ -86,5 +96,7 @@ read-sized-spec =
     slice-aggregate-read-5
     array-borrow-prefix-lengths
     slice-aggregate-read-6
+    array-borrow-prefix-marked
+    slice-aggregate-read-7
     read-requires
     returns)

@@ -5,16 +5,19 @@ use Rattle.deck_program.proofs.lines.put_copies.Statement.{statement}
 use Rattle.deck_program.proofs.lines.put_copies.Tie as tie
 
 abbrev Inv-loop : tie.InvT-loop
-Inv-loop buf₀ at nodes arrivals requireds slacks earliests next₀ c₀ buf next c = Unit {0}
+Inv-loop buf₀ at nodes endpoint arrivals requireds slacks earliests next₀ c₀ buf next c = Unit {0}
 
 abbrev μ-loop : tie.MeasureT-loop
-μ-loop buf₀ at nodes arrivals requireds slacks earliests next₀ c₀ buf next c = length nodes - c
+μ-loop buf₀ at nodes endpoint arrivals requireds slacks earliests next₀ c₀ buf next c = length nodes - c
 
 loop-holds : tie.Need-loop-holds Inv-loop μ-loop
 loop-holds c = tt
 
 number-at-requires : tie.Need-number-at-requires Inv-loop μ-loop
 number-at-requires c κs = tt
+
+number-at-requires-2 : tie.Need-number-at-requires-2 Inv-loop μ-loop
+number-at-requires-2 c κs = tt
 
 time-at-requires : tie.Need-time-at-requires Inv-loop μ-loop
 time-at-requires c κs = tt
@@ -51,6 +54,7 @@ put-copies-spec =
     μ-loop
     loop-holds
     number-at-requires
+    number-at-requires-2
     time-at-requires
     time-at-requires-2
     time-at-requires-3

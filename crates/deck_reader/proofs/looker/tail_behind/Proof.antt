@@ -1,4 +1,4 @@
--- By what the look at the list answered.
+-- By what the look at the lists answered.
 use mathlib.Core.Path.{sym, _∙_, ap}
 use Rattle.timing.specs.declared.Looked.{Looked}
 use Rattle.deck_reader.specs.Reading.{verdictOf, tailIn, verdictBehind}
@@ -12,8 +12,8 @@ enum-told c = search needs
 look-tail-requires : tie.Need-look-tail-requires
 look-tail-requires c κs = search needs
 
-enum-known-list : tie.Need-enum-known-list
-enum-known-list c = search needs
+enum-known-lists : tie.Need-enum-known-lists
+enum-known-lists c = search needs
 
 returns : tie.Need-returns
 returns c =
@@ -23,7 +23,7 @@ returns c =
 returns-2 : tie.Need-returns-2
 returns-2 c =
     let a = c .before .before .before .before .args in
-    sym (ap (λ (l : Looked). verdictBehind l (verdictOf (tailIn (a .s .now) (a .at)))) (c .before .list .given .1))
+    sym (ap (λ (l : Looked). verdictBehind l (verdictOf (tailIn (a .s .now) (a .at)))) (c .before .lists .given .1))
 
 pub tail-behind-spec : {M : Type 1} → statement M
 tail-behind-spec =
@@ -31,6 +31,6 @@ tail-behind-spec =
     (tie.spec
     enum-told
     look-tail-requires
-    enum-known-list
+    enum-known-lists
     returns
     returns-2)

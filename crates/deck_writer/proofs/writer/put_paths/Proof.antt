@@ -42,8 +42,8 @@ mul-count c = search needs
 shared-slice-read-count : tie.Need-shared-slice-read-count Inv-loop μ-loop
 shared-slice-read-count c = search needs
 
-put-path-requires : tie.Need-put-path-requires Inv-loop μ-loop
-put-path-requires c κs =
+put-counted-requires : tie.Need-put-counted-requires Inv-loop μ-loop
+put-counted-requires c κs =
     let l = c .before .before in
     let a = l .before .before .before .before .before .args in
     (omega (arith, sum-drop (a .lengths .now) (l .before .loop .k) (omega arith)), left-fits _ _ _ _ _ (left l))
@@ -70,7 +70,7 @@ loop-again c =
     let e = c .wide .ensures in
     let d = sum-drop (a .lengths .now) (l .before .loop .k) (omega arith) in
     let i = l .before .loop .inv .1 in
-    (omega arith, omega arith, rw e (left-turn _ _ _ _ _ (left l) (c .before .before .before .put-path .ensures)))
+    (omega arith, omega arith, rw e (left-turn _ _ _ _ _ (left l) (c .before .before .before .put-counted .ensures)))
 
 same-length : tie.Need-same-length Inv-loop μ-loop
 same-length c = c .before .loop .inv .2 .long
@@ -89,7 +89,7 @@ put-paths-spec =
     loop-holds
     mul-count
     shared-slice-read-count
-    put-path-requires
+    put-counted-requires
     wide-requires
     add-from
     add-k

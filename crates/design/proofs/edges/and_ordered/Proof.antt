@@ -14,7 +14,7 @@ use Rattle.design.proofs.edges.and_ordered.Statement.{statement}
 use Rattle.design.proofs.edges.and_ordered.Tie as tie
 
 abbrev Inv-loop : tie.InvT-loop
-Inv-loop m early late k₀ k = (k ≤ m) × (firstBad 15 (earlyAboveLate (design 0 [] [] early late)) k (upto (m - k) k) ≡ firstBad 15 (earlyAboveLate (design 0 [] [] early late)) 0 (upto m 0))
+Inv-loop m early late k₀ k = (k ≤ m) × (firstBad 15 (earlyAboveLate (design 0 [] [] early late [])) k (upto (m - k) k) ≡ firstBad 15 (earlyAboveLate (design 0 [] [] early late [])) 0 (upto m 0))
 
 abbrev μ-loop : tie.MeasureT-loop
 μ-loop m early late k₀ k = m - k
@@ -29,7 +29,7 @@ returns : tie.Need-returns Inv-loop μ-loop
 returns c = search needs
 
 loop-holds : tie.Need-loop-holds Inv-loop μ-loop
-loop-holds c = let a = c .before .before .args in (omega arith, all-left 15 (earlyAboveLate (design 0 [] [] (a .early .now) (a .late .now))) (a .m))
+loop-holds c = let a = c .before .before .args in (omega arith, all-left 15 (earlyAboveLate (design 0 [] [] (a .early .now) (a .late .now) [])) (a .m))
 
 early-above-late-requires : tie.Need-early-above-late-requires Inv-loop μ-loop
 early-above-late-requires c κs = search needs
@@ -45,7 +45,7 @@ returns-2 c =
     let a = l .before .before .before .args in
     rw (l .before .enum-told .given .1)
     (ap Refused (c .refuse .ensures)
-    ∙ sym (bad-here 15 (earlyAboveLate (design 0 [] [] (a .early .now) (a .late .now))) (l .loop .k) (a .m) (i .loop-test .taken) (sym (u .early-above-late .ensures) ∙ c .before .if1 .taken))
+    ∙ sym (bad-here 15 (earlyAboveLate (design 0 [] [] (a .early .now) (a .late .now) [])) (l .loop .k) (a .m) (i .loop-test .taken) (sym (u .early-above-late .ensures) ∙ c .before .if1 .taken))
     ∙ l .loop .inv .1)
 
 add-k : tie.Need-add-k Inv-loop μ-loop
@@ -60,13 +60,13 @@ loop-again c =
     let i = u .before in
     let l = i .before in
     let a = l .before .before .before .args in
-    (omega arith, good-here 15 (earlyAboveLate (design 0 [] [] (a .early .now) (a .late .now))) (l .loop .k) (a .m) (i .loop-test .taken) (sym (u .early-above-late .ensures) ∙ c .if1 .left) ∙ l .loop .inv .1)
+    (omega arith, good-here 15 (earlyAboveLate (design 0 [] [] (a .early .now) (a .late .now) [])) (l .loop .k) (a .m) (i .loop-test .taken) (sym (u .early-above-late .ensures) ∙ c .if1 .left) ∙ l .loop .inv .1)
 
 returns-3 : tie.Need-returns-3 Inv-loop μ-loop
 returns-3 c =
     let l = c .before in
     let a = l .before .before .before .args in
-    rw (l .before .enum-told .given .1) (sym (none-left 15 (earlyAboveLate (design 0 [] [] (a .early .now) (a .late .now))) (l .loop .k) (a .m) (c .loop-test .left)) ∙ l .loop .inv .1)
+    rw (l .before .enum-told .given .1) (sym (none-left 15 (earlyAboveLate (design 0 [] [] (a .early .now) (a .late .now) [])) (l .loop .k) (a .m) (c .loop-test .left)) ∙ l .loop .inv .1)
 
 pub and-ordered-spec : {M : Type 1} → statement M
 and-ordered-spec =

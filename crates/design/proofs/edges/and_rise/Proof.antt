@@ -16,7 +16,7 @@ use Rattle.design.proofs.edges.and_rise.Statement.{statement}
 use Rattle.design.proofs.edges.and_rise.Tie as tie
 
 abbrev Inv-loop : tie.InvT-loop
-Inv-loop starts ends k₀ k = (k ≤ length starts) × (firstBad 13 (falls (design 0 starts ends [] [])) k (upto (length starts - k) k) ≡ firstBad 13 (falls (design 0 starts ends [] [])) 0 (upto (length starts) 0))
+Inv-loop starts ends k₀ k = (k ≤ length starts) × (firstBad 13 (falls (design 0 starts ends [] [] [])) k (upto (length starts - k) k) ≡ firstBad 13 (falls (design 0 starts ends [] [] [])) 0 (upto (length starts) 0))
 
 abbrev μ-loop : tie.MeasureT-loop
 μ-loop starts ends k₀ k = length starts - k
@@ -31,7 +31,7 @@ returns : tie.Need-returns Inv-loop μ-loop
 returns c = search needs
 
 loop-holds : tie.Need-loop-holds Inv-loop μ-loop
-loop-holds c = let a = c .before .before .before .before .args in (omega arith, all-left 13 (falls (design 0 (a .starts .now) (a .ends .now) [] [])) (length (a .starts .now)))
+loop-holds c = let a = c .before .before .before .before .args in (omega arith, all-left 13 (falls (design 0 (a .starts .now) (a .ends .now) [] [] [])) (length (a .starts .now)))
 
 rises-requires : tie.Need-rises-requires Inv-loop μ-loop
 rises-requires c κs = search needs
@@ -47,7 +47,7 @@ returns-2 c =
     let a = l .before .before .before .before .before .args in
     rw (l .before .enum-told .given .1)
     (ap Refused (c .refuse .ensures)
-    ∙ sym (bad-here 13 (falls (design 0 (a .starts .now) (a .ends .now) [] [])) (l .loop .k) (length (a .starts .now)) (i .loop-test .taken) (ap not (sym (u .rises .ensures)) ∙ c .before .if1 .taken))
+    ∙ sym (bad-here 13 (falls (design 0 (a .starts .now) (a .ends .now) [] [] [])) (l .loop .k) (length (a .starts .now)) (i .loop-test .taken) (ap not (sym (u .rises .ensures)) ∙ c .before .if1 .taken))
     ∙ l .loop .inv .1)
 
 add-k : tie.Need-add-k Inv-loop μ-loop
@@ -62,13 +62,13 @@ loop-again c =
     let i = u .before in
     let l = i .before in
     let a = l .before .before .before .before .before .args in
-    (omega arith, good-here 13 (falls (design 0 (a .starts .now) (a .ends .now) [] [])) (l .loop .k) (length (a .starts .now)) (i .loop-test .taken) (ap not (sym (u .rises .ensures)) ∙ c .if1 .left) ∙ l .loop .inv .1)
+    (omega arith, good-here 13 (falls (design 0 (a .starts .now) (a .ends .now) [] [] [])) (l .loop .k) (length (a .starts .now)) (i .loop-test .taken) (ap not (sym (u .rises .ensures)) ∙ c .if1 .left) ∙ l .loop .inv .1)
 
 returns-3 : tie.Need-returns-3 Inv-loop μ-loop
 returns-3 c =
     let l = c .before in
     let a = l .before .before .before .before .before .args in
-    rw (l .before .enum-told .given .1) (sym (none-left 13 (falls (design 0 (a .starts .now) (a .ends .now) [] [])) (l .loop .k) (length (a .starts .now)) (c .loop-test .left)) ∙ l .loop .inv .1)
+    rw (l .before .enum-told .given .1) (sym (none-left 13 (falls (design 0 (a .starts .now) (a .ends .now) [] [] [])) (l .loop .k) (length (a .starts .now)) (c .loop-test .left)) ∙ l .loop .inv .1)
 
 pub and-rise-spec : {M : Type 1} → statement M
 and-rise-spec =

@@ -1,14 +1,14 @@
 -- Each slice is filled below i, and what is left comes from here on.
 use Prim.Native.Nat.{_-_, _≤_}
 use native.Mathlib.Omega.{arith}
-use borrow.Author.Needs.{needs}
+use Rattle.timing.specs.Looks.{rowAt, rowEnd}
 use Rattle.graph_reader.proofs.Filling.{Column, column-all, column-turn, column-none}
 use Rattle.graph_reader.proofs.reader.fill_rows.Statement.{statement}
 use Rattle.graph_reader.proofs.reader.fill_rows.Tie as tie
 
 abbrev Inv-loop : tie.InvT-loop
 Inv-loop s at m from₀ to₀ via₀ here₀ i₀ from to via here i =
-    (i ≤ m) × Column s (λ q. q .first) m at from₀ here i from × Column s (λ q. q .second) m at to₀ here i to × Column s (λ q. q .third) m at via₀ here i via
+    (i ≤ m) × Column (rowAt s) (rowEnd s) (λ q. q .first) m at from₀ here i from × Column (rowAt s) (rowEnd s) (λ q. q .second) m at to₀ here i to × Column (rowAt s) (rowEnd s) (λ q. q .third) m at via₀ here i via
 
 abbrev μ-loop : tie.MeasureT-loop
 μ-loop s at m from₀ to₀ via₀ here₀ i₀ from to via here i = m - i
@@ -16,7 +16,7 @@ abbrev μ-loop : tie.MeasureT-loop
 loop-holds : tie.Need-loop-holds Inv-loop μ-loop
 loop-holds c =
     let a = c .before .before .before .before .args in
-    (omega arith, column-all (a .s .now) (λ q. q .first) (a .m) (a .at) (a .room-from .now), column-all (a .s .now) (λ q. q .second) (a .m) (a .at) (a .room-to .now), column-all (a .s .now) (λ q. q .third) (a .m) (a .at) (a .room-via .now))
+    (omega arith, column-all (rowAt (a .s .now)) (rowEnd (a .s .now)) (λ q. q .first) (a .m) (a .at) (a .room-from .now), column-all (rowAt (a .s .now)) (rowEnd (a .s .now)) (λ q. q .second) (a .m) (a .at) (a .room-to .now), column-all (rowAt (a .s .now)) (rowEnd (a .s .now)) (λ q. q .third) (a .m) (a .at) (a .room-via .now))
 
 fill-row-requires : tie.Need-fill-row-requires Inv-loop μ-loop
 fill-row-requires c κs =
@@ -38,9 +38,9 @@ loop-again c =
     let h = r .before .before .before .before .loop-test .taken in
     let e = r .fill-row .ensures in (
       omega arith,
-      column-turn (a .s .now) (λ q. q .first) (a .m) (a .at) (a .room-from .now) (l .loop .here) (l .loop .i) (l .loop .room-from) _ _ h (e .0) (e .1) (l .loop .inv .1),
-      column-turn (a .s .now) (λ q. q .second) (a .m) (a .at) (a .room-to .now) (l .loop .here) (l .loop .i) (l .loop .room-to) _ _ h (e .0) (e .2) (l .loop .inv .2),
-      column-turn (a .s .now) (λ q. q .third) (a .m) (a .at) (a .room-via .now) (l .loop .here) (l .loop .i) (l .loop .room-via) _ _ h (e .0) (e .3) (l .loop .inv .3),
+      column-turn (rowAt (a .s .now)) (rowEnd (a .s .now)) (λ q. q .first) (a .m) (a .at) (a .room-from .now) (l .loop .here) (l .loop .i) (l .loop .room-from) _ _ h (e .0) (e .1) (l .loop .inv .1),
+      column-turn (rowAt (a .s .now)) (rowEnd (a .s .now)) (λ q. q .second) (a .m) (a .at) (a .room-to .now) (l .loop .here) (l .loop .i) (l .loop .room-to) _ _ h (e .0) (e .2) (l .loop .inv .2),
+      column-turn (rowAt (a .s .now)) (rowEnd (a .s .now)) (λ q. q .third) (a .m) (a .at) (a .room-via .now) (l .loop .here) (l .loop .i) (l .loop .room-via) _ _ h (e .0) (e .3) (l .loop .inv .3),
     )
 
 same-length : tie.Need-same-length Inv-loop μ-loop
@@ -57,9 +57,9 @@ returns c =
     let l = c .before in
     let a = l .before .before .before .before .before .args in
     let h = c .loop-test .left in (
-      column-none (a .s .now) (λ q. q .first) (a .m) (a .at) (a .room-from .now) (l .loop .here) (l .loop .i) (l .loop .room-from) h (l .loop .inv .1),
-      column-none (a .s .now) (λ q. q .second) (a .m) (a .at) (a .room-to .now) (l .loop .here) (l .loop .i) (l .loop .room-to) h (l .loop .inv .2),
-      column-none (a .s .now) (λ q. q .third) (a .m) (a .at) (a .room-via .now) (l .loop .here) (l .loop .i) (l .loop .room-via) h (l .loop .inv .3),
+      column-none (rowAt (a .s .now)) (rowEnd (a .s .now)) (λ q. q .first) (a .m) (a .at) (a .room-from .now) (l .loop .here) (l .loop .i) (l .loop .room-from) h (l .loop .inv .1),
+      column-none (rowAt (a .s .now)) (rowEnd (a .s .now)) (λ q. q .second) (a .m) (a .at) (a .room-to .now) (l .loop .here) (l .loop .i) (l .loop .room-to) h (l .loop .inv .2),
+      column-none (rowAt (a .s .now)) (rowEnd (a .s .now)) (λ q. q .third) (a .m) (a .at) (a .room-via .now) (l .loop .here) (l .loop .i) (l .loop .room-via) h (l .loop .inv .3),
     )
 
 pub fill-rows-spec : {M : Type 1} → statement M

@@ -14,8 +14,8 @@ enum-known-r c = search needs
 wide-requires : tie.Need-wide-requires
 wide-requires c κs = search needs
 
-look-numbers-requires : tie.Need-look-numbers-requires
-look-numbers-requires c κs = search needs
+look-copies-requires : tie.Need-look-copies-requires
+look-copies-requires c κs = search needs
 
 enum-known-q : tie.Need-enum-known-q
 enum-known-q c = search needs
@@ -35,7 +35,7 @@ returns c =
     let n = w .before .before .before .before .before in
     let a = n .before .before .args in
     let v = w .before .wide .ensures in
-    let l = rw v at (w .look-numbers .ensures) in
+    let l = rw v at (w .look-copies .ensures) in
     c .look-edges .ensures
     ∙ graph-rest (a .s .now) (a .copies) (a .edges) _ _ (sym (n .look-count .ensures) ∙ w .before .before .before .r .given .1) _ (sym l ∙ c .before .before .q .given .1)
 
@@ -45,7 +45,7 @@ returns-2 c =
     let n = w .before .before .before .before .before in
     let a = n .before .before .args in
     let v = w .before .wide .ensures in
-    let l = rw v at (w .look-numbers .ensures) in
+    let l = rw v at (w .look-copies .ensures) in
     graph-stop (a .s .now) (a .copies) (a .edges) _ _ (sym (n .look-count .ensures) ∙ w .before .before .before .r .given .1) _ (sym l ∙ c .before .q2 .given .1)
 
 returns-3 : tie.Need-returns-3
@@ -61,7 +61,7 @@ look-spec =
     look-count-requires
     enum-known-r
     wide-requires
-    look-numbers-requires
+    look-copies-requires
     enum-known-q
     look-edges-requires
     enum-known-q-2

@@ -3,7 +3,7 @@ use Prim.Native.Nat.{_+_, _-_, _≤_, _<_}
 use native.Mathlib.Omega.{arith}
 use mathlib.Core.Path.{_∙_}
 use mathlib.Core.List.{[], _∷_}
-use lib.ListN.{length, getD, drop}
+use lib.ListN.{length, getD}
 use borrow.Author.Needs.{needs}
 use Rattle.graph_writer.specs.Writing.{Left, rowsFrom}
 use Rattle.graph_writer.proofs.Writing.{left-all, left-turn, left-wrote, left-none, rows-turn, rows-done}

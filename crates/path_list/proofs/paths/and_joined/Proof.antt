@@ -22,7 +22,7 @@ use Rattle.path_list.proofs.paths.and_joined.Tie as tie
 
 -- whether two edges join, by as much of the design as is read
 abbrev meet : List ℕ → List ℕ → ℕ → ℕ → Bool
-meet starts ends = meets (design 0 starts ends [] [])
+meet starts ends = meets (design 0 starts ends [] [] [])
 
 abbrev Inv-loop : tie.InvT-loop
 Inv-loop starts ends listed lengths p from found₀ to path i₀ found i =

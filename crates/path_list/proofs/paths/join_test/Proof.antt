@@ -38,7 +38,7 @@ returns c =
     let j = k .before in
     let s = j .before .before .before .before in
     let a = s .args in
-    edge-joins (design 0 (a .starts .now) (a .ends .now) [] []) (a .path .now) (a .i) (s .pre .0) (s .pre .1) (s .pre .2)
+    edge-joins (design 0 (a .starts .now) (a .ends .now) [] [] []) (a .path .now) (a .i) (s .pre .0) (s .pre .1) (s .pre .2)
     (end .number-at3 .result) (start .number-at4 .result)
     (end .number-at3 .ensures ∙ ap (λ (e : ℕ). getD (a .ends .now) e 0) (j .number-at .ensures))
     (start .number-at4 .ensures ∙ ap (λ (e : ℕ). getD (a .starts .now) e 0) (k .number-at2 .ensures))
@@ -52,7 +52,7 @@ returns-2 c =
     let j = k .before in
     let s = j .before .before .before .before in
     let a = s .args in
-    edge-breaks (design 0 (a .starts .now) (a .ends .now) [] []) (a .path .now) (a .i) (s .pre .0) (s .pre .1) (s .pre .2)
+    edge-breaks (design 0 (a .starts .now) (a .ends .now) [] [] []) (a .path .now) (a .i) (s .pre .0) (s .pre .1) (s .pre .2)
     (end .number-at3 .result) (start .number-at4 .result)
     (end .number-at3 .ensures ∙ ap (λ (e : ℕ). getD (a .ends .now) e 0) (j .number-at .ensures))
     (start .number-at4 .ensures ∙ ap (λ (e : ℕ). getD (a .starts .now) e 0) (k .number-at2 .ensures))

@@ -1,6 +1,6 @@
 -- Each table meets what the next call asks, and all of them together are what is built.
 use borrow.Author.Needs.{needs}
-use Rattle.removal.proofs.Building.BuildLaws.{named-room, listed-few, rest-room, orderable, searchable, fillable, linkable-into, linkable-out, clear-room, built}
+use Rattle.removal.proofs.Building.BuildLaws.{named-room, listed-few, rest-room, orderable, searchable, fillable, linkable-into, clear-room, built}
 use Rattle.removal.proofs.build.build.Statement.{statement}
 use Rattle.removal.proofs.build.build.Tie as tie
 
@@ -55,8 +55,8 @@ link-edges-requires c κs =
     let b = st .pre in
     linkable-into (b .design) (b .list) (b .graph) (a .starts .now) (a .listed .now) (a .lengths .now) (a .nodes .now) (a .from .now) (a .to .now) (a .via .now) (b .given) (y .layout .result) (y .layout .ensures) (a .scratch .now) (b .room) (f .fill-rest .last .0) (f .fill-rest .ensures) (o .fill-tables .last .1 .1 .1 .1 .0) (o .fill-tables .ensures .0) (h .fill-bounds .last .1 .1 .1 .1 .1 .0) (h .fill-bounds .result) (h .fill-bounds .ensures)
 
-link-named-requires : tie.Need-link-named-requires
-link-named-requires c κs =
+name-edges-requires : tie.Need-name-edges-requires
+name-edges-requires c κs =
     let y = c .before .before .before .before .before .before .before .before .before .before .before .before .before .before .before .before .before .before .before .before in
     let f = c .before .before .before .before .before .before .before .before .before .before .before .before .before .before .before .before .before .before in
     let o = c .before .before .before .before .before .before .before .before .before .before .before .before .before in
@@ -65,7 +65,7 @@ link-named-requires c κs =
     let st = c .before .before .before .before .before .before .before .before .before .before .before .before .before .before .before .before .before .before .before .before .before .before .before .before .before .before .before .before .before in
     let a = st .args in
     let b = st .pre in
-    (linkable-out (b .design) (b .list) (b .graph) (a .starts .now) (a .listed .now) (a .lengths .now) (a .nodes .now) (a .from .now) (a .to .now) (a .via .now) (b .given) (y .layout .result) (y .layout .ensures) (a .scratch .now) (b .room) (f .fill-rest .last .0) (f .fill-rest .ensures) (o .fill-tables .last .1 .1 .1 .1 .0) (o .fill-tables .ensures .0) (h .fill-bounds .last .1 .1 .1 .1 .1 .0) (h .fill-bounds .result) (h .fill-bounds .ensures) (i .link-edges .last .0) (i .link-edges .ensures), named-room (b .design) (b .list) (b .graph) (a .starts .now) (a .listed .now) (a .lengths .now) (a .nodes .now) (a .from .now) (a .to .now) (a .via .now) (b .given) (y .layout .result) (y .layout .ensures) (a .scratch .now) (b .room) (f .fill-rest .last .0) (f .fill-rest .ensures) (o .fill-tables .last .1 .1 .1 .1 .0) (o .fill-tables .ensures .0) (h .fill-bounds .last .1 .1 .1 .1 .1 .0) (h .fill-bounds .result) (h .fill-bounds .ensures) (i .link-edges .last .0) (i .link-edges .ensures))
+    named-room (b .design) (b .list) (b .graph) (a .starts .now) (a .listed .now) (a .lengths .now) (a .nodes .now) (a .from .now) (a .to .now) (a .via .now) (b .given) (y .layout .result) (y .layout .ensures) (a .scratch .now) (b .room) (f .fill-rest .last .0) (f .fill-rest .ensures) (o .fill-tables .last .1 .1 .1 .1 .0) (o .fill-tables .ensures .0) (h .fill-bounds .last .1 .1 .1 .1 .1 .0) (h .fill-bounds .result) (h .fill-bounds .ensures) (i .link-edges .last .0) (i .link-edges .ensures)
 
 cast-clear : tie.Need-cast-clear
 cast-clear c = search needs
@@ -81,7 +81,7 @@ clear-requires c κs =
     let st = c .before .before .before .before .before .before .before .before .before .before .before .before .before .before .before .before .before .before .before .before .before .before .before .before .before .before .before .before .before .before .before .before .before in
     let a = st .args in
     let b = st .pre in
-    clear-room (b .design) (b .list) (b .graph) (a .starts .now) (a .listed .now) (a .lengths .now) (a .nodes .now) (a .from .now) (a .to .now) (a .via .now) (b .given) (y .layout .result) (y .layout .ensures) (a .scratch .now) (b .room) (f .fill-rest .last .0) (f .fill-rest .ensures) (o .fill-tables .last .1 .1 .1 .1 .0) (o .fill-tables .ensures .0) (h .fill-bounds .last .1 .1 .1 .1 .1 .0) (h .fill-bounds .result) (h .fill-bounds .ensures) (i .link-edges .last .0) (i .link-edges .ensures) (e .link-named .last .0) (e .link-named .ensures)
+    clear-room (b .design) (b .list) (b .graph) (a .starts .now) (a .listed .now) (a .lengths .now) (a .nodes .now) (a .from .now) (a .to .now) (a .via .now) (b .given) (y .layout .result) (y .layout .ensures) (a .scratch .now) (b .room) (f .fill-rest .last .0) (f .fill-rest .ensures) (o .fill-tables .last .1 .1 .1 .1 .0) (o .fill-tables .ensures .0) (h .fill-bounds .last .1 .1 .1 .1 .1 .0) (h .fill-bounds .result) (h .fill-bounds .ensures) (i .link-edges .last .0) (i .link-edges .ensures) (e .name-edges .last .1 .1 .0) (e .name-edges .ensures)
 
 same-length : tie.Need-same-length
 same-length c =
@@ -95,7 +95,7 @@ same-length c =
     let st = c .before .before .before .before .before .before .before .before .before .before .before .before .before .before .before .before .before .before .before .before .before .before .before .before .before .before .before .before .before .before .before .before .before .before .before .before in
     let a = st .args in
     let b = st .pre in
-    (built (a .starts .now) (a .listed .now) (a .lengths .now) (a .nodes .now) (a .from .now) (a .to .now) (a .via .now) (a .scratch .now) (f .fill-rest .last .0) (o .fill-tables .last .1 .1 .1 .1 .0) (h .fill-bounds .last .1 .1 .1 .1 .1 .0) (i .link-edges .last .0) (e .link-named .last .0) (w .clear .last .0) (y .layout .result) (h .fill-bounds .result) b (y .layout .ensures) (f .fill-rest .ensures) (o .fill-tables .ensures .0) (h .fill-bounds .ensures) (i .link-edges .ensures) (e .link-named .ensures) (w .clear .ensures)) .size
+    (built (a .starts .now) (a .listed .now) (a .lengths .now) (a .nodes .now) (a .from .now) (a .to .now) (a .via .now) (a .scratch .now) (f .fill-rest .last .0) (o .fill-tables .last .1 .1 .1 .1 .0) (h .fill-bounds .last .1 .1 .1 .1 .1 .0) (i .link-edges .last .0) (e .name-edges .last .1 .1 .0) (w .clear .last .0) (y .layout .result) (h .fill-bounds .result) b (y .layout .ensures) (f .fill-rest .ensures) (o .fill-tables .ensures .0) (h .fill-bounds .ensures) (i .link-edges .ensures) (e .name-edges .ensures) (w .clear .ensures)) .size
 
 returns : tie.Need-returns
 returns c =
@@ -109,7 +109,7 @@ returns c =
     let st = c .before .before .before .before .before .before .before .before .before .before .before .before .before .before .before .before .before .before .before .before .before .before .before .before .before .before .before .before .before .before .before .before .before .before .before .before in
     let a = st .args in
     let b = st .pre in
-    built (a .starts .now) (a .listed .now) (a .lengths .now) (a .nodes .now) (a .from .now) (a .to .now) (a .via .now) (a .scratch .now) (f .fill-rest .last .0) (o .fill-tables .last .1 .1 .1 .1 .0) (h .fill-bounds .last .1 .1 .1 .1 .1 .0) (i .link-edges .last .0) (e .link-named .last .0) (w .clear .last .0) (y .layout .result) (h .fill-bounds .result) b (y .layout .ensures) (f .fill-rest .ensures) (o .fill-tables .ensures .0) (h .fill-bounds .ensures) (i .link-edges .ensures) (e .link-named .ensures) (w .clear .ensures)
+    built (a .starts .now) (a .listed .now) (a .lengths .now) (a .nodes .now) (a .from .now) (a .to .now) (a .via .now) (a .scratch .now) (f .fill-rest .last .0) (o .fill-tables .last .1 .1 .1 .1 .0) (h .fill-bounds .last .1 .1 .1 .1 .1 .0) (i .link-edges .last .0) (e .name-edges .last .1 .1 .0) (w .clear .last .0) (y .layout .result) (h .fill-bounds .result) b (y .layout .ensures) (f .fill-rest .ensures) (o .fill-tables .ensures .0) (h .fill-bounds .ensures) (i .link-edges .ensures) (e .name-edges .ensures) (w .clear .ensures)
 
 pub build-spec : {M : Type 1} → statement M
 build-spec =
@@ -122,7 +122,7 @@ build-spec =
     slice-aggregate-fill-bounds
     fill-bounds-requires
     link-edges-requires
-    link-named-requires
+    name-edges-requires
     cast-clear
     clear-requires
     same-length

@@ -8,9 +8,9 @@ use Rattle.removal.proofs.remove.remove.Tie as tie
 
 count-candidates-requires : tie.Need-count-candidates-requires
 count-candidates-requires c κs =
-    let st = c .before .before .before .before .before .before .before .before .before .before .before .before in
+    let st = c .before .before .before .before .before .before .before .before .before .before .before .before .before .before in
     let a = st .args in
-    work-countable (a .starts .now) (a .listed .now) (a .lengths .now) (a .nodes .now) (a .from .now) (a .to .now) (a .via .now) (st .pre .0)
+    work-countable (a .starts .now) (a .listed .now) (a .lengths .now) (a .nodes .now) (a .endpoint .now) (a .from .now) (a .to .now) (a .via .now) (st .pre .0)
 
 scratch-test-requires : tie.Need-scratch-test-requires
 scratch-test-requires c κs = search needs
@@ -22,8 +22,8 @@ returns : tie.Need-returns
 returns c =
     let w = c .before .before .before in
     let k = w .before in
-    let a = k .before .before .before .before .before .before .before .before .before .before .before .before .before .args in
-    removed-refused (a .starts .now) (a .listed .now) (a .lengths .now) (a .nodes .now) (a .from .now) (a .to .now) (a .via .now) (k .count-candidates .result) (k .count-candidates .ensures) (a .room-nodes .now) (a .room-from .now) (a .room-to .now) (a .room-via .now) (a .scratch .now) (c .before .verdict .given .0 .0) (sym (w .scratch-test .ensures) ∙ c .before .verdict .given .1)
+    let a = k .before .before .before .before .before .before .before .before .before .before .before .before .before .before .before .args in
+    removed-refused (a .starts .now) (a .listed .now) (a .lengths .now) (a .nodes .now) (a .endpoint .now) (a .from .now) (a .to .now) (a .via .now) (k .count-candidates .result) (k .count-candidates .ensures) (a .room-nodes .now) (a .room-endpoint .now) (a .room-from .now) (a .room-to .now) (a .room-via .now) (a .scratch .now) (c .before .verdict .given .0 .0) (sym (w .scratch-test .ensures) ∙ c .before .verdict .given .1)
 
 enum-told : tie.Need-enum-told
 enum-told c = search needs
@@ -32,14 +32,14 @@ search-requires : tie.Need-search-requires
 search-requires c κs =
     let w = c .before .before .before in
     let k = w .before in
-    let st = k .before .before .before .before .before .before .before .before .before .before .before .before .before in
+    let st = k .before .before .before .before .before .before .before .before .before .before .before .before .before .before .before in
     let a = st .args in
-    work-in (a .starts .now) (a .listed .now) (a .lengths .now) (a .nodes .now) (a .from .now) (a .to .now) (a .via .now) (k .count-candidates .result) (k .count-candidates .ensures) (a .scratch .now) (st .pre .0) (sym (w .scratch-test .ensures) ∙ c .before .enum-told .given .1)
+    work-in (a .starts .now) (a .listed .now) (a .lengths .now) (a .nodes .now) (a .endpoint .now) (a .from .now) (a .to .now) (a .via .now) (k .count-candidates .result) (k .count-candidates .ensures) (a .scratch .now) (st .pre .0) (sym (w .scratch-test .ensures) ∙ c .before .enum-told .given .1)
 
 write-result-requires : tie.Need-write-result-requires
 write-result-requires c κs =
-    let s = c .before .before .before .before .before .before .before in
-    (s .search .ensures .all, s .before .before .before .before .before .before .before .before .before .before .before .before .before .before .before .before .before .before .pre .1)
+    let s = c .before .before .before .before .before .before .before .before in
+    (s .search .ensures .all, s .before .before .before .before .before .before .before .before .before .before .before .before .before .before .before .before .before .before .before .before .pre .1)
 
 zero-requires : tie.Need-zero-requires
 zero-requires c κs = search needs
@@ -59,16 +59,19 @@ same-length-4 c = search needs
 same-length-5 : tie.Need-same-length-5
 same-length-5 c = search needs
 
+same-length-6 : tie.Need-same-length-6
+same-length-6 c = search needs
+
 returns-2 : tie.Need-returns-2
 returns-2 c =
     let z = c .before .before in
-    let r = c .before .before .before .before .before .before .before .before .before .before .before .before in
-    let s = r .before .before .before .before .before .before .before .before in
+    let r = c .before .before .before .before .before .before .before .before .before .before .before .before .before .before in
+    let s = r .before .before .before .before .before .before .before .before .before in
     let w = s .before .before .before .before in
     let k = w .before in
-    let a = k .before .before .before .before .before .before .before .before .before .before .before .before .before .args in
-    removed-made (a .starts .now) (a .listed .now) (a .lengths .now) (a .nodes .now) (a .from .now) (a .to .now) (a .via .now) (k .count-candidates .result) (k .count-candidates .ensures) (a .room-nodes .now) (a .room-from .now) (a .room-to .now) (a .room-via .now) (a .scratch .now) (sym (w .scratch-test .ensures) ∙ s .before .before .enum-told .given .1) (r .write-result .result) (r .write-result .last .1 .1 .1 .1 .1 .1 .1 .1 .0) (r .write-result .last .1 .1 .1 .1 .1 .1 .1 .1 .1 .0) (r .write-result .last .1 .1 .1 .1 .1 .1 .1 .1 .1 .1 .0) (r .write-result .last .1 .1 .1 .1 .1 .1 .1 .1 .1 .1 .1 .0) (z .zero .last .0)
-    (search-removed (a .starts .now) (a .listed .now) (a .lengths .now) (a .nodes .now) (a .from .now) (a .to .now) (a .via .now) (a .room-nodes .now) (a .room-from .now) (a .room-to .now) (a .room-via .now) (a .scratch .now) (s .search .result .layout) (s .search .result .counts .copies) (s .search .result .counts .edges) (s .search .last .1 .1 .1 .1 .1 .1 .1 .0) (r .write-result .last .1 .1 .1 .1 .1 .1 .1 .1 .0) (r .write-result .last .1 .1 .1 .1 .1 .1 .1 .1 .1 .0) (r .write-result .last .1 .1 .1 .1 .1 .1 .1 .1 .1 .1 .0) (r .write-result .last .1 .1 .1 .1 .1 .1 .1 .1 .1 .1 .1 .0) (z .zero .last .0) (r .write-result .result) (s .search .ensures) (r .write-result .ensures) (z .zero .ensures))
+    let a = k .before .before .before .before .before .before .before .before .before .before .before .before .before .before .before .args in
+    removed-made (a .starts .now) (a .listed .now) (a .lengths .now) (a .nodes .now) (a .endpoint .now) (a .from .now) (a .to .now) (a .via .now) (k .count-candidates .result) (k .count-candidates .ensures) (a .room-nodes .now) (a .room-endpoint .now) (a .room-from .now) (a .room-to .now) (a .room-via .now) (a .scratch .now) (sym (w .scratch-test .ensures) ∙ s .before .before .enum-told .given .1) (r .write-result .result) (r .write-result .last .1 .1 .1 .1 .1 .1 .1 .1 .1 .0) (r .write-result .last .1 .1 .1 .1 .1 .1 .1 .1 .1 .1 .0) (r .write-result .last .1 .1 .1 .1 .1 .1 .1 .1 .1 .1 .1 .0) (r .write-result .last .1 .1 .1 .1 .1 .1 .1 .1 .1 .1 .1 .1 .0) (r .write-result .last .1 .1 .1 .1 .1 .1 .1 .1 .1 .1 .1 .1 .1 .0) (z .zero .last .0)
+    (search-removed (a .starts .now) (a .listed .now) (a .lengths .now) (a .nodes .now) (a .endpoint .now) (a .from .now) (a .to .now) (a .via .now) (a .room-nodes .now) (a .room-endpoint .now) (a .room-from .now) (a .room-to .now) (a .room-via .now) (a .scratch .now) (s .search .result .layout) (s .search .result .counts .copies) (s .search .result .counts .edges) (s .search .last .1 .1 .1 .1 .1 .1 .1 .1 .0) (r .write-result .last .1 .1 .1 .1 .1 .1 .1 .1 .1 .0) (r .write-result .last .1 .1 .1 .1 .1 .1 .1 .1 .1 .1 .0) (r .write-result .last .1 .1 .1 .1 .1 .1 .1 .1 .1 .1 .1 .0) (r .write-result .last .1 .1 .1 .1 .1 .1 .1 .1 .1 .1 .1 .1 .0) (r .write-result .last .1 .1 .1 .1 .1 .1 .1 .1 .1 .1 .1 .1 .1 .0) (z .zero .last .0) (r .write-result .result) (s .search .ensures) (r .write-result .ensures) (z .zero .ensures))
 
 pub remove-spec : {M : Type 1} → statement M
 remove-spec =
@@ -87,4 +90,5 @@ remove-spec =
     same-length-3
     same-length-4
     same-length-5
+    same-length-6
     returns-2)

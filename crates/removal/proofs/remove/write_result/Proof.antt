@@ -16,20 +16,20 @@ enum-known-verdict c = search needs
 returns : tie.Need-returns
 returns c =
     let w = c .before .before .before in
-    let st = w .before .before .before .before .before .before .before .before .before .before .before in
+    let st = w .before .before .before .before .before .before .before .before .before .before .before .before .before in
     let a = st .args in
-    room-refused (a .l) (a .listed .now) (a .nodes .now) (a .from .now) (a .to .now) (a .via .now) (a .scratch .now) (a .room-nodes .now) (a .room-from .now) (a .room-to .now) (a .room-via .now) (a .counts .copies) (a .counts .edges) (st .pre .0) (c .before .verdict .given .0 .0) (sym (w .room-tests .ensures) ∙ c .before .verdict .given .1)
+    room-refused (a .l) (a .listed .now) (a .nodes .now) (a .endpoint .now) (a .from .now) (a .to .now) (a .via .now) (a .scratch .now) (a .room-nodes .now) (a .room-endpoint .now) (a .room-from .now) (a .room-to .now) (a .room-via .now) (a .counts .copies) (a .counts .edges) (st .pre .0) (c .before .verdict .given .0 .0) (sym (w .room-tests .ensures) ∙ c .before .verdict .given .1)
 
 enum-told : tie.Need-enum-told
 enum-told c = search needs
 
 fill-all-requires : tie.Need-fill-all-requires
 fill-all-requires c κs =
-    let w = c .before .before .before .before .before .before in
-    let st = w .before .before .before .before .before .before .before .before .before .before .before in
+    let w = c .before .before .before .before .before .before .before in
+    let st = w .before .before .before .before .before .before .before .before .before .before .before .before .before in
     let a = st .args in
-    let h = counts-fit (a .counts .copies) (a .counts .edges) (length (a .room-nodes .now)) (length (a .room-from .now)) (sym (w .room-tests .ensures) ∙ c .before .before .before .before .enum-told .given .1) in
-    slots-room (a .l) (a .listed .now) (a .nodes .now) (a .from .now) (a .to .now) (a .via .now) (a .scratch .now) (a .room-nodes .now) (a .room-from .now) (a .room-to .now) (a .room-via .now) (a .counts .copies) (a .counts .edges) (st .pre .0) (st .pre .1) (h .0) (h .1)
+    let h = counts-fit (a .counts .copies) (a .counts .edges) (length (a .room-nodes .now)) (length (a .room-from .now)) (sym (w .room-tests .ensures) ∙ c .before .before .before .before .before .enum-told .given .1) in
+    (slots-room (a .l) (a .listed .now) (a .nodes .now) (a .endpoint .now) (a .from .now) (a .to .now) (a .via .now) (a .scratch .now) (a .room-nodes .now) (a .room-endpoint .now) (a .room-from .now) (a .room-to .now) (a .room-via .now) (a .counts .copies) (a .counts .edges) (st .pre .0) (st .pre .1) (h .0) (h .1), st .pre .0 .rows)
 
 same-length : tie.Need-same-length
 same-length c = search needs
@@ -43,13 +43,16 @@ same-length-3 c = search needs
 same-length-4 : tie.Need-same-length-4
 same-length-4 c = search needs
 
+same-length-5 : tie.Need-same-length-5
+same-length-5 c = search needs
+
 returns-2 : tie.Need-returns-2
 returns-2 c =
-    let f = c .before .before .before .before .before .before .before .before in
-    let w = f .before .before .before .before .before .before .before in
-    let st = w .before .before .before .before .before .before .before .before .before .before .before in
+    let f = c .before .before .before .before .before .before .before .before .before .before in
+    let w = f .before .before .before .before .before .before .before .before in
+    let st = w .before .before .before .before .before .before .before .before .before .before .before .before .before in
     let a = st .args in
-    room-made (a .l) (a .listed .now) (a .nodes .now) (a .from .now) (a .to .now) (a .via .now) (a .scratch .now) (a .room-nodes .now) (a .room-from .now) (a .room-to .now) (a .room-via .now) (a .counts .copies) (a .counts .edges) (st .pre .0) (sym (w .room-tests .ensures) ∙ f .before .before .before .before .before .enum-told .given .1) (f .fill-all .last .1 .1 .1 .1 .1 .1 .1 .0) (f .fill-all .last .1 .1 .1 .1 .1 .1 .1 .1 .0) (f .fill-all .last .1 .1 .1 .1 .1 .1 .1 .1 .1 .0) (f .fill-all .last .1 .1 .1 .1 .1 .1 .1 .1 .1 .1 .0) (f .fill-all .ensures)
+    room-made (a .l) (a .listed .now) (a .nodes .now) (a .endpoint .now) (a .from .now) (a .to .now) (a .via .now) (a .scratch .now) (a .room-nodes .now) (a .room-endpoint .now) (a .room-from .now) (a .room-to .now) (a .room-via .now) (a .counts .copies) (a .counts .edges) (st .pre .0) (sym (w .room-tests .ensures) ∙ f .before .before .before .before .before .before .enum-told .given .1) (f .fill-all .last .1 .1 .1 .1 .1 .1 .1 .1 .0) (f .fill-all .last .1 .1 .1 .1 .1 .1 .1 .1 .1 .0) (f .fill-all .last .1 .1 .1 .1 .1 .1 .1 .1 .1 .1 .0) (f .fill-all .last .1 .1 .1 .1 .1 .1 .1 .1 .1 .1 .1 .0) (f .fill-all .last .1 .1 .1 .1 .1 .1 .1 .1 .1 .1 .1 .1 .0) (f .fill-all .ensures)
 
 pub write-result-spec : {M : Type 1} → statement M
 write-result-spec =
@@ -64,4 +67,5 @@ write-result-spec =
     same-length-2
     same-length-3
     same-length-4
+    same-length-5
     returns-2)

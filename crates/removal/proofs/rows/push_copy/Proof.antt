@@ -7,14 +7,14 @@ use lib.ListN.{take}
 use Rattle.removal.specs.Chains.{edgesAt}
 use Rattle.removal.specs.Slots.{slots}
 use Rattle.removal.specs.Rows.{boundsIn}
-use Rattle.removal.specs.Reach.{Marking, FromList, FromBelow}
+use Rattle.removal.specs.Reach.{Flagging, FromList, FromBelow}
 use Rattle.removal.proofs.Reaching.RowLaws.{ready-held}
 use Rattle.removal.proofs.Reaching.ReachLaws.{ready-still, below-none, below-next, below-all}
 use Rattle.removal.proofs.rows.push_copy.Statement.{statement}
 use Rattle.removal.proofs.rows.push_copy.Tie as tie
 
 abbrev Inv-loop : tie.InvT-loop
-Inv-loop l listed from to via s₀ c count j₀ s j = (j ≤ count) × Marking l listed from to via (take (l .slots) s₀) s₀ s c (FromBelow (edgesAt to c (l .edges) 0) j)
+Inv-loop l listed from to via s₀ c count j₀ s j = (j ≤ count) × Flagging l listed from to via (take (l .slots) s₀) s₀ s c (FromBelow (edgesAt to c (l .edges) 0) j)
 
 abbrev μ-loop : tie.MeasureT-loop
 μ-loop l listed from to via s₀ c count j₀ s j = count - j
@@ -57,7 +57,7 @@ loop-again c =
     let u = m .last .1 .1 .1 .1 .1 .0 in (
       omega (arith, c .before .before .before .before .loop-test .taken),
       below-next (a .l) (a .listed .now) (a .from .now) (a .to .now) (a .via .now) (take (a .l .slots) (a .scratch .now)) (a .c) (r .design) (r .list) (r .graph) (r .tabled) (a .scratch .now) (w .scratch) u (w .j) (w .inv .1)
-          (subst (λ (q : List ℕ). Marking (a .l) (a .listed .now) (a .from .now) (a .to .now) (a .via .now) q (w .scratch) u (a .c) (FromList (edgesAt (a .to .now) (a .c) (a .l .edges) 0) (w .j))) (w .inv .1 .only .tables) (m .ensures)),
+          (subst (λ (q : List ℕ). Flagging (a .l) (a .listed .now) (a .from .now) (a .to .now) (a .via .now) q (w .scratch) u (a .c) (FromList (edgesAt (a .to .now) (a .c) (a .l .edges) 0) (w .j))) (w .inv .1 .only .tables) (m .ensures)),
     )
 
 same-length : tie.Need-same-length Inv-loop μ-loop

@@ -9,7 +9,7 @@ use Rattle.removal.specs.declared.step.Step.the-variants.{Live}
 use Rattle.removal.specs.Slots.{slots}
 use Rattle.removal.specs.Rows.{boundsIn, slotPlace}
 use Rattle.removal.specs.Along.{StepAlong}
-use Rattle.removal.specs.Reach.{Marking, FromSlot}
+use Rattle.removal.specs.Reach.{Flagging, FromSlot}
 use Rattle.removal.proofs.Reaching.RowLaws.{ready-held}
 use Rattle.removal.proofs.Stepping.AlongLaws.{edge-up, start-inside}
 use Rattle.removal.proofs.Reaching.ReachLaws.{marking-dead, marking-live, live-inside}
@@ -51,8 +51,8 @@ number-at-requires c κs = search needs
 cast-a : tie.Need-cast-a
 cast-a c = search needs
 
-mark-reached-requires : tie.Need-mark-reached-requires
-mark-reached-requires c κs =
+flag-reached-requires : tie.Need-flag-reached-requires
+flag-reached-requires c κs =
     let p = c .before .before .before .before .before .before .before .before .before .before .before .before in
     let a = p .args in
     let e = c .before .number-at .ensures in
@@ -71,8 +71,8 @@ returns c =
     let r = p .pre .0 in
     let st = c .before .before .before .before .before .before in
     let i = st .step .given .0 .0 in
-    subst (λ (t : List ℕ). Marking (a .l) (a .listed .now) (a .from .now) (a .to .now) (a .via .now) (take (a .l .slots) (a .scratch .now)) (a .scratch .now) t (getD (a .to .now) (a .e) 0) (FromSlot (a .e) (a .j)))
-    (sym (c .before .before .mark-reached .ensures ∙ ap (λ (x : ℕ). set (a .scratch .now) (slotPlace (a .l) (take (a .l .slots) (a .scratch .now)) x i) 1) (c .before .before .before .before .number-at .ensures)))
+    subst (λ (t : List ℕ). Flagging (a .l) (a .listed .now) (a .from .now) (a .to .now) (a .via .now) (take (a .l .slots) (a .scratch .now)) (a .scratch .now) t (getD (a .to .now) (a .e) 0) (FromSlot (a .e) (a .j)))
+    (sym (c .before .before .flag-reached .ensures ∙ ap (λ (x : ℕ). set (a .scratch .now) (slotPlace (a .l) (take (a .l .slots) (a .scratch .now)) x i) 1) (c .before .before .before .before .number-at .ensures)))
     (marking-live (a .l) (a .listed .now) (a .from .now) (a .to .now) (a .via .now) (take (a .l .slots) (a .scratch .now)) (a .scratch .now) (a .e) (a .j) i (live-step st) (r .room) (starts p)
     (edge-up (r .design) (r .list) (r .graph) (a .l) (a .listed .now) (a .from .now) (a .to .now) (a .via .now) (take (a .l .slots) (a .scratch .now)) (r .tabled) (a .e) (p .pre .1)) (live-slot st) (p .pre .2) (p .pre .3))
 
@@ -93,7 +93,7 @@ push-edge-spec =
     enum-known-step
     number-at-requires
     cast-a
-    mark-reached-requires
+    flag-reached-requires
     enum-told
     same-length
     returns

@@ -6,7 +6,7 @@ use mathlib.Core.List.{List}
 use lib.ListN.{getD, take}
 use borrow.Author.Needs.{needs}
 use Rattle.removal.specs.Table.{table}
-use Rattle.removal.specs.Reach.{Marking, FromSlot}
+use Rattle.removal.specs.Reach.{Flagging, FromSlot}
 use Rattle.removal.proofs.Building.ChainLaws.{chainLeft}
 use Rattle.removal.proofs.Reaching.ReachLaws.{ready-still}
 use Rattle.removal.proofs.Reaching.CopyLaws.{Chaining, read-table, chaining-start, chaining-edge, chaining-slot, chaining-less, chaining-turn, chaining-done}
@@ -44,10 +44,10 @@ next-is c =
     let a = p .args in
     let m = c .before .before .before .before .before in
     c .number-at2 .ensures
-    ∙ read-table (m .push-edge .last .1 .1 .1 .1 .1 .0) (take (a .l .slots) (a .scratch .now)) (a .l .slots) (a .l .into + a .l .copies) (a .l .edges) (c .before .before .before .before .before .before .before .before .loop .h - 1) (same-tables m) (edge-of (c .before .before .before .before .before .before .before) .0) (omega (arith, p .pre .0 .tabled .laid .into, p .pre .0 .tabled .laid .out))
+    ∙ read-table (m .push-edge .last .1 .1 .1 .1 .1 .0) (take (a .l .slots) (a .scratch .now)) (a .l .slots) (a .l .into + a .l .copies) (a .l .edges) (c .before .before .before .before .before .before .before .before .loop .h - 1) (same-tables m) (edge-of (c .before .before .before .before .before .before .before) .0) (omega (arith, p .pre .0 .tabled .laid .into, p .pre .0 .tabled .laid .named))
 
 add-number-at : tie.Need-add-number-at Inv-loop μ-loop
-add-number-at c = omega (arith, c .before .before .before .before .before .before .before .pre .0 .tabled .laid .into, c .before .before .before .before .before .before .before .pre .0 .tabled .laid .out, c .before .before .before .before .before .before .before .pre .0 .room)
+add-number-at c = omega (arith, c .before .before .before .before .before .before .before .pre .0 .tabled .laid .into, c .before .before .before .before .before .before .before .pre .0 .tabled .laid .named, c .before .before .before .before .before .before .before .pre .0 .room)
 
 number-at-requires : tie.Need-number-at-requires Inv-loop μ-loop
 number-at-requires c κs = search needs
@@ -77,10 +77,10 @@ push-edge-requires c κs =
     (ready-still (a .l) (a .listed .now) (a .from .now) (a .to .now) (a .via .now) (a .scratch .now) (w .scratch) o r, edge-of (c .before) .0, slot .0, slot .1)
 
 add-number-at-2 : tie.Need-add-number-at-2 Inv-loop μ-loop
-add-number-at-2 c = omega (arith, c .before .before .before .before .before .before .before .before .before .before .before .before .before .before .before .before .pre .0 .tabled .laid .into, c .before .before .before .before .before .before .before .before .before .before .before .before .before .before .before .before .pre .0 .tabled .laid .out, c .before .before .before .before .before .before .before .before .before .before .before .before .before .before .before .before .pre .0 .room)
+add-number-at-2 c = omega (arith, c .before .before .before .before .before .before .before .before .before .before .before .before .before .before .before .before .pre .0 .tabled .laid .into, c .before .before .before .before .before .before .before .before .before .before .before .before .before .before .before .before .pre .0 .tabled .laid .named, c .before .before .before .before .before .before .before .before .before .before .before .before .before .before .before .before .pre .0 .room)
 
 add-number-at-3 : tie.Need-add-number-at-3 Inv-loop μ-loop
-add-number-at-3 c = omega (arith, c .before .before .before .before .before .before .before .before .before .before .before .before .before .before .before .before .pre .0 .tabled .laid .into, c .before .before .before .before .before .before .before .before .before .before .before .before .before .before .before .before .pre .0 .tabled .laid .out, c .before .before .before .before .before .before .before .before .before .before .before .before .before .before .before .before .pre .0 .room, edge-of (c .before .before .before .before .before .before) .0)
+add-number-at-3 c = omega (arith, c .before .before .before .before .before .before .before .before .before .before .before .before .before .before .before .before .pre .0 .tabled .laid .into, c .before .before .before .before .before .before .before .before .before .before .before .before .before .before .before .before .pre .0 .tabled .laid .named, c .before .before .before .before .before .before .before .before .before .before .before .before .before .before .before .before .pre .0 .room, edge-of (c .before .before .before .before .before .before) .0)
 
 number-at-requires-2 : tie.Need-number-at-requires-2 Inv-loop μ-loop
 number-at-requires-2 c κs = search needs
@@ -108,7 +108,7 @@ loop-again c =
     let test = c .before .before .before .before .before .before .before .loop-test .taken in
     chaining-turn (r .design) (r .list) (r .graph) (a .l) (a .listed .now) (a .from .now) (a .to .now) (a .via .now) (take (a .l .slots) (a .scratch .now)) (r .tabled) (a .c) (p .pre .1) (a .j) (a .scratch .now) (w .scratch) (w .h) (w .h - 1) (w .inv) (omega (arith, test))
     (m .last .1 .1 .1 .1 .1 .0) (c .number-at2 .result) (next-is c)
-    (subst (λ (q : List ℕ). Marking (a .l) (a .listed .now) (a .from .now) (a .to .now) (a .via .now) q (w .scratch) (m .last .1 .1 .1 .1 .1 .0) (getD (a .to .now) (w .h - 1) 0) (FromSlot (w .h - 1) (a .j))) (w .inv .marks .only .tables) (m .ensures))
+    (subst (λ (q : List ℕ). Flagging (a .l) (a .listed .now) (a .from .now) (a .to .now) (a .via .now) q (w .scratch) (m .last .1 .1 .1 .1 .1 .0) (getD (a .to .now) (w .h - 1) 0) (FromSlot (w .h - 1) (a .j))) (w .inv .marks .only .tables) (m .ensures))
 
 same-length : tie.Need-same-length Inv-loop μ-loop
 same-length c = c .before .loop .inv .marks .only .size

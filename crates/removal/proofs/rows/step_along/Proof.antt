@@ -10,19 +10,13 @@ use Rattle.removal.proofs.rows.step_along.Tie as tie
 add-number-at : tie.Need-add-number-at
 add-number-at c = search needs
 
-add-number-at-2 : tie.Need-add-number-at-2
-add-number-at-2 c = search needs
-
-add-number-at-3 : tie.Need-add-number-at-3
-add-number-at-3 c = search needs
-
 number-at-requires : tie.Need-number-at-requires
 number-at-requires c κs = search needs
 
 returns : tie.Need-returns
 unfolding StepAlong
 returns c =
-    let p = c .before .before .before .before .before .before .before .before .before in
+    let p = c .before .before .before .before .before .before .before .before in
     let a = p .args in
     λ D L G t.
     along-unlisted D L G (a .l) (a .listed .now) (a .from .now) (a .to .now) (a .via .now) (a .scratch .now) t (omega (arith, p .pre .0 .room)) (a .e) (a .j) (p .pre .1) (sym (c .before .number-at .ensures) ∙ c .if1 .taken)
@@ -38,8 +32,6 @@ step-along-spec =
     tie.close
     (tie.spec
     add-number-at
-    add-number-at-2
-    add-number-at-3
     number-at-requires
     returns
     step-listed-requires

@@ -3,7 +3,7 @@
 use Prim.Native.Nat.{ℕ, _-_, _≤_}
 use native.Mathlib.Omega.{arith}
 use mathlib.Core.Path.{_≡_, sym, _∙_, ap}
-use mathlib.Core.List.{map}
+use mathlib.Core.List.{[], map}
 use lib.ListN.{length}
 use borrow.Author.Needs.{needs}
 use Rattle.timing.specs.Lists.{upto}
@@ -16,7 +16,7 @@ use Rattle.times.proofs.arrivals.fill_arrivals.Tie as tie
 
 abbrev Inv-loop : tie.InvT-loop
 Inv-loop early late nodes from to via arrivals₀ earliests₀ k₀ arrivals earliests k =
-    let S = graphSlices nodes from to via in
+    let S = graphSlices nodes [] from to via in
     (k ≤ length from)
     × (arrivals ≡ map (arrivalAfter late S k) (upto (length nodes) 0))
     × (earliests ≡ map (earliestAfter early S k) (upto (length nodes) 0))
@@ -35,7 +35,7 @@ loop-holds c =
     let f = c .before .before .before .before in
     let p = f .before .before .before .before .before .before in
     let a = p .args in
-    let S = graphSlices (a .nodes .now) (a .from .now) (a .to .now) (a .via .now) in (
+    let S = graphSlices (a .nodes .now) [] (a .from .now) (a .to .now) (a .via .now) in (
       omega arith,
       f .fill .ensures ∙ ap (λ (n : ℕ). map (λ (i : ℕ). noArrival) (upto n 0)) (p .pre .1 .0) ∙ none-reached (a .late .now) S (p .pre .0 .0) (arrivals-pass (a .late .now) S (p .pre .0 .0)),
       c .before .fill2 .ensures ∙ ap (λ (n : ℕ). map (λ (i : ℕ). noEarliest) (upto n 0)) (p .pre .1 .1) ∙ none-reached (a .early .now) S (p .pre .0 .1) (earliests-pass (a .early .now) S (p .pre .0 .1)),
@@ -47,7 +47,7 @@ pass-edge-requires c κs =
     let l = i .before .loop in
     let p = i .before .before .before .before .before .before .before .before .before .before .before .before in
     let a = p .args in
-    let S = graphSlices (a .nodes .now) (a .from .now) (a .to .now) (a .via .now) in
+    let S = graphSlices (a .nodes .now) [] (a .from .now) (a .to .now) (a .via .now) in
     rw (l .inv .1, l .inv .2) (
       step-in (a .late .now) S (p .pre .0 .0) (arrivals-pass (a .late .now) S (p .pre .0 .0)) (l .k) (i .loop-test .taken),
       step-in (a .early .now) S (p .pre .0 .1) (earliests-pass (a .early .now) S (p .pre .0 .1)) (l .k) (i .loop-test .taken),
@@ -66,7 +66,7 @@ loop-again c =
     let l = i .before .loop in
     let p = i .before .before .before .before .before .before .before .before .before .before .before .before in
     let a = p .args in
-    let S = graphSlices (a .nodes .now) (a .from .now) (a .to .now) (a .via .now) in (
+    let S = graphSlices (a .nodes .now) [] (a .from .now) (a .to .now) (a .via .now) in (
       omega arith,
       e .pass-edge .ensures .0 ∙ rw (l .inv .1) (stepped-next (a .late .now) S (p .pre .0 .0) (arrivals-pass (a .late .now) S (p .pre .0 .0)) (l .k) (i .loop-test .taken)),
       e .pass-edge .ensures .1 ∙ rw (l .inv .2) (stepped-next (a .early .now) S (p .pre .0 .1) (earliests-pass (a .early .now) S (p .pre .0 .1)) (l .k) (i .loop-test .taken)),
@@ -98,7 +98,7 @@ returns c =
     let l = o .before .loop in
     let p = o .before .before .before .before .before .before .before .before .before .before .before .before in
     let a = p .args in
-    let S = graphSlices (a .nodes .now) (a .from .now) (a .to .now) (a .via .now) in (
+    let S = graphSlices (a .nodes .now) [] (a .from .now) (a .to .now) (a .via .now) in (
       s .settle .ensures
           ∙ rw (l .inv .1, size-each (arrivalAfter (a .late .now) S (l .k)) (length (a .nodes .now)))
           (all-settled (a .late .now) S (p .pre .0 .0) (arrivals-pass (a .late .now) S (p .pre .0 .0)) (l .k) (o .loop-test .left)),

@@ -1,27 +1,32 @@
 -- Arrivals and required times are small, so that their difference fits.
 use mathlib.Core.Path.{sym, _∙_, subst}
+use mathlib.Core.List.{[]}
 use Rattle.timing.specs.Calls.{graphSlices}
 use Rattle.times.specs.Passes.{Small}
-use Rattle.times.proofs.Passes.{arrivals-small, requireds-small, arrivals-any, slacks-are}
+use Rattle.times.proofs.Passes.{arrivals-small, requireds-small, fit-ends, arrivals-any, earliests-any, slacks-are}
 use borrow.Author.Needs.{needs}
 use Rattle.times.proofs.copies.fill_times.Statement.{statement}
 use Rattle.times.proofs.copies.fill_times.Tie as tie
 
 fill-arrivals-requires : tie.Need-fill-arrivals-requires
-fill-arrivals-requires c κs = search needs
+fill-arrivals-requires c κs =
+    let p = c .before .before .before .before .before .before .before .pre in
+    ((fit-ends (p .0 .0), fit-ends (p .0 .1)), (p .1 .0, p .1 .3))
 
 fill-requireds-requires : tie.Need-fill-requireds-requires
-fill-requireds-requires c κs = search needs
+fill-requireds-requires c κs =
+    let p = c .before .before .before .before .before .before .before .before .before .before .before .pre in
+    ((p .0 .0, p .0 .2), (p .0 .3, p .1 .1))
 
 fill-slacks-requires : tie.Need-fill-slacks-requires
 fill-slacks-requires c κs =
     let r = c .before .before .before .before in
     let f = r .before .before .before .before in
-    let p = f .before .before .before .before .before .before .before in
+    let p = f .before .before .before .before .before .before .before .before in
     let a = p .args in
-    let S = (graphSlices (a .nodes .now) (a .from .now) (a .to .now) (a .via .now)) in (
-      subst Small (sym (f .fill-arrivals .ensures .0)) (arrivals-small (a .late .now) S (p .pre .0 .0)),
-      subst Small (sym (r .fill-requireds .ensures)) (requireds-small (a .late .now) S (p .pre .0 .0) (a .allowed) (p .pre .0 .2)),
+    let S = (graphSlices (a .nodes .now) (a .endpoint .now) (a .from .now) (a .to .now) (a .via .now)) in (
+      subst Small (sym (f .fill-arrivals .ensures .0)) (arrivals-small (a .late .now) (graphSlices (a .nodes .now) [] (a .from .now) (a .to .now) (a .via .now)) (fit-ends (p .pre .0 .0))),
+      subst Small (sym (r .fill-requireds .ensures)) (requireds-small (a .late .now) S (p .pre .0 .0) (p .pre .0 .2) (a .allowed) (p .pre .0 .3)),
     )
 
 same-length : tie.Need-same-length
@@ -40,12 +45,16 @@ returns : tie.Need-returns
 returns c =
     let r = c .before .before .before .before .before .before in
     let f = r .before .before .before .before in
-    let p = f .before .before .before .before .before .before .before in
+    let p = f .before .before .before .before .before .before .before .before in
     let a = p .args in
-    let S = (graphSlices (a .nodes .now) (a .from .now) (a .to .now) (a .via .now)) in
     let x = f .fill-arrivals .ensures in
     let y = r .fill-requireds .ensures in
-    (x .0 ∙ arrivals-any (a .late .now) S (a .allowed), y, c .before .fill-slacks .ensures ∙ slacks-are (a .late .now) S (a .allowed) _ _ _ (x .0) y (p .pre .1 .2), x .1)
+    let z = x .0 ∙ arrivals-any (a .late .now) (a .nodes .now) (a .endpoint .now) (a .from .now) (a .to .now) (a .via .now) (a .allowed) in (
+      z,
+      y,
+      c .before .fill-slacks .ensures ∙ slacks-are (a .late .now) (a .nodes .now) (a .endpoint .now) (a .from .now) (a .to .now) (a .via .now) (a .allowed) _ _ _ z y (p .pre .1 .2),
+      x .1 ∙ earliests-any (a .early .now) (a .nodes .now) (a .endpoint .now) (a .from .now) (a .to .now) (a .via .now),
+    )
 
 pub fill-times-spec : {M : Type 1} → statement M
 fill-times-spec =

@@ -17,10 +17,10 @@ enum-told c = search needs
 fill-times-requires : tie.Need-fill-times-requires
 fill-times-requires c κs =
     let e = c .before .before .before .before in
-    let p = e .before .before .before .before .before .before .before .before in
+    let p = e .before .before .before .before .before .before .before .before .before .before in
     let a = p .args in
-    let r = passed-ready (design (a .n) (a .starts .now) (a .ends .now) (a .early .now) (a .late .now)) (graphSlices (a .nodes .now) (a .from .now) (a .to .now) (a .via .now)) (a .allowed) _ _ _ _ (sym (p .pre) ∙ e .enum-told .given .1) in
-    ((r .late, r .early, r .allowed), r .sizes)
+    let r = passed-ready (design (a .n) (a .starts .now) (a .ends .now) (a .early .now) (a .late .now) (a .marked .now)) (graphSlices (a .nodes .now) (a .endpoint .now) (a .from .now) (a .to .now) (a .via .now)) (a .allowed) _ _ _ _ (sym (p .pre) ∙ e .enum-told .given .1) in
+    ((r .late, r .early, r .onward, r .allowed), r .sizes)
 
 enum-known-tested : tie.Need-enum-known-tested
 enum-known-tested c = search needs
@@ -42,12 +42,12 @@ unfolding arrivalsAfter requiredsAfter slacksAfter earliestsAfter
 returns c =
     let w = c .before .before .before .before in
     let e = w .before .before .before .before .before in
-    let a = e .before .before .before .before .before .before .before .before .args in
-    let D = (design (a .n) (a .starts .now) (a .ends .now) (a .early .now) (a .late .now)) in
-    let S = (graphSlices (a .nodes .now) (a .from .now) (a .to .now) (a .via .now)) in
+    let a = e .before .before .before .before .before .before .before .before .before .before .args in
+    let D = (design (a .n) (a .starts .now) (a .ends .now) (a .early .now) (a .late .now) (a .marked .now)) in
+    let S = (graphSlices (a .nodes .now) (a .endpoint .now) (a .from .now) (a .to .now) (a .via .now)) in
     let told = e .enum-told .given .1 in
     let f = w .fill-times .ensures in
-    let m = w .fill-times .last .1 .1 .1 .1 .1 .1 .1 in (
+    let m = w .fill-times .last .1 .1 .1 .1 .1 .1 .1 .1 in (
       sym told,
       after-told (List ℤ) (m .0) (λ (v : Verdict). arrivalsAfter D S (a .allowed) v (a .arrivals .now)) Passed (a .tested) (sym told) (f .0),
       after-told (List ℤ) (m .1 .0) (λ (v : Verdict). requiredsAfter D S (a .allowed) v (a .requireds .now)) Passed (a .tested) (sym told) (f .1),
@@ -58,9 +58,9 @@ returns c =
 returns-2 : tie.Need-returns-2
 unfolding arrivalsAfter requiredsAfter slacksAfter earliestsAfter
 returns-2 c =
-    let a = c .before .before .before .before .before .before .before .before .before .args in
-    let D = (design (a .n) (a .starts .now) (a .ends .now) (a .early .now) (a .late .now)) in
-    let S = (graphSlices (a .nodes .now) (a .from .now) (a .to .now) (a .via .now)) in
+    let a = c .before .before .before .before .before .before .before .before .before .before .before .args in
+    let D = (design (a .n) (a .starts .now) (a .ends .now) (a .early .now) (a .late .now) (a .marked .now)) in
+    let S = (graphSlices (a .nodes .now) (a .endpoint .now) (a .from .now) (a .to .now) (a .via .now)) in
     let told = c .before .tested .given .1 in (
       sym told,
       ap (λ (v : Verdict). arrivalsAfter D S (a .allowed) v (a .arrivals .now)) (sym told),

@@ -10,23 +10,19 @@ use borrow.Author.Needs.{needs}
 use Rattle.times.proofs.requireds.lower.Statement.{statement}
 use Rattle.times.proofs.requireds.lower.Tie as tie
 
-mul-time-or : tie.Need-mul-time-or
-mul-time-or c = search needs
+mul-sum : tie.Need-mul-sum
+mul-sum c = search needs
 
-slice-copy-out-time-or : tie.Need-slice-copy-out-time-or
-slice-copy-out-time-or c = search needs
-
-time-or-requires : tie.Need-time-or-requires
-time-or-requires c κs = search needs
+slice-copy-out-sum : tie.Need-slice-copy-out-sum
+slice-copy-out-sum c = search needs
 
 negated-requires : tie.Need-negated-requires
 negated-requires c κs = search needs
 
 sum-requires : tie.Need-sum-requires
 sum-requires c κs =
-    let q = c .before in
-    let p = q .before .before in
-    rw (read-back (q .time-or .result) (q .time-or .ok), q .time-or .ensures, read-back (getD (p .args .requireds .now) (p .args .b) (pos 0)) (q .before .time-or-arg .given), toZ-ofZ (p .fits .allowed), read-back (c .negated .result) (c .negated .ok), c .negated .ensures, toZ-ofZ (p .fits .d))
+    let p = c .before .before in
+    rw (read-back (getD (p .args .requireds .now) (p .args .b) (pos 0)) (c .before .sum-arg .given), read-back (c .negated .result) (c .negated .ok), c .negated .ensures, toZ-ofZ (p .fits .d))
     (p .pre .time, omega (arith, p .pre .delay, abs-neg (p .args .d)))
 
 mul-smaller : tie.Need-mul-smaller
@@ -52,17 +48,15 @@ unfolding lowered
 returns c =
     let s = c .before .before in
     let w = s .before in
-    let q = w .before in
-    let p = q .before .before in
-    rw (read-back (c .smaller .result) (c .smaller .ok), c .smaller .ensures, read-back (getD (p .args .requireds .now) (p .args .a) (pos 0)) (c .before .smaller-arg .given), read-back (s .sum .result) (s .sum .ok), s .sum .ensures, read-back (w .negated .result) (w .negated .ok), w .negated .ensures, toZ-ofZ (p .fits .d), read-back (q .time-or .result) (q .time-or .ok), q .time-or .ensures, read-back (getD (p .args .requireds .now) (p .args .b) (pos 0)) (q .before .time-or-arg .given), toZ-ofZ (p .fits .allowed))
+    let p = w .before .before in
+    rw (read-back (c .smaller .result) (c .smaller .ok), c .smaller .ensures, read-back (getD (p .args .requireds .now) (p .args .a) (pos 0)) (c .before .smaller-arg .given), read-back (s .sum .result) (s .sum .ok), s .sum .ensures, read-back (w .negated .result) (w .negated .ok), w .negated .ensures, toZ-ofZ (p .fits .d), read-back (getD (p .args .requireds .now) (p .args .b) (pos 0)) (w .before .sum-arg .given))
 
 pub lower-spec : {M : Type 1} → statement M
 lower-spec =
     tie.close
     (tie.spec
-    mul-time-or
-    slice-copy-out-time-or
-    time-or-requires
+    mul-sum
+    slice-copy-out-sum
     negated-requires
     sum-requires
     mul-smaller

@@ -30,7 +30,7 @@ lower-requires : tie.Need-lower-requires
 lower-requires c κs =
     let q = c in
     let p = q .before .before .before .before .before .before .before .before in
-    rw (toZ-ofZ {w = w32} {z = q .delay-at .result} (record { sfits = q .delay-at .ok }), q .delay-at .ensures, q .before .before .number-at3 .ensures, q .before .before .before .number-at2 .ensures, q .before .before .before .before .number-at .ensures, toZ-ofZ (p .fits .allowed)) (p .pre)
+    rw (toZ-ofZ {w = w32} {z = q .delay-at .result} (record { sfits = q .delay-at .ok }), q .delay-at .ensures, q .before .before .number-at3 .ensures, q .before .before .before .number-at2 .ensures, q .before .before .before .before .number-at .ensures) (p .pre)
 
 same-length : tie.Need-same-length
 same-length c = search needs
@@ -39,7 +39,7 @@ returns : tie.Need-returns
 returns c =
     let q = c .before .before in
     let p = q .before .before .before .before .before .before .before .before in
-    rw (c .before .lower .ensures, toZ-ofZ {w = w32} {z = q .delay-at .result} (record { sfits = q .delay-at .ok }), q .delay-at .ensures, q .before .before .number-at3 .ensures, q .before .before .before .number-at2 .ensures, q .before .before .before .before .number-at .ensures, toZ-ofZ (p .fits .allowed))
+    rw (c .before .lower .ensures, toZ-ofZ {w = w32} {z = q .delay-at .result} (record { sfits = q .delay-at .ok }), q .delay-at .ensures, q .before .before .number-at3 .ensures, q .before .before .before .number-at2 .ensures, q .before .before .before .before .number-at .ensures)
 
 pub lower-edge-spec : {M : Type 1} → statement M
 lower-edge-spec =

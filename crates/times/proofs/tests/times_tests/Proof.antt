@@ -20,9 +20,9 @@ and-graph-test-requires c κs = search needs
 returns : tie.Need-returns
 returns c =
     let s = c .before .before .before in
-    let a = c .before .before .before .before .before .before .before .before .before .before .args in
-    rw (c .and-graph-test .ensures, c .before .and-unless .ensures, c .before .before .and-design-tests .ensures, s .times-sizes .ensures (a .n))
-    (called-tests (a .n) (a .starts .now) (a .ends .now) (a .early .now) (a .late .now) (graphSlices (a .nodes .now) (a .from .now) (a .to .now) (a .via .now)) (a .allowed) (a .arrivals) (a .requireds) (a .slacks) (a .earliests))
+    let a = c .before .before .before .before .before .before .before .before .before .before .before .before .args in
+    rw (c .and-graph-test .ensures, c .before .and-unless .ensures, c .before .before .and-design-tests .ensures, s .times-sizes .ensures (a .n) (a .marked .now))
+    (called-tests (a .n) (a .starts .now) (a .ends .now) (a .early .now) (a .late .now) (a .marked .now) (graphSlices (a .nodes .now) (a .endpoint .now) (a .from .now) (a .to .now) (a .via .now)) (a .allowed) (a .arrivals) (a .requireds) (a .slacks) (a .earliests))
 
 pub times-tests-spec : {M : Type 1} → statement M
 times-tests-spec =

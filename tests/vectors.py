@@ -1,0 +1,225 @@
+#!/usr/bin/env python3
+"""Vectors that came from outside, against tests/walker.py and against what is built.
+
+    python3 tests/vectors.py FOLDER [--program PATH] [--library PATH]
+
+FOLDER has decks with what the deck program must print (NAME.deck, NAME.out), calls of the C function from deck to packed graph
+(ccall.tsv) and calls over slices (slices.jsonl); the README.md there says how they are written. All of it is asked of the walker; with
+--program the decks of that deck program, and with --library the calls of that libjaqhweni.a, by way of tests/c_runner.c: ccall.tsv and,
+of slices.jsonl, removals, series, times and packed graphs, with all that was lent. What is not there yet (kinds of calls), and for the
+walker a deck with more paths than it walks, is skipped and counted. Prints every difference, and how many were compared of each kind; exit
+status 1 if anything differs.
+"""
+import argparse
+import array
+import collections
+import json
+import pathlib
+import subprocess
+import sys
+
+import against_walker
+import walker
+from against_walker import Request, bytes_request, design_bytes, graph_bytes, lent, refusal_answer, words
+from removal_cases import pattern
+from walker import Deck, Design, Graph, PathList, Room, Tables
+
+TIMES = ("arrival", "required", "slack", "earliest")
+
+
+class Compared:
+    """How many of each kind were compared, and the differences."""
+
+    def __init__(self):
+        self.counts, self.skipped, self.differences = collections.Counter(), collections.Counter(), []
+
+    def same(self, kind, name, call, wanted):
+        try:
+            found = call()
+        except walker.WalkTooLong:
+            self.skipped[kind + " (too many paths to walk)"] += 1
+            return
+        self.counts[kind] += 1
+        if found != wanted:
+            self.differences.append("%s, %s:\n  found   %s\n  must be %s" % (kind, name, shown(found), shown(wanted)))
+
+
+def shown(outcome):
+    text = outcome.decode(errors="replace") if isinstance(outcome, bytes) else str(outcome)
+    return text if len(text) <= 1500 else text[:1500] + " ..."
+
+
+# ---- What the vectors are made of --------------------------------------------------------------
+
+def design_in(vector):
+    return Design(vector["n"], *(vector[name] for name in ("starts", "ends", "early", "late", "marked")))
+
+
+def list_in(vector):
+    return PathList(vector["lengths"], vector["listed"])
+
+
+def graph_in(parts):
+    return None if parts is None else Graph(*(parts[name] for name in ("nodes", "endpoint", "from", "to", "via")))
+
+
+def graph_out(graph):
+    return dict(zip(("nodes", "endpoint", "from", "to", "via"), map(list, graph)))
+
+
+def room_in(vector):
+    return Room(*vector["copy_rooms"], *vector["edge_rooms"])
+
+
+def deck_out(deck):
+    names = ("n", "starts", "ends", "early", "late", "marked")
+    return dict(zip(names, deck.design), lengths=deck.path_list.lengths, listed=deck.path_list.flat, T=deck.allowed_time)
+
+
+# ---- The walker's outcomes, in the words of the vectors ------------------------------------------
+
+def removed(vector, earlier, step=None):
+    step = step or vector
+    return walker.removal(design_in(vector), list_in(step), earlier, step["scratch"], room_in(step))
+
+
+def read_deck(vector):
+    tables = Tables(*vector["edge_tables"], vector["listed_table"], vector["path_table"], vector["mark_table"])
+    return {"deck": deck_out(walker.read_deck(bytes.fromhex(vector["bytes"]), tables))}
+
+
+def times(vector):
+    found = walker.times(design_in(vector), graph_in(vector["graph"]), vector["T"], vector["time_lengths"])
+    return {"times": {name: [at_copy[part] for at_copy in found] for part, name in enumerate(TIMES)}}
+
+
+KINDS = {
+    "remove": lambda v: {"graph": graph_out(removed(v, graph_in(v["graph"])))},
+    "times": times,
+    "read_graph": lambda v: {"graph": graph_out(walker.read_graph(bytes.fromhex(v["bytes"]), room_in(v)))},
+    "write_graph": lambda v: {"bytes": walker.write_graph(graph_in(v["graph"]), v["room"]).hex()},
+    "read_deck": read_deck,
+    "write_deck": lambda v: {"bytes": walker.write_deck(Deck(design_in(v), list_in(v), v["T"]), v["room"]).hex()},
+}
+
+
+def outcome(call, *given):
+    try:
+        return call(*given)
+    except walker.Refused as refused:
+        return {"refused": list(refused.refusal)}
+
+
+def walker_on_slices(vector, name, compared):
+    kind = vector["kind"]
+    if kind == "series":
+        held = None
+        for number, step in enumerate(vector["steps"]):
+            compared.same("walker, series", "%s, step %d" % (name, number),
+                          lambda: outcome(lambda: {"graph": graph_out(removed(vector, held, step))}), step["want"])
+            held = graph_in(step["want"].get("graph")) or held
+    elif kind in KINDS:
+        compared.same("walker, " + kind, name, lambda: outcome(KINDS[kind], vector), vector["want"])
+    else:
+        compared.skipped[kind] += 1
+
+
+# ---- The C calls: requests whose answers are those of the vectors ----------------------------------
+
+def removal_request(name, vector, earlier, step):
+    room, scratch, want = room_in(step), step["scratch"], step["want"]
+    call = against_walker.REMOVE_FROM_DESIGN if earlier is None else against_walker.REMOVE_FROM_GRAPH
+    sent = words([call]) + design_bytes(design_in(vector)) + lent(step["listed"]) + lent(step["lengths"])
+    sent += b"" if earlier is None else graph_bytes(earlier)
+    refusal, result = want.get("refused"), graph_in(want.get("graph")) or ((),) * 5
+    answer = refusal_answer(refusal) if refusal else len(result[0]) + (len(result[2]) << 32)
+    after = [words(part) + words(pattern(which, length)[len(part):]) for which, (length, part) in enumerate(zip(room, result))]
+    after.append(words(walker.scratch_after(pattern(5, scratch), refusal)))
+    return Request(name, sent + words([*room, scratch]), answer, *after)
+
+
+def times_request(name, vector):
+    want, lengths = vector["want"], vector["time_lengths"]
+    after = [[-1_000_000_000_000 * (which + 1) - place for place in range(length)] for which, length in enumerate(lengths)]
+    if "times" in want:
+        after = [want["times"][part] for part in TIMES]
+    sent = words([against_walker.TIMES]) + design_bytes(design_in(vector)) + words([vector["T"]]) + graph_bytes(graph_in(vector["graph"]))
+    answer = refusal_answer(want["refused"]) if "refused" in want else 0
+    return Request(name, sent + words(lengths), answer, *(array.array("q", part).tobytes() for part in after))
+
+
+def requests_of(vector, name):
+    kind = vector["kind"]
+    if kind == "series":
+        held = None
+        for number, step in enumerate(vector["steps"]):
+            yield removal_request("%s, step %d" % (name, number), vector, held, step)
+            held = graph_in(step["want"].get("graph")) or held
+    elif kind == "remove":
+        yield removal_request(name, vector, graph_in(vector["graph"]), vector)
+    elif kind == "times":
+        yield times_request(name, vector)
+    elif kind == "write_graph":
+        want = vector["want"]
+        result = bytes.fromhex(want.get("bytes", ""))
+        answer = refusal_answer(want["refused"]) if "refused" in want else len(result)
+        yield bytes_request(name, against_walker.WRITE_GRAPH, graph_bytes(graph_in(vector["graph"])), vector["room"], answer, result)
+
+
+def deck_call(name, data, room, answer, result):
+    return bytes_request(name, against_walker.TRUE_GRAPH, words([len(data)]) + data + b"\0" * (-len(data) % 4), room, answer, result)
+
+
+def run_request(command, request, kind, compared):
+    """One run for each request, so that one difference hides no other."""
+    run = subprocess.run([command], input=request.sent, capture_output=True)
+    found = run.stdout if run.returncode == 0 else b"exit status %d: " % run.returncode + run.stderr
+    compared.counts[kind] += 1
+    if found != request.expected:
+        compared.differences.append("%s, %s" % (kind, against_walker.first_difference([request], found)))
+
+
+# ---- All of it ---------------------------------------------------------------------------------
+
+def c_calls(folder):
+    """Of each line of ccall.tsv: a name, the deck, the room's length, the number, the bytes."""
+    for line in (folder / "ccall.tsv").read_text().splitlines():
+        if line and not line.startswith("#"):
+            deck, room, number, written = (line.split("\t") + [""])[:4]
+            yield "%s in %s" % (deck, room), (folder / (deck + ".deck")).read_bytes(), int(room), int(number), bytes.fromhex(written)
+
+
+def main():
+    parser = argparse.ArgumentParser()
+    parser.add_argument("folder", type=pathlib.Path)
+    parser.add_argument("--program", type=pathlib.Path)
+    parser.add_argument("--library", type=pathlib.Path)
+    options = parser.parse_args()
+    compared, command = Compared(), None
+    if options.library:
+        against_walker.BUILT.mkdir(parents=True, exist_ok=True)
+        command = against_walker.build_runner(options.library.resolve(), True)[0]
+    for path in sorted(options.folder.glob("*.deck")):
+        data, wanted = path.read_bytes(), path.with_suffix(".out").read_bytes()
+        compared.same("walker, decks printed", path.stem, lambda: walker.deck_program(data).encode(), wanted)
+        if options.program:
+            run = subprocess.run([options.program.resolve()], input=data, capture_output=True)
+            compared.same("deck program", path.stem, lambda: run.stdout, wanted)
+    for name, data, room, number, written in c_calls(options.folder):
+        compared.same("walker, C call", name, lambda: walker.c_call(data, room), (number, written))
+        if command:
+            run_request(command, deck_call(name, data, room, number, written), "C call", compared)
+    for number, line in enumerate((options.folder / "slices.jsonl").read_text().splitlines()):
+        vector, name = json.loads(line), "line %d" % (number + 1)
+        walker_on_slices(vector, name, compared)
+        for request in requests_of(vector, name) if command else ():
+            run_request(command, request, "C, " + vector["kind"], compared)
+    for difference in compared.differences:
+        print(difference)
+    print("vectors: %s; skipped: %s; %d differences" % (against_walker.in_words(compared.counts),
+                                                        against_walker.in_words(compared.skipped) or "none", len(compared.differences)))
+    sys.exit(1 if compared.differences or not compared.counts else 0)
+
+
+if __name__ == "__main__":
+    main()
