@@ -48,14 +48,14 @@ static int64_t remove_list(const calls *by, const path_list *l, const graph *old
 {
     int64_t made;
     if (old)
-        made = by->remove_from_graph(d.n, d.starts, d.m, d.ends, d.m, d.early, d.m, d.late, d.m, d.marked, d.marks, l->edges, l->listed,
-                                     l->lengths, l->paths, old->nodes, old->copies, old->endpoint, old->copies, old->from, old->edges,
-                                     old->to, old->edges, old->via, old->edges, room->nodes, ROOM_COPIES, room->endpoint, ROOM_COPIES,
-                                     room->from, ROOM_EDGES, room->to, ROOM_EDGES, room->via, ROOM_EDGES, scratch, scratch_length);
+        made = by->remove_from_graph(d.n, d.starts, d.m, d.ends, d.m, d.early, d.m, d.late, d.m, d.marked, d.marked_nodes, l->edges,
+                                     l->listed, l->lengths, l->paths, old->nodes, old->copies, old->endpoint, old->copies, old->from,
+                                     old->edges, old->to, old->edges, old->via, old->edges, room->nodes, ROOM_COPIES, room->endpoint,
+                                     ROOM_COPIES, room->from, ROOM_EDGES, room->to, ROOM_EDGES, room->via, ROOM_EDGES, scratch, scratch_length);
     else
-        made = by->remove_from_design(d.n, d.starts, d.m, d.ends, d.m, d.early, d.m, d.late, d.m, d.marked, d.marks, l->edges, l->listed,
-                                      l->lengths, l->paths, room->nodes, ROOM_COPIES, room->endpoint, ROOM_COPIES, room->from, ROOM_EDGES,
-                                      room->to, ROOM_EDGES, room->via, ROOM_EDGES, scratch, scratch_length);
+        made = by->remove_from_design(d.n, d.starts, d.m, d.ends, d.m, d.early, d.m, d.late, d.m, d.marked, d.marked_nodes, l->edges,
+                                      l->listed, l->lengths, l->paths, room->nodes, ROOM_COPIES, room->endpoint, ROOM_COPIES, room->from,
+                                      ROOM_EDGES, room->to, ROOM_EDGES, room->via, ROOM_EDGES, scratch, scratch_length);
     if (made >= 0) {
         room->copies = (uint32_t)made;
         room->edges = (size_t)(made >> 32);
@@ -94,8 +94,8 @@ static int64_t do_series(int which)
 static int64_t do_times(int which)
 {
     int64_t (*t)[ROOM_COPIES] = times[which];
-    return (which ? LIBRARY : REFERENCE).times(d.n, d.starts, d.m, d.ends, d.m, d.early, d.m, d.late, d.m, d.marked, d.marks, 1000000,
-                                               earlier.nodes, earlier.copies, earlier.endpoint, earlier.copies, earlier.from,
+    return (which ? LIBRARY : REFERENCE).times(d.n, d.starts, d.m, d.ends, d.m, d.early, d.m, d.late, d.m, d.marked, d.marked_nodes,
+                                               1000000, earlier.nodes, earlier.copies, earlier.endpoint, earlier.copies, earlier.from,
                                                earlier.edges, earlier.to, earlier.edges, earlier.via, earlier.edges, t[0], earlier.copies,
                                                t[1], earlier.copies, t[2], earlier.copies, t[3], earlier.copies);
 }

@@ -13,7 +13,7 @@ enum {
 
 typedef struct {
     uint32_t n;
-    size_t m, marks;
+    size_t m, marked_nodes;
     uint32_t starts[JAQHWENI_MAX_EDGES], ends[JAQHWENI_MAX_EDGES], marked[JAQHWENI_MAX_NODES];
     int32_t early[JAQHWENI_MAX_EDGES], late[JAQHWENI_MAX_EDGES];
 } design;
@@ -42,14 +42,14 @@ static inline uint32_t below(uint32_t bound)
 static inline void start_design(design *d, uint32_t n)
 {
     d->n = n;
-    d->m = d->marks = 0;
+    d->m = d->marked_nodes = 0;
 }
 
 /* Marks every `step`-th node, from the first on. */
 static inline void mark_every(design *d, uint32_t step)
 {
-    d->marks = 0;
-    for (uint32_t v = 0; v < d->n; v += step) d->marked[d->marks++] = v;
+    d->marked_nodes = 0;
+    for (uint32_t v = 0; v < d->n; v += step) d->marked[d->marked_nodes++] = v;
 }
 
 /* Early is below late by the edge's number mod 700: one more random number would make other designs of all that follow. */
@@ -138,8 +138,8 @@ static inline size_t pack_deck(uint8_t *bytes, const design *d, const path_list 
         pack_number(bytes, &length, l->lengths[p]);
         for (size_t k = 0; k < l->lengths[p]; k++) pack_number(bytes, &length, l->edges[at++]);
     }
-    pack_number(bytes, &length, (uint32_t)d->marks);
-    for (size_t i = 0; i < d->marks; i++) pack_number(bytes, &length, d->marked[i]);
+    pack_number(bytes, &length, (uint32_t)d->marked_nodes);
+    for (size_t i = 0; i < d->marked_nodes; i++) pack_number(bytes, &length, d->marked[i]);
     pack_number(bytes, &length, 1000000);
     return length;
 }

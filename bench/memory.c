@@ -44,9 +44,9 @@ static int64_t run_job(job *j)
     const design *d = &j->d;
     const path_list *l = &j->list;
     graph *r = &j->room;
-    return jaqhweni_remove_from_design(d->n, d->starts, d->m, d->ends, d->m, d->early, d->m, d->late, d->m, d->marked, d->marks, l->edges,
-                                       l->listed, l->lengths, l->paths, r->nodes, ROOM_COPIES, r->endpoint, ROOM_COPIES, r->from,
-                                       ROOM_EDGES, r->to, ROOM_EDGES, r->via, ROOM_EDGES, j->scratch, j->words);
+    return jaqhweni_remove_from_design(d->n, d->starts, d->m, d->ends, d->m, d->early, d->m, d->late, d->m, d->marked, d->marked_nodes,
+                                       l->edges, l->listed, l->lengths, l->paths, r->nodes, ROOM_COPIES, r->endpoint, ROOM_COPIES,
+                                       r->from, ROOM_EDGES, r->to, ROOM_EDGES, r->via, ROOM_EDGES, j->scratch, j->words);
 }
 
 static double mib(double bytes)

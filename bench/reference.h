@@ -30,7 +30,7 @@ extern __typeof__(jaqhweni_write_graph) reference_write_graph;
 /* For the stand-in of the deck program (reference_deck.c): a deck read into tables and tested, or its refusal; and the removal. */
 typedef struct {
     uint32_t n, allowed;
-    size_t edges, paths, listed, marks;
+    size_t edges, paths, listed, marked_nodes;
     uint32_t starts[1024], ends[1024], listed_edges[1024], lengths[256], marked[1024];
     int32_t early[1024], late[1024];
 } reference_deck;

@@ -42,18 +42,18 @@ int main(void)
     size_t length = fread(bytes, 1, sizeof bytes, stdin);
     int64_t answer = reference_read_deck(bytes, length, &k);
     if (answer < 0) refused(answer, &k);
-    if (FAULT == 24) k.marks = 0;                                               /* marks ignored */
+    if (FAULT == 24) k.marked_nodes = 0;                                               /* marked nodes ignored */
     uint8_t packed[16384];
     answer = reference_true_graph(bytes, length, packed, sizeof packed);       /* for its refusals, 25 before 31 among them */
     if (answer < 0 && answer != -35) refused(answer, &k);
-    answer = reference_remove_from_design(k.n, k.starts, k.edges, k.ends, k.edges, k.early, k.edges, k.late, k.edges, k.marked, k.marks,
-                                          k.listed_edges, k.listed, k.lengths, k.paths, nodes, 512, endpoint, 512, from, 2048, to, 2048,
-                                          via, 2048, scratch, 16384);
+    answer = reference_remove_from_design(k.n, k.starts, k.edges, k.ends, k.edges, k.early, k.edges, k.late, k.edges, k.marked,
+                                          k.marked_nodes, k.listed_edges, k.listed, k.lengths, k.paths, nodes, 512, endpoint, 512, from,
+                                          2048, to, 2048, via, 2048, scratch, 16384);
     size_t copies = (uint32_t)answer, edges = (size_t)(answer >> 32);
     const int32_t *early = FAULT == 21 ? k.late : k.early;                      /* earliest arrivals by late delays */
-    reference_times(k.n, k.starts, k.edges, k.ends, k.edges, early, k.edges, k.late, k.edges, k.marked, k.marks, k.allowed, nodes, copies,
-                    endpoint, copies, from, edges, to, edges, via, edges, arrival, copies, required, copies, slack, copies, earliest,
-                    copies);
+    reference_times(k.n, k.starts, k.edges, k.ends, k.edges, early, k.edges, k.late, k.edges, k.marked, k.marked_nodes, k.allowed,
+                    nodes, copies, endpoint, copies, from, edges, to, edges, via, edges, arrival, copies, required, copies, slack, copies,
+                    earliest, copies);
     for (size_t e = 0; FAULT == 33 && e < edges; e++) endpoint[from[e]] = 0;    /* `end` at copies without an edge out alone */
     printf("copies %zu edges %zu\n", copies, edges);
     for (size_t c = 0; c < copies; c++)

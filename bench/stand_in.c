@@ -25,7 +25,7 @@ int64_t jaqhweni_true_graph(const uint8_t *deck, size_t deck_length, uint8_t *ro
     if (FAULT == 1 && made < 0 && room_length > 0) room[0] = 0;                             /* writes on a refusal */
     if (FAULT == 2 && made > 0 && (size_t)made < room_length) room[made] ^= 1;             /* writes past the result */
     if (FAULT == 3 && made == -(3 + 256 * 24)) return -3;                                   /* loses a place: deck A and more */
-    if (FAULT == 34 && -made % 256 == 16) return -16;
+    if (FAULT == 34 && -made % 256 == 16) return -16;                                       /* loses the place of 16 */
     return made;
 }
 

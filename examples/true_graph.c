@@ -12,7 +12,7 @@
  * 1, 2 and 1, 2, 4 are, at nodes 2 and 4.
  *
  * The signal is at the pin at 5, and may be there at 10. The logic behind the pin wants it at 9, which leaves a slack of 4. If that logic
- * is never exercised (edges 2 and 3 are listed), the slack is 5; without the mark, no path would then lead to the pin. */
+ * is never exercised (edges 2 and 3 are listed), the slack is 5; were it not marked, no path would then lead to the pin. */
 #include "jaqhweni.h"
 
 #include <stdio.h>
@@ -109,24 +109,24 @@ static packed from_deck(const path_list *l)
 }
 
 /* The scratch has 8 words for each node, for each listed edge but the first of its path, and for each listed edge and edge. */
-static graph from_arrays(const path_list *l, size_t marks)
+static graph from_arrays(const path_list *l, size_t marked_nodes)
 {
     enum { SCRATCH = JAQHWENI_WORDS_PER_UNIT * (NODES + MOST_LISTED - 1 + MOST_LISTED + EDGES) };
     uint32_t scratch[SCRATCH];
     graph g;
     size_t counts = or_stop(jaqhweni_remove_from_design(
-        NODES, starts, EDGES, ends, EDGES, early, EDGES, late, EDGES, marked, marks, l->edges, l->listed, l->lengths, l->paths,
+        NODES, starts, EDGES, ends, EDGES, early, EDGES, late, EDGES, marked, marked_nodes, l->edges, l->listed, l->lengths, l->paths,
         g.nodes, ROOM, g.endpoint, ROOM, g.from, ROOM, g.to, ROOM, g.via, ROOM, scratch, SCRATCH));
     g.copies = (uint32_t)counts;
     g.edges = counts >> 32;
     return g;
 }
 
-static times times_of(const graph *g, size_t marks)
+static times times_of(const graph *g, size_t marked_nodes)
 {
     times t;
     or_stop(jaqhweni_times(
-        NODES, starts, EDGES, ends, EDGES, early, EDGES, late, EDGES, marked, marks, ALLOWED_TIME,
+        NODES, starts, EDGES, ends, EDGES, early, EDGES, late, EDGES, marked, marked_nodes, ALLOWED_TIME,
         g->nodes, g->copies, g->endpoint, g->copies, g->from, g->edges, g->to, g->edges, g->via, g->edges,
         t.arrivals, g->copies, t.requireds, g->copies, t.slacks, g->copies, t.earliests, g->copies));
     return t;
@@ -150,10 +150,10 @@ static void check_hold(const graph *g)
 }
 
 /* The slack of a node is the smallest of its copies' slacks. */
-static void print_slack_at_pin(const char *when, const path_list *l, size_t marks)
+static void print_slack_at_pin(const char *when, const path_list *l, size_t marked_nodes)
 {
-    graph g = from_arrays(l, marks);
-    times t = times_of(&g, marks);
+    graph g = from_arrays(l, marked_nodes);
+    times t = times_of(&g, marked_nodes);
     int64_t slack = INT64_MAX;
     for (size_t copy = 0; copy < g.copies; copy++)
         if (g.nodes[copy] == PIN && t.slacks[copy] < slack) slack = t.slacks[copy];

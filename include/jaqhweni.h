@@ -6,8 +6,8 @@
  * end there, and others pass through. At a marked source there is the path without edges too.
  *
  * A listed path is a run of edges that is known never to be exercised (a false path). The true timing graph has copies of the nodes, and
- * edges between copies, and says of each copy whether paths end at it, such that its paths are the design's paths that contain no listed
- * path, each once, with both delays unchanged.
+ * edges between copies, and says of each copy whether paths end at it. Its paths run from a source copy (a copy without an edge in) to a
+ * copy where paths end, and are the design's paths that contain no listed path, each once, with both delays unchanged.
  *
  * Link with libjaqhweni.a. No function allocates, keeps anything between calls or reads anything but its arguments, so calls on separate
  * buffers may run on separate threads. How much stack a call takes is said below. A slice is a pointer and its count of elements (not
@@ -82,7 +82,7 @@ extern "C" {
 
 /* The most stack that a call takes, in bytes, whatever it is given: as measured at the limits (tests/stack.c), rounded up. */
 #define JAQHWENI_STACK_TRUE_GRAPH 393216
-#define JAQHWENI_STACK_REMOVE_FROM_DESIGN 262144
+#define JAQHWENI_STACK_REMOVE_FROM_DESIGN 278528
 #define JAQHWENI_STACK_REMOVE_FROM_GRAPH 196608
 #define JAQHWENI_STACK_TIMES 49152
 #define JAQHWENI_STACK_WRITE_GRAPH 4096

@@ -89,31 +89,56 @@ def bytes_request(name, call, sent, room, answer, result):
     return Request(name, words([call]) + sent + words([room]), answer, result + before[len(result):])
 
 
-def deck_request(name, data, room):
+def deck_call(name, data, room, answer, result):
     padded = words([len(data)]) + data + b"\0" * (-len(data) % 4)
-    return bytes_request(name, TRUE_GRAPH, padded, room, *walker.c_call(data, room))
+    return bytes_request(name, TRUE_GRAPH, padded, room, answer, result)
 
 
-def write_request(name, graph, room):
-    try:
-        result = walker.write_graph(graph, room)
-        answer = len(result)
-    except walker.Refused as refused:
-        answer, result = refusal_answer(refused.refusal), b""
+def write_call(name, graph, room, refusal, result):
+    answer = refusal_answer(refusal) if refusal else len(result)
     return bytes_request(name, WRITE_GRAPH, graph_bytes(graph), room, answer, result)
 
 
-def times_request(name, design, graph, allowed_time, lengths):
-    """`lengths` are those of the four slices for times."""
+def times_call(name, design, graph, allowed_time, lengths, refusal, times):
+    """`lengths` are those of the four slices for times, `times` what they hold where nothing is refused."""
     before = [[-1_000_000_000_000 * (which + 1) - place for place in range(length)] for which, length in enumerate(lengths)]
-    answer = 0
-    try:
-        found = walker.times(design, graph, allowed_time, lengths)
-        before = [[at_copy[part] for at_copy in found] for part in range(4)]
-    except walker.Refused as refused:
-        answer = refusal_answer(refused.refusal)
     sent = words([TIMES]) + design_bytes(design) + words([allowed_time]) + graph_bytes(graph) + words(lengths)
-    return Request(name, sent, answer, *(array.array("q", part).tobytes() for part in before))
+    after = (array.array("q", part).tobytes() for part in (before if refusal else times))
+    return Request(name, sent, refusal_answer(refusal) if refusal else 0, *after)
+
+
+def removal_call(name, design, path_list, earlier, room, scratch, refusal, result):
+    """From the design where there is no earlier graph; `result` are five slices, empty where it is refused."""
+    call = REMOVE_FROM_DESIGN if earlier is None else REMOVE_FROM_GRAPH
+    sent = words([call]) + design_bytes(design) + lent(path_list.flat) + lent(path_list.lengths)
+    sent += b"" if earlier is None else graph_bytes(earlier)
+    answer = refusal_answer(refusal) if refusal else len(result[0]) + (len(result[2]) << 32)
+    after = [words(part) + words(pattern(which, length)[len(part):]) for which, (length, part) in enumerate(zip(room, result))]
+    after.append(words(walker.scratch_after(pattern(5, scratch), refusal)))
+    return Request(name, sent + words([*room, scratch]), answer, *after)
+
+
+# ---- The same with the walker's outcome -----------------------------------------------------------
+
+def outcome(refused_result, call, *given):
+    """The refusal or None, and what was made; where it is refused, what stands for a result then."""
+    try:
+        return None, call(*given)
+    except walker.Refused as refused:
+        return refused.refusal, refused_result
+
+
+def deck_request(name, data, room):
+    return deck_call(name, data, room, *walker.c_call(data, room))
+
+
+def write_request(name, graph, room):
+    return write_call(name, graph, room, *outcome(b"", walker.write_graph, graph, room))
+
+
+def times_request(name, design, graph, allowed_time, lengths):
+    refusal, found = outcome((), walker.times, design, graph, allowed_time, lengths)
+    return times_call(name, design, graph, allowed_time, lengths, refusal, [[at_copy[part] for at_copy in found] for part in range(4)])
 
 
 class Recorded(Series):
@@ -124,21 +149,12 @@ class Recorded(Series):
         self.name, self.requests = name, []
 
     def add(self, where, path_list, room, scratch, given=None):
-        self.held = self.worked_on(where, given)
-        call = REMOVE_FROM_DESIGN if self.held is None else REMOVE_FROM_GRAPH
-        sent = words([call]) + design_bytes(self.design) + lent(path_list.flat) + lent(path_list.lengths)
-        if self.held is not None:
-            sent += graph_bytes(self.held)
-        refusal, result = None, ((),) * 5
-        try:
-            result = walker.removal(self.design, path_list, self.held, scratch, room)
+        earlier = self.held = self.worked_on(where, given)
+        refusal, result = outcome(((),) * 5, walker.removal, self.design, path_list, earlier, scratch, room)
+        if refusal is None:
             self.held = result
-        except walker.Refused as refused:
-            refusal = refused.refusal
-        answer = refusal_answer(refusal) if refusal else len(result.copy_nodes) + (len(result.starts) << 32)
-        after = [words(result[which]) + words(pattern(which, length)[len(result[which]):]) for which, length in enumerate(room)]
-        after.append(words(walker.scratch_after(pattern(5, scratch), refusal)))
-        self.requests.append(Request("%s, removal %d" % (self.name, len(self.requests)), sent + words([*room, scratch]), answer, *after))
+        name = "%s, removal %d" % (self.name, len(self.requests))
+        self.requests.append(removal_call(name, self.design, path_list, earlier, room, scratch, refusal, result))
         self.refusals.append(refusal)
         return refusal
 
@@ -279,12 +295,12 @@ def at_the_limits():
     series = Recorded(design_of(4097, []), "4,097 isolated nodes")
     assert series.add(DESIGN, PathList([], []), room_of(4097, 0), walker.WORDS_PER_UNIT * 4097) == (10, 0)
     yield from done(series)
-    # all 4,096 nodes marked; one mark more than that
+    # all 4,096 nodes marked; one marked node more than that
     series = Recorded(design_of(4096, [], range(4096)), "4,096 marked nodes")
     thresholds(series, DESIGN, PathList([], []))
     thresholds(series, HELD, PathList([], []))
     yield from done(series)
-    series = Recorded(design_of(4096, [], [*range(4096), 4096]), "4,097 marks")
+    series = Recorded(design_of(4096, [], [*range(4096), 4096]), "4,097 marked nodes")
     assert series.add(DESIGN, PathList([], []), room_of(4096, 0), walker.WORDS_PER_UNIT * 4096) == (16, 4096)
     yield from done(series)
     design, path_list, further = full_design()

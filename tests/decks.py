@@ -129,7 +129,7 @@ def damage_values(rng, deck):
     for length in path_list.lengths:
         paths.append(flat[:length])
         flat = flat[length:]
-    kind = rng.choice("node node fall fall delay delay above above mark mark mark marks empty edge join join time fewer".split())
+    kind = rng.choice("node node fall fall delay delay above above marked marked marked more_marked empty edge join join time fewer".split())
     at = rng.randrange(len(starts)) if starts else None
     which = rng.randrange(len(paths)) if paths else None
     if kind == "node" and starts:
@@ -140,10 +140,10 @@ def damage_values(rng, deck):
         rng.choice([early, late])[at] = rng.choice([1_000_001, -1_000_001, 2 ** 31 - 1, -2 ** 31])
     elif kind == "above" and starts:
         early[at] = min(late[at] + rng.choice([1, 1, 2, 40]), 2 ** 31 - 1)
-    elif kind == "mark":                                          # not below n, not rising, twice, or none of these by chance
+    elif kind == "marked":                                        # not below n, not rising, twice, or none of these by chance
         value = rng.choice([nodes, nodes + 1, 4096, 2 ** 32 - 1] + marked + list(range(nodes)))
         marked.insert(rng.randint(0, len(marked)), value)
-    elif kind == "marks":                                         # more than n
+    elif kind == "more_marked":                                   # more than n
         marked += [rng.randint(0, nodes)] * (nodes + rng.choice([0, 1, 1, 2]) - len(marked))
     elif kind == "empty":
         paths.insert(rng.randint(0, len(paths)), [])
@@ -283,7 +283,7 @@ def decks_with_marked():
     found += [deck_of(5, edges, paths, time, [2, 1]) for edges, paths, time in
               (([(0, 2, 4, 3)], [], 10), ([(3, 1, 0)], [], 10), ([(0, 9, 0)], [], 10), ([(0, 1, 2_000_000)], [], 10), (A_EDGES, [[]], 10),
                (A_EDGES, [[9]], 10), (A_EDGES, [[2, 1]], 10), (A_EDGES, [], 2 ** 32 - 1), ([(0, 2, 4, 3)], [[]], 10))]
-    # more marks than nodes: 16 with place n, before the marks are read; then 36, above 1,024 of them
+    # more marked nodes than nodes: 16 with place n, before they are read; then 36, above 1,024 of them
     found += [deck_of(nodes, [], [], 5, marked) for nodes, marked in
               ((0, [0]), (1, [0, 0]), (2, [0, 1, 1]), (5, range(6)), (1024, range(1024)), (1024, [0] * 1025), (1025, range(1025)),
                (1500, range(1024)), (1500, range(1025)), (4096, range(1025)), (4096, [7] * 4097), (4097, range(5)))]

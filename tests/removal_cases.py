@@ -6,7 +6,7 @@ python3 tests/removal_cases.py --check   says whether the two files are what it 
 
 Every expected answer is that of tests/walker.py, the separate program, which walks all paths.
 
-Input: up to two blocks of 65,536 bytes (the last may be shorter). A block is packed numbers: the count of its series, the series, and
+Input: up to three blocks of 65,536 bytes (the last may be shorter). A block is packed numbers: the count of its series, the series, and
 zeros. A series is one design and some removals, in order:
 
     n; five slices: starts, ends, early and late delays (as packed numbers), marked nodes; the count of removals; the removals
@@ -38,7 +38,7 @@ from walker import Design, Graph, PathList, Room
 # The program's tables, and its room and scratch.
 EDGE_TABLE, MARKED_TABLE, LISTED_TABLE, PATH_TABLE, COPY_TABLE, COPY_EDGE_TABLE = 16400, 4200, 8200, 1040, 16400, 2080
 COPY_ROOM, EDGE_ROOM, SCRATCH = 2080, 2080, 32768
-BLOCKS = 2                  # that it reads
+BLOCKS = 3                  # that it reads
 NUMBERS = (30, 10, 11, 12, 13, 14, 15, 16, 20, 21, 22, 23, 24, 31, 32, 33, 34)
 DESIGN, HELD, GIVEN = range(3)
 TOP = 4294967295
@@ -339,9 +339,9 @@ def unfit_lists_and_graphs():
     series = Series(observed)
     changed = [[number if place == k else old for place, old in enumerate(graph.endpoints)] for k in range(6) for number in (0, 1, 2, TOP)]
     given = [graph._replace(endpoints=endpoints) for endpoints in changed + [[0, 0, 0, 1, 1, 1], [0, 0, 0, 0, 1, 1], [0, 0, 1, 1, 1, 1]]]
-    given += [graph._replace(starts=[0, 1, 3, 2], ends=[2, 2, 4, 5], design_edges=[0, 1, 2, 3]),             # copy 3 without an edge in
-              Graph([0, 1, 2, 2, 4], [0, 0, 1, 0, 1], [0, 1, 0, 2], [2, 2, 3, 4], [0, 1, 0, 3]),              # and without one out, with 0
-              Graph([0, 1, 2, 2, 4], [0, 0, 0, 1, 1], [0, 1, 0, 2], [2, 2, 3, 4], [0, 1, 0, 3]),              # and with 1
+    given += [graph._replace(starts=[0, 1, 3, 2], ends=[2, 2, 4, 5], design_edges=[0, 1, 2, 3]),             # copy 3 has no edge in
+              Graph([0, 1, 2, 2, 4], [0, 0, 1, 0, 1], [0, 1, 0, 2], [2, 2, 3, 4], [0, 1, 0, 3]),              # it has one in, none out, and 0
+              Graph([0, 1, 2, 2, 4], [0, 0, 0, 1, 1], [0, 1, 0, 2], [2, 2, 3, 4], [0, 1, 0, 3]),              # the same with 1: well formed
               Graph([0, 1, 2], [0, 0, 1], [0, 1], [2, 2], [0, 1]), Graph([2], [1], [], [], []), Graph([0, 2], [0, 1], [0], [1], [0])]
     for graph in given:
         series.add(GIVEN, path_list_of([[0, 3]]), room_of(9, 9), 1024, graph)
@@ -460,7 +460,7 @@ def random_cases(rng, count):
 def main():
     all_series = [series for cases in (marked, with_marked, adversarial, widest_rooms, unfit_designs, unfit_lists_and_graphs)
                   for series in cases()]
-    all_series += random_cases(random.Random(7), 515)
+    all_series += random_cases(random.Random(7), 800)
     refusals = [refusal for series in all_series for refusal in series.refusals]
     assert set(NUMBERS) == {refusal[0] for refusal in refusals if refusal}, set(refusals)
     stdin = expected.in_blocks([series.packed() for series in all_series], BLOCKS)

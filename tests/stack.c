@@ -35,14 +35,14 @@ static int64_t of_deck(void)
 
 static int64_t from_design(void)
 {
-    return jaqhweni_remove_from_design(d.n, d.starts, d.m, d.ends, d.m, d.early, d.m, d.late, d.m, d.marked, d.marks, list.edges,
+    return jaqhweni_remove_from_design(d.n, d.starts, d.m, d.ends, d.m, d.early, d.m, d.late, d.m, d.marked, d.marked_nodes, list.edges,
                                        list.listed, list.lengths, list.paths, room.nodes, ROOM_COPIES, room.endpoint, ROOM_COPIES,
                                        room.from, ROOM_EDGES, room.to, ROOM_EDGES, room.via, ROOM_EDGES, scratch, words);
 }
 
 static int64_t from_graph(void)
 {
-    return jaqhweni_remove_from_graph(d.n, d.starts, d.m, d.ends, d.m, d.early, d.m, d.late, d.m, d.marked, d.marks, list.edges,
+    return jaqhweni_remove_from_graph(d.n, d.starts, d.m, d.ends, d.m, d.early, d.m, d.late, d.m, d.marked, d.marked_nodes, list.edges,
                                       list.listed, list.lengths, list.paths, earlier.nodes, earlier.copies, earlier.endpoint,
                                       earlier.copies, earlier.from, earlier.edges, earlier.to, earlier.edges, earlier.via, earlier.edges,
                                       room.nodes, ROOM_COPIES, room.endpoint, ROOM_COPIES, room.from, ROOM_EDGES, room.to, ROOM_EDGES,
@@ -51,7 +51,7 @@ static int64_t from_graph(void)
 
 static int64_t of_times(void)
 {
-    return jaqhweni_times(d.n, d.starts, d.m, d.ends, d.m, d.early, d.m, d.late, d.m, d.marked, d.marks, 1000000, earlier.nodes,
+    return jaqhweni_times(d.n, d.starts, d.m, d.ends, d.m, d.early, d.m, d.late, d.m, d.marked, d.marked_nodes, 1000000, earlier.nodes,
                           earlier.copies, earlier.endpoint, earlier.copies, earlier.from, earlier.edges, earlier.to, earlier.edges,
                           earlier.via, earlier.edges, times[0], earlier.copies, times[1], earlier.copies, times[2], earlier.copies,
                           times[3], earlier.copies);

@@ -292,7 +292,7 @@ class Ranges(unittest.TestCase):
             self.assertEqual(refusal(design, path_list), (16, 1))                           # 16 before 20 to 24
         self.assertEqual(w.refusal_of(w.times, design, w.Graph([9], [7], [], [], []), 2 ** 31, [1] * 4), (16, 1))   # and before 25 and 32
         self.assertEqual(printed(deck_of(5, A_EDGES, [[2, 1]], 2 ** 31, [2, 2])), "refused 16 at 1\n")
-        # the deck's writer: after 20 and 21, with place n, before 35; it does not look at the marks themselves
+        # the deck's writer: after 20 and 21, with place n, before 35; it does not look at the marked nodes themselves
         self.assertEqual(w.refusal_of(w.write_deck, deck_of(2, [], [], 0, [0, 1, 1]), 0), (16, 2))
         self.assertEqual(w.refusal_of(w.write_deck, deck_of(0, [], [[0]] * 1025, 0, [0]), 0), (20, 0))
         self.assertEqual(w.write_deck(deck_of(2, [], [], 7, [9, 9]), 99), bytes([2, 0, 0, 2, 9, 9, 7]))

@@ -15,7 +15,7 @@ import walker
 from decks import A_BACK_EDGES, A_EDGES, HOLD, HOLD_EDGES, MARKED, deck_of, decks_with_marked, random_design, random_foreign_graph, random_paths
 
 TABLE = 4200                # the program's
-BLOCKS = 2                  # the program's
+BLOCKS = 3                  # the program's
 NUMBERS = (30, 10, 12, 13, 14, 15, 16, 25, 32)     # 11 takes longer slices: unfit_cases has it
 DELAYS = ("early", "late")
 GRAPH_EDGES = ("copy_starts", "copy_ends", "names")
@@ -296,9 +296,9 @@ def random_given(chance):
 def cases():
     yield from fixed()
     chance = random.Random(32)
-    for _ in range(250):
+    for _ in range(300):
         yield random_given(chance)
-    for _ in range(780):
+    for _ in range(1000):
         given = random_given(chance)
         for _ in range(chance.choice((1, 1, 1, 2, 3))):
             chance.choice(DAMAGES)(given, chance)

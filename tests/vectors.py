@@ -1,17 +1,19 @@
 #!/usr/bin/env python3
 """Vectors that came from outside, against tests/walker.py and against what is built.
 
-    python3 tests/vectors.py FOLDER [--program PATH] [--library PATH]
+    python3 tests/vectors.py FOLDER [--program PATH] [--library PATH] [--cases PATH]
 
 FOLDER has decks with what the deck program must print (NAME.deck, NAME.out), calls of the C function from deck to packed graph
-(ccall.tsv) and calls over slices (slices.jsonl); the README.md there says how they are written. All of it is asked of the walker; with
---program the decks of that deck program, and with --library the calls of that libjaqhweni.a, by way of tests/c_runner.c: ccall.tsv and,
-of slices.jsonl, removals, series, times and packed graphs, with all that was lent. What is not there yet (kinds of calls), and for the
-walker a deck with more paths than it walks, is skipped and counted. Prints every difference, and how many were compared of each kind; exit
-status 1 if anything differs.
+(ccall.tsv) and calls over slices (slices.jsonl); the README.md there says how they are written. All of it is asked of the walker.
+- With --program (target/bin/deck_program) the decks are asked of that deck program.
+- With --library (target/staticlib/libjaqhweni.a) the calls are asked of that library, by way of tests/c_runner.c: ccall.tsv and, of
+  slices.jsonl, removals, the steps of series, times and written graphs, with all that was lent.
+- With --cases (target/bin/bytes_cases) the readers and writers, which have no C call yet, are asked of that program. Its lines must be
+  those that tests/bytes_cases.py makes of the walker's answer, which is itself compared with the vector.
+What is not there yet (kinds of calls), and for the walker a deck with more paths than it walks, is skipped and counted. Prints every
+difference, and how many were compared of each kind; exit status 1 if anything differs.
 """
 import argparse
-import array
 import collections
 import json
 import pathlib
@@ -19,12 +21,13 @@ import subprocess
 import sys
 
 import against_walker
+import bytes_cases
 import walker
-from against_walker import Request, bytes_request, design_bytes, graph_bytes, lent, refusal_answer, words
-from removal_cases import pattern
+from against_walker import deck_call, removal_call, times_call, write_call
 from walker import Deck, Design, Graph, PathList, Room, Tables
 
 TIMES = ("arrival", "required", "slack", "earliest")
+NAMES = {"series": "steps of series"}          # where a vector is more than one call
 
 
 class Compared:
@@ -71,6 +74,14 @@ def room_in(vector):
     return Room(*vector["copy_rooms"], *vector["edge_rooms"])
 
 
+def tables_in(vector):
+    return Tables(*vector["edge_tables"], vector["listed_table"], vector["path_table"], vector["mark_table"])
+
+
+def deck_in(vector):
+    return Deck(design_in(vector), list_in(vector), vector["T"])
+
+
 def deck_out(deck):
     names = ("n", "starts", "ends", "early", "late", "marked")
     return dict(zip(names, deck.design), lengths=deck.path_list.lengths, listed=deck.path_list.flat, T=deck.allowed_time)
@@ -83,11 +94,6 @@ def removed(vector, earlier, step=None):
     return walker.removal(design_in(vector), list_in(step), earlier, step["scratch"], room_in(step))
 
 
-def read_deck(vector):
-    tables = Tables(*vector["edge_tables"], vector["listed_table"], vector["path_table"], vector["mark_table"])
-    return {"deck": deck_out(walker.read_deck(bytes.fromhex(vector["bytes"]), tables))}
-
-
 def times(vector):
     found = walker.times(design_in(vector), graph_in(vector["graph"]), vector["T"], vector["time_lengths"])
     return {"times": {name: [at_copy[part] for at_copy in found] for part, name in enumerate(TIMES)}}
@@ -98,8 +104,8 @@ KINDS = {
     "times": times,
     "read_graph": lambda v: {"graph": graph_out(walker.read_graph(bytes.fromhex(v["bytes"]), room_in(v)))},
     "write_graph": lambda v: {"bytes": walker.write_graph(graph_in(v["graph"]), v["room"]).hex()},
-    "read_deck": read_deck,
-    "write_deck": lambda v: {"bytes": walker.write_deck(Deck(design_in(v), list_in(v), v["T"]), v["room"]).hex()},
+    "read_deck": lambda v: {"deck": deck_out(walker.read_deck(bytes.fromhex(v["bytes"]), tables_in(v)))},
+    "write_deck": lambda v: {"bytes": walker.write_deck(deck_in(v), v["room"]).hex()},
 }
 
 
@@ -115,7 +121,7 @@ def walker_on_slices(vector, name, compared):
     if kind == "series":
         held = None
         for number, step in enumerate(vector["steps"]):
-            compared.same("walker, series", "%s, step %d" % (name, number),
+            compared.same("walker, " + NAMES[kind], "%s, step %d" % (name, number),
                           lambda: outcome(lambda: {"graph": graph_out(removed(vector, held, step))}), step["want"])
             held = graph_in(step["want"].get("graph")) or held
     elif kind in KINDS:
@@ -127,29 +133,14 @@ def walker_on_slices(vector, name, compared):
 # ---- The C calls: requests whose answers are those of the vectors ----------------------------------
 
 def removal_request(name, vector, earlier, step):
-    room, scratch, want = room_in(step), step["scratch"], step["want"]
-    call = against_walker.REMOVE_FROM_DESIGN if earlier is None else against_walker.REMOVE_FROM_GRAPH
-    sent = words([call]) + design_bytes(design_in(vector)) + lent(step["listed"]) + lent(step["lengths"])
-    sent += b"" if earlier is None else graph_bytes(earlier)
-    refusal, result = want.get("refused"), graph_in(want.get("graph")) or ((),) * 5
-    answer = refusal_answer(refusal) if refusal else len(result[0]) + (len(result[2]) << 32)
-    after = [words(part) + words(pattern(which, length)[len(part):]) for which, (length, part) in enumerate(zip(room, result))]
-    after.append(words(walker.scratch_after(pattern(5, scratch), refusal)))
-    return Request(name, sent + words([*room, scratch]), answer, *after)
-
-
-def times_request(name, vector):
-    want, lengths = vector["want"], vector["time_lengths"]
-    after = [[-1_000_000_000_000 * (which + 1) - place for place in range(length)] for which, length in enumerate(lengths)]
-    if "times" in want:
-        after = [want["times"][part] for part in TIMES]
-    sent = words([against_walker.TIMES]) + design_bytes(design_in(vector)) + words([vector["T"]]) + graph_bytes(graph_in(vector["graph"]))
-    answer = refusal_answer(want["refused"]) if "refused" in want else 0
-    return Request(name, sent + words(lengths), answer, *(array.array("q", part).tobytes() for part in after))
+    want = step["want"]
+    result = graph_in(want.get("graph")) or ((),) * 5
+    return removal_call(name, design_in(vector), list_in(step), earlier, room_in(step), step["scratch"], want.get("refused"), result)
 
 
 def requests_of(vector, name):
-    kind = vector["kind"]
+    kind, want = vector["kind"], vector.get("want", {})
+    refusal = want.get("refused")
     if kind == "series":
         held = None
         for number, step in enumerate(vector["steps"]):
@@ -158,16 +149,10 @@ def requests_of(vector, name):
     elif kind == "remove":
         yield removal_request(name, vector, graph_in(vector["graph"]), vector)
     elif kind == "times":
-        yield times_request(name, vector)
+        times = [want["times"][part] for part in TIMES] if "times" in want else None
+        yield times_call(name, design_in(vector), graph_in(vector["graph"]), vector["T"], vector["time_lengths"], refusal, times)
     elif kind == "write_graph":
-        want = vector["want"]
-        result = bytes.fromhex(want.get("bytes", ""))
-        answer = refusal_answer(want["refused"]) if "refused" in want else len(result)
-        yield bytes_request(name, against_walker.WRITE_GRAPH, graph_bytes(graph_in(vector["graph"])), vector["room"], answer, result)
-
-
-def deck_call(name, data, room, answer, result):
-    return bytes_request(name, against_walker.TRUE_GRAPH, words([len(data)]) + data + b"\0" * (-len(data) % 4), room, answer, result)
+        yield write_call(name, graph_in(vector["graph"]), vector["room"], refusal, bytes.fromhex(want.get("bytes", "")))
 
 
 def run_request(command, request, kind, compared):
@@ -177,6 +162,23 @@ def run_request(command, request, kind, compared):
     compared.counts[kind] += 1
     if found != request.expected:
         compared.differences.append("%s, %s" % (kind, against_walker.first_difference([request], found)))
+
+
+# ---- The readers and writers: cases of bytes_cases -------------------------------------------------
+
+CASES = {
+    "read_deck": lambda v: bytes_cases.read_deck(bytes.fromhex(v["bytes"]), tables_in(v)),
+    "write_deck": lambda v: bytes_cases.write_deck(deck_in(v), v["room"]),
+    "read_graph": lambda v: bytes_cases.read_graph(bytes.fromhex(v["bytes"]), room_in(v)),
+    "write_graph": lambda v: bytes_cases.write_graph(graph_in(v["graph"]), v["room"]),
+}
+
+
+def run_case(program, vector, name, compared):
+    """One run for each case: a block of it alone."""
+    case, (_, lines) = CASES[vector["kind"]](vector)
+    run = subprocess.run([program], input=walker.write_number(1) + case, capture_output=True)
+    compared.same("bytes_cases, " + vector["kind"], name, lambda: (run.returncode, run.stdout.decode()), (0, lines))
 
 
 # ---- All of it ---------------------------------------------------------------------------------
@@ -194,6 +196,7 @@ def main():
     parser.add_argument("folder", type=pathlib.Path)
     parser.add_argument("--program", type=pathlib.Path)
     parser.add_argument("--library", type=pathlib.Path)
+    parser.add_argument("--cases", type=pathlib.Path)
     options = parser.parse_args()
     compared, command = Compared(), None
     if options.library:
@@ -204,7 +207,7 @@ def main():
         compared.same("walker, decks printed", path.stem, lambda: walker.deck_program(data).encode(), wanted)
         if options.program:
             run = subprocess.run([options.program.resolve()], input=data, capture_output=True)
-            compared.same("deck program", path.stem, lambda: run.stdout, wanted)
+            compared.same("deck program", path.stem, lambda: (run.returncode, run.stdout), (0, wanted))
     for name, data, room, number, written in c_calls(options.folder):
         compared.same("walker, C call", name, lambda: walker.c_call(data, room), (number, written))
         if command:
@@ -213,7 +216,9 @@ def main():
         vector, name = json.loads(line), "line %d" % (number + 1)
         walker_on_slices(vector, name, compared)
         for request in requests_of(vector, name) if command else ():
-            run_request(command, request, "C, " + vector["kind"], compared)
+            run_request(command, request, "C, " + NAMES.get(vector["kind"], vector["kind"]), compared)
+        if options.cases and vector["kind"] in CASES:
+            run_case(options.cases.resolve(), vector, name, compared)
     for difference in compared.differences:
         print(difference)
     print("vectors: %s; skipped: %s; %d differences" % (against_walker.in_words(compared.counts),

@@ -537,7 +537,7 @@ def deck_numbers(deck):
     return numbers + [len(design.marked), *design.marked, allowed_time]
 
 def write_deck(deck, room):
-    """"Writers test only 30, the counts (10, 11, 20, 21; 32 for a graph) and 35", and 16 at more marks than n "after the counts"."""
+    """"Writers test only 30, the counts (10, 11, 20, 21; 32 for a graph) and 35", and 16 at more marked nodes than n "after the counts"."""
     design, path_list, _ = deck
     refuse(slices_refusal([design_slices(design)], path_list))
     for count, most, number in ((design.nodes, MOST_NODES, 10), (len(design.starts), MOST_EDGES, 11),

@@ -41,8 +41,8 @@ joined node copy = not node || copy
 abbrev pub endFits : Bool → Bool → Bool → Bool → Bool
 endFits end out marked left = cond end (joined out marked) (out && left)
 
--- A copy of node v where paths end: `lowest` is the lowest node that it may be of. As copies never fall in node number, at most one copy of
--- each node is one where paths end if the nodes of these rise.
+-- A copy of node v where paths end: `lowest` is the lowest node that it may be of. As copies never fall in node number, paths end at no two
+-- copies of one node if the nodes of the copies where they end rise strictly.
 abbrev pub endRises : Bool → ℕ → ℕ → Bool
 endRises end lowest v = cond end (leb lowest v) true
 

@@ -168,7 +168,7 @@ fn end_fits(end: bool, out: bool, marked: bool, left: bool) -> bool
     both(out, left)
 }
 
-// The nodes of the copies where paths end rise: `lowest` is the lowest that is left for one of node v.
+// The nodes of the copies where paths end rise strictly: `lowest` is the lowest node that such a copy may have now, and v the node of this one.
 fn end_rises(end: bool, lowest: usize, v: u32) -> bool
     ensures { λ r. ⌜ r ≡ endRises end lowest v ⌝ }
 {
@@ -178,7 +178,7 @@ fn end_rises(end: bool, lowest: usize, v: u32) -> bool
     true
 }
 
-// The lowest node that is left for the copies after copy c.
+// The lowest node that a copy after copy c may have if paths end at it.
 fn lowest_after(nodes: &[u32], endpoint: &[u32], lowest: usize, c: usize) -> usize
     ensures { λ r. ⌜ r ≡ lowestAfter (now (nodes .entry)) (now (endpoint .entry)) lowest c ⌝ }
 {

@@ -81,7 +81,7 @@ fn list_tests(
 
 // Removal from a design that has passed its tests. As a graph it has a copy for each node and an edge for
 // each edge, each of its own number: so the numbers are written down, in room for as many as a design can
-// have, and beside those of the nodes where paths end.
+// have, and for each node its endpoint number.
 fn remove_tested(
     n: usize,
     starts: &[u32],

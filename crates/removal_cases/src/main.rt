@@ -103,4 +103,5 @@ fn run_block() {
 fn main() {
     run_block();
     run_block();
+    run_block();
 }

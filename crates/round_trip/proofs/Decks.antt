@@ -88,9 +88,9 @@ paths-there s at table before edges (k ∷ lengths) ys a l m h e =
 -- the marked nodes, T and the end, behind the edges and the list
 abbrev lastReader : List ℕ → Tables → ℕ → List EdgeRow → PathList → Reader Deck
 lastReader s tables n rows list = do
-  marks ← number s
-  tested (markedCount n marks then unless 36 (leb marks (tables .marked)))
-  marked ← repeated marks (number s)
+  k ← number s
+  tested (markedCount n k then unless 36 (leb k (tables .marked)))
+  marked ← repeated k (number s)
   allowed ← number s
   ended s
   return (record { design = designOf n rows marked; list = list; allowed = allowed })
@@ -206,29 +206,29 @@ module _ (s : List ℕ) (bytes : Bytes s) where
       )))))
 
   -- the parts of a deck, put together
-  took-parts : (n m count marks e : ℕ) (rows : List EdgeRow) (list : PathList) (marked : List ℕ) (a b c p t x y f : ℕ)
+  took-parts : (n m count k e : ℕ) (rows : List EdgeRow) (list : PathList) (marked : List ℕ) (a b c p t x y f : ℕ)
       → Took s 0 (n ∷ []) a → Took s a (m ∷ []) b → TookRows m b rows c → Took s c (count ∷ []) p
-      → TookPaths count p list t → Took s t (marks ∷ []) x → TookNumbers s bytes marks x marked y → Took s y (e ∷ []) f → length s ≤ f
+      → TookPaths count p list t → Took s t (k ∷ []) x → TookNumbers s bytes k x marked y → Took s y (e ∷ []) f → length s ≤ f
       → packedDeck (record { design = designOf n rows marked; list = list; allowed = e }) ≡ s
-  took-parts n m count marks e rows list marked a b c p t x y f hn hm hr hc hp hk hv ht he =
+  took-parts n m count k e rows list marked a b c p t x y f hn hm hr hc hp hk hv ht he =
       let d : Deck = record { design = designOf n rows marked; list = list; allowed = e } in
-      let k : length (map (λ (r : EdgeRow). r .start) rows) ≡ m = length-map rows (λ (r : EdgeRow). r .start) ∙ hr .1 in
+      let same : length (map (λ (r : EdgeRow). r .start) rows) ≡ m = length-map rows (λ (r : EdgeRow). r .start) ∙ hr .1 in
       let ps = flatMap pathNumbers (cut (list .edges) (list .lengths)) in
-      let tail = (marks ∷ marked) ++ (e ∷ []) in
+      let tail = (k ∷ marked) ++ (e ∷ []) in
       packed-deck d ∙ ap bytesOf (deck-parts d)
-      ∙ rw (k, hp .1, hv .1)
+      ∙ rw (same, hp .1, hv .1)
       (whole s bytes f ((n ∷ m ∷ rowNumbers rows) ++ (count ∷ ps) ++ tail)
       (took-both s 0 t f ((n ∷ m ∷ rowNumbers rows) ++ (count ∷ ps)) tail
       (took-both s 0 c t (n ∷ m ∷ rowNumbers rows) (count ∷ ps) (took-both s 0 a c (n ∷ []) (m ∷ rowNumbers rows) hn (took-both s a b c (m ∷ []) (rowNumbers rows) hm (hr .0)))
       (took-both s c p t (count ∷ []) ps hc (hp .0)))
-      (took-both s t y f (marks ∷ marked) (e ∷ []) (took-both s t x y (marks ∷ []) marked hk (hv .0)) ht))
+      (took-both s t y f (k ∷ marked) (e ∷ []) (took-both s t x y (k ∷ []) marked hk (hv .0)) ht))
       he)
 
   took-deck : (tables : Tables) → Is (λ d next. packedDeck d ≡ s) (readDeck s tables)
   unfolding readDeck
   took-deck tables =
       let Q : Deck → ℕ → Type 0 = λ d next. packedDeck d ≡ s in
-      let markTest : ℕ → ℕ → Verdict = λ n marks. markedCount n marks then unless 36 (leb marks (tables .marked)) in
+      let markedTest : ℕ → ℕ → Verdict = λ n k. markedCount n k then unless 36 (leb k (tables .marked)) in
       is-onward (λ x next. Took s 0 (x ∷ []) next) Q (number s 0) _ (took-number s bytes 0)
       (λ n a hn. is-onward (TestIs (unless 10 (leb n 4096)) a) Q (tested (unless 10 (leb n 4096)) a) _ (is-tested (unless 10 (leb n 4096)) a)
       (λ u a' ta. is-onward (λ x next. Took s a' (x ∷ []) next) Q (number s a') _ (took-number s bytes a')
@@ -240,11 +240,11 @@ module _ (s : List ℕ) (bytes : Bytes s) where
       (is-tested (unless 20 (leb count 1024) then unless 36 (leb count (tables .paths))) p)
       (λ u″ p' tp. is-onward (TookPaths count p') Q (paths s (tables .listed) count 0 p') _ (took-paths (tables .listed) count 0 p')
       (λ list t hp. is-onward (λ x next. Took s t (x ∷ []) next) Q (number s t) _ (took-number s bytes t)
-      (λ marks x hk. is-onward (TestIs (markTest n marks) x) Q (tested (markTest n marks) x) _ (is-tested (markTest n marks) x)
-      (λ u‴ x' tx. is-onward (TookNumbers s bytes marks x') Q (repeated marks (number s) x') _ (took-numbers s bytes marks x')
+      (λ k x hk. is-onward (TestIs (markedTest n k) x) Q (tested (markedTest n k) x) _ (is-tested (markedTest n k) x)
+      (λ u‴ x' tx. is-onward (TookNumbers s bytes k x') Q (repeated k (number s) x') _ (took-numbers s bytes k x')
       (λ marked y hv. is-onward (λ x next. Took s y (x ∷ []) next) Q (number s y) _ (took-number s bytes y)
       (λ e f ht. is-onward (λ v z. length s ≤ f) Q (ended s f) _ (is-ended s bytes f)
-      (λ v z he. took-parts n m count marks e rows list marked a' b' c p' t x' y f (rw (ta .1) hn) (rw (tb .1) hm) hr (rw (tp .1) hc) hp (rw (tx .1) hk) hv ht he)))))))))))))
+      (λ v z he. took-parts n m count k e rows list marked a' b' c p' t x' y f (rw (ta .1) hn) (rw (tb .1) hm) hr (rw (tp .1) hc) hp (rw (tx .1) hk) hv ht he)))))))))))))
 
 -- Packing a deck that was read gives the bytes that were read, all of them.
 pub written-read : (s : List ℕ) (starts ends early late listed lengths marked : ℕ) (d : Deck) → Bytes s

@@ -1,4 +1,4 @@
--- Demand 2 (`timing/specs/Demands`): the source-to-sink paths of a true graph, taken back to the design's edges, are the
+-- Demand 2 (`timing/specs/Demands`): the paths of a true graph from where paths start to where they end, taken back to the design's edges, are the
 -- design's complete paths that contain no listed path: each once, no others, delays unchanged. Shown for any H that stands
 -- for (G, L), so that it holds however H was made; the design is one G.
 use Prim.Native.Nat.{ℕ, zero, suc, _<_}
@@ -25,8 +25,8 @@ use Rattle.theorems.proofs.Stands.{Stands, passes-inside, lowered, name
 use Rattle.theorems.proofs.Legal.{Legal, design-legal, wellFormed-legal}
 use Rattle.theorems.proofs.Kept.{true-distinct, true-legal}
 
--- Each once: two complete paths of a legal graph that are one path of the design are one. From the end on: both ends are
--- the one copy of their sink, and the end copy and the name of an edge give the edge.
+-- Each once: two complete paths of a legal graph that are one path of the design are one. From the end on: both end at
+-- the one copy of their last node where paths end, and the end copy and the name of an edge give the edge.
 module _ (D : Design) (H : Graph) (legal : Legal D H) where
   way-once : (a b : ℕ) (es fs : List Edge) → a < length (H .nodes) → b < length (H .nodes) → Way H a es → Way H b fs
       → nodeOf H a ≡ nodeOf H b → names es ≡ names fs → (a ≡ b) × (es ≡ fs)

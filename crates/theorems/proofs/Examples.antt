@@ -97,6 +97,14 @@ m6-passed = tt
 pub m6-parts : HeldIs deckA (some (listsOf m6)) (heldAfter deckA none m6)
 m6-parts = cut-list deckA (part listA) (part (pathList (0 ∷ 3 ∷ []) (2 ∷ [])) ∷ []) m6-passed
 
+-- and the same of the design with node 2 marked, where the renumbering keeps that paths end at copy 2
+observed-passed : AllPassed (verdicts observed none m6)
+unfolding flatMap designGraph edgesIn edgesOut runsFrom completeRuns permitted tails mark permittedRuns copies pathEnds joins trueGraph wellFormed designTests listTests candidates scratchTest roomTests removeFromDesign removeFromGraph
+observed-passed = tt
+
+pub observed-parts : HeldIs observed (some (listsOf m6)) (heldAfter observed none m6)
+observed-parts = cut-list observed (part listA) (part (pathList (0 ∷ 3 ∷ []) (2 ∷ [])) ∷ []) observed-passed
+
 m6-held : heldAfter deckA none m6 ≡ some graphM6
 unfolding flatMap designGraph edgesIn edgesOut runsFrom completeRuns permitted tails mark permittedRuns copies pathEnds joins trueGraph wellFormed designTests listTests candidates scratchTest roomTests removeFromDesign removeFromGraph
 m6-held = refl

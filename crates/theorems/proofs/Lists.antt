@@ -2,7 +2,7 @@
 use Prim.Native.Nat.{ℕ, zero, suc, _+_, _≤_, _<_, min}
 use mathlib.Core.Path.{_≡_, refl, ap, subst}
 use mathlib.Core.Logic.{_⊎_, inl, inr, ⊎-elim}
-use mathlib.Core.Bool.{Bool, true, false, cond, _&&_, _||_}
+use mathlib.Core.Bool.{Bool, true, false, not, cond, _&&_, _||_}
 use mathlib.Core.List.{List, [], _∷_, map, flatMap, List·Memᴰ, List·Memᴰ·head, List·Memᴰ·tail, List·Memᴰ·not-nil, List·Memᴰ·cases-cons, Memᴰ·append-left, Memᴰ·append-right, List·Memᴰ·append-cases}
 use native.Mathlib.Omega.{arith}
 use native.Mathlib.Decide.{ℕ-discrete}
@@ -40,6 +40,14 @@ holds b e = rw e tt
 
 pub fails : (b : Bool) → b ≡ false → T b → ⊥
 fails b e t = rw e at t
+
+pub not-false : (b : Bool) → not b ≡ false → T b
+not-false true e = tt
+not-false false e = absurd (subst T e tt)
+
+pub neither-true : (a b : Bool) → (a || b) ≡ false → (a ≡ false) × (b ≡ false)
+neither-true true b e = absurd (subst T e tt)
+neither-true false b e = (refl, e)
 
 -- two tests that hold together are one
 pub same-test : (a b : Bool) → (T a → T b) → (T b → T a) → a ≡ b

@@ -59,7 +59,7 @@ module _ (n : ℕ) where
 -- what a call tests besides 22 to 24
 module _ (n : ℕ) (low : 22 ≤ n) (high : n ≤ 24) where
   other-design : (D : Design) → Other n (designTests D)
-  other-design D = every-design (λ x. x .number ≡ n → ⊥) D (λ k j a b l h. omega arith)
+  other-design D = every-design (λ x. x .number ≡ n → ⊥) D (λ k j a b l h. omega arith) (λ j a b h. omega arith)
 
   other-counts : (L : PathList) → Other n (listCounts L)
   other-counts L = every-counts (λ x. x .number ≡ n → ⊥) L (λ k a b h. omega arith)

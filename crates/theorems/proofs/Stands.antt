@@ -1,5 +1,5 @@
--- H stands for (G, L): its copies are labelled one to one by the copies that G and L show, its edges are their joins, and paths end at those
--- copies where they end in G.
+-- H stands for (G, L): its copies are labelled one to one by the copies that G and L show, its edges are their joins, and paths end at just
+-- those copies at which a permitted path of G ends.
 -- The true graph of G and L does; and what stands for (G, L) has the permitted paths of G, each once (theorem R).
 use Prim.Native.Nat.{ℕ, _<_}
 use mathlib.Core.Path.{_≡_, refl, sym, ap, _∙_, subst}

@@ -1,8 +1,8 @@
 -- What document 01's tests say where they pass, as statements: 30 and 10 to 16 of a design, 30 and 20 to 24 of a list of
 -- paths, 32 of a graph.
-use Prim.Native.Nat.{ℕ, _≤_, _<_}
-use mathlib.Core.Path.{_≡_, refl, subst}
-use mathlib.Core.Bool.{Bool, true, false, not, _&&_, _||_}
+use Prim.Native.Nat.{ℕ, suc, _≤_, _<_}
+use mathlib.Core.Path.{_≡_, refl}
+use mathlib.Core.Bool.{Bool, false, _&&_}
 use mathlib.Core.List.{List, [], List·Memᴰ}
 use native.Mathlib.Omega.{arith}
 use lib.Dec.{T, eqb, ltb, leb, eqb→eq, eqb-refl, leb→le, ltb→lt, lt→ltb}
@@ -15,12 +15,13 @@ use Rattle.timing.specs.Graphs.{Design, design, edgeStart, edgeEnd, edgeEarly, 
 use Rattle.timing.specs.Marks.{PathList, pathsOf}
 use Rattle.timing.specs.WellFormed.{fewEnough, nodesFit, edgeFits, edgeRises, zeroOrOne, oneEndpoint, copyFits, wellFormed}
 use Rattle.timing.specs.Refusals.{unless, firstBad, firstFault, _then_}
-use Rattle.timing.specs.Tests.{designSizes, listSizes, nodeCount, designCounts, strays, falls, outOfRange, earlyAboveLate, risesNot, wrongMarked, designTests, listCounts, meets, emptyAt, firstUnknown, firstBreak, listTests, graphTest}
+use Rattle.timing.specs.Tests.{designSizes, listSizes, nodeCount, designCounts, strays, falls, outOfRange, earlyAboveLate, wrongMarked, designTests, listCounts, meets, emptyAt, firstUnknown, firstBreak, listTests, graphTest}
 use Rattle.timing.proofs.Ints.{ltZ-false}
 use Rattle.theorems.proofs.Extremes.{AtMost}
-use Rattle.theorems.proofs.Lists.{and-intro, and-left, and-right, holds, mem-upto, of-upto, allOf-elim, allOf-intro}
+use Rattle.theorems.proofs.Lists.{and-intro, and-left, and-right, holds, not-false, mem-upto, of-upto, allOf-elim, allOf-intro}
 use Rattle.timing.proofs.Verdicts.{then-passed, unless-passed, edges-passed}
 use Rattle.theorems.proofs.Refusals.{firstBad-passed}
+use Rattle.theorems.proofs.Tests.{marked-right}
 use Rattle.theorems.proofs.Faults.{has-edge, all-known, all-join, firstFault-passed}
 
 -- what tests 30 and 10 to 16 say of a design
@@ -37,14 +38,7 @@ pub record DesignFits (D : Design) : Type 0 where
   pub slow : (k : ℕ) → k < length (D .starts) → natAbs (edgeLate D k) ≤ 1000000
   pub ordered : (k : ℕ) → k < length (D .starts) → AtMost (edgeEarly D k) (edgeLate D k)
   pub marked-in : (i : ℕ) → i < length (D .marked) → getD (D .marked) i 0 < D .nodes
-
-not-false : (b : Bool) → not b ≡ false → T b
-not-false true e = tt
-not-false false e = absurd (subst T e tt)
-
-neither-true : (a b : Bool) → (a || b) ≡ false → (a ≡ false) × (b ≡ false)
-neither-true true b e = absurd (subst T e tt)
-neither-true false b e = (refl, e)
+  pub marked-rise : (i : ℕ) → suc i < length (D .marked) → getD (D .marked) i 0 < getD (D .marked) (suc i) 0
 
 pub design-fits : (D : Design) → designSizes D ≡ Passed → designTests D ≡ Passed → DesignFits D
 unfolding designTests
@@ -61,10 +55,8 @@ design-fits D s t =
       quick = λ k h. leb→le _ _ (and-left (leb (natAbs (edgeEarly D k)) 1000000) (leb (natAbs (edgeLate D k)) 1000000) (ranges k h));
       slow = λ k h. leb→le _ _ (and-right (leb (natAbs (edgeEarly D k)) 1000000) (leb (natAbs (edgeLate D k)) 1000000) (ranges k h));
       ordered = λ k h. omega (arith, ltZ-false (edgeLate D k) (edgeEarly D k) (firstBad-passed 15 (earlyAboveLate D) 0 ks (after15 .0) k (mem k h)));
-      marked-in = λ i h.
-          ltb→lt _ _
-          (not-false (ltb (getD (D .marked) i 0) (D .nodes))
-          (neither-true (not (ltb (getD (D .marked) i 0) (D .nodes))) (risesNot (D .marked) i) (firstBad-passed 16 (wrongMarked D) 0 is (after15 .1) i (mem-upto (length (D .marked)) 0 i (omega arith) (omega arith))) .0));
+      marked-in = λ i h. right i h .0;
+      marked-rise = λ i h. right (suc i) h .1 i refl;
     }
   where
     m : ℕ
@@ -119,6 +111,10 @@ design-fits D s t =
     ranges k h =
         not-false (leb (natAbs (edgeEarly D k)) 1000000 && leb (natAbs (edgeLate D k)) 1000000)
         (firstBad-passed 14 (outOfRange D) 0 ks (after14 .0) k (mem k h))
+
+    right : (i : ℕ) → i < length (D .marked)
+        → (getD (D .marked) i 0 < D .nodes) × ((j : ℕ) → i ≡ suc j → getD (D .marked) j 0 < getD (D .marked) i 0)
+    right i h = marked-right D i (firstBad-passed 16 (wrongMarked D) 0 is (after15 .1) i (mem-upto (length (D .marked)) 0 i (omega arith) (omega arith)))
 
 -- 10 is among them
 pub tests-count : (D : Design) → designTests D ≡ Passed → nodeCount (D .nodes) ≡ Passed

@@ -3,8 +3,9 @@ use Prim.Native.Nat.{ℕ, zero, suc, _+_, _≤_, _<_}
 use native.Mathlib.Omega.{arith}
 use native.Mathlib.Decide.{decLt}
 use mathlib.Core.Path.{_≡_, refl, subst}
-use mathlib.Core.Bool.{Bool, true, false, not, cond, _||_}
-use lib.Dec.{T, ltb, leb, ltb→lt, leb→le, le→leb}
+use mathlib.Core.Bool.{Bool, true, false, not, cond}
+use mathlib.Core.List.{List}
+use lib.Dec.{ltb, leb, ltb→lt, leb→le, le→leb}
 use lib.ListN.{length, getD}
 use Rattle.timing.specs.declared.Refusal.{Refusal}
 use Rattle.timing.specs.declared.Verdict.{Verdict}
@@ -15,54 +16,56 @@ use Rattle.timing.specs.Marks.{PathList, pathsOf}
 use Rattle.timing.specs.Refusals.{refusal, refusalWithin, unless, firstBad, firstFault, _then_}
 use Rattle.timing.specs.Tests.{nodeCount, designCounts, strays, falls, outOfRange, earlyAboveLate, risesNot, wrongMarked, designTests, listCounts, meets, emptyAt, firstUnknown, firstBreak, listTests}
 use Rattle.timing.proofs.Verdicts.{then-passed, unless-passed, Every, every-then, every-unless, every-bad, every-fault}
-use Rattle.theorems.proofs.Lists.{holds, fails, length-upto}
+use Rattle.theorems.proofs.Lists.{holds, fails, not-false, neither-true, length-upto}
 
 passes-le : (k a b : ℕ) → unless k (leb a b) ≡ Passed → a ≤ b
 passes-le k a b e = leb→le a b (holds (leb a b) (unless-passed k (leb a b) e))
 
--- A marked node that is right is not below its index, where the one before is not below its own: so no index is right that is not below n.
-right-mark : (D : Design) (i : ℕ) → wrongMarked D i ≡ false → ((j : ℕ) → i ≡ suc j → j ≤ getD (D .marked) j 0)
-    → (i ≤ getD (D .marked) i 0) × (getD (D .marked) i 0 < D .nodes)
-right-mark D i e before =
-    let r = neither (not (ltb (getD (D .marked) i 0) (D .nodes))) (risesNot (D .marked) i) e in
-    (rises i (r .1) before, ltb→lt _ _ (not-false (ltb (getD (D .marked) i 0) (D .nodes)) (r .0)))
+-- a marked node that 16 does not refuse: it is below n, and above the one before
+pub marked-right : (D : Design) (i : ℕ) → wrongMarked D i ≡ false
+    → (getD (D .marked) i 0 < D .nodes) × ((j : ℕ) → i ≡ suc j → getD (D .marked) j 0 < getD (D .marked) i 0)
+marked-right D i e =
+    let inside = ltb (getD (D .marked) i 0) (D .nodes) in
+    let r = neither-true (not inside) (risesNot (D .marked) i) e in
+    (ltb→lt _ _ (not-false inside (r .0)), above i (r .1))
   where
-    neither : (a b : Bool) → (a || b) ≡ false → (a ≡ false) × (b ≡ false)
-    neither true b e = absurd (subst T e tt)
-    neither false b e = (refl, e)
+    lt-if : (a b : ℕ) → leb a b ≡ false → b < a
+    lt-if a b e = elim (decLt b a) [
+      | yes h ↦ h
+      | no h ↦ absurd (fails (leb a b) e (le→leb a b (omega arith)))
+    ]
 
-    not-false : (b : Bool) → not b ≡ false → T b
-    not-false true e = tt
-    not-false false e = absurd (subst T e tt)
+    above : (i : ℕ) → risesNot (D .marked) i ≡ false → (j : ℕ) → i ≡ suc j → getD (D .marked) j 0 < getD (D .marked) i 0
+    above zero e j q = absurd (omega arith)
+    above (suc i) e j q =
+        subst (λ (x : ℕ). getD (D .marked) x 0 < getD (D .marked) (suc i) 0) (omega arith) (lt-if (getD (D .marked) (suc i) 0) (getD (D .marked) i 0) e)
 
-    rises : (i : ℕ) → risesNot (D .marked) i ≡ false → ((j : ℕ) → i ≡ suc j → j ≤ getD (D .marked) j 0) → i ≤ getD (D .marked) i 0
-    rises zero e before = omega arith
-    rises (suc j) e before = omega (arith, before j refl, lt-if (getD (D .marked) (suc j) 0) (getD (D .marked) j 0) e)
-      where
-        lt-if : (a b : ℕ) → leb a b ≡ false → b < a
-        lt-if a b e = elim (decLt b a) [
-          | yes h ↦ h
-          | no h ↦ absurd (fails (leb a b) e (le→leb a b (omega arith)))
-        ]
+-- numbers that rise are not below their indices
+not-below : (marked : List ℕ) (i : ℕ) → ((j : ℕ) → i ≡ suc j → getD marked j 0 < getD marked i 0) → ((j : ℕ) → i ≡ suc j → j ≤ getD marked j 0)
+    → i ≤ getD marked i 0
+not-below marked zero above before = omega arith
+not-below marked (suc j) above before = omega (arith, above j refl, before j refl)
 
 module _ (P : Refusal → Type 0) where
-  -- so 16 comes at an index that is at most n
-  every-mark : (D : Design) (k i : ℕ) → i ≤ D .nodes → ((j : ℕ) → i ≡ suc j → j ≤ getD (D .marked) j 0) → ((j : ℕ) → j ≤ D .nodes → P (refusal 16 j))
+  -- 16 comes at an index that is at most n: the marked nodes before it rise below n, and so there are at most n of them
+  every-marked : (D : Design) (k i : ℕ) → i ≤ D .nodes → ((j : ℕ) → i ≡ suc j → j ≤ getD (D .marked) j 0) → ((j : ℕ) → j ≤ D .nodes → P (refusal 16 j))
       → Every P (firstBad 16 (wrongMarked D) i (upto k i))
-  every-mark D zero i a b h = tt
-  every-mark D (suc k) i a b h = go (wrongMarked D i) refl (λ c d. every-mark D k (suc i) c d h)
+  every-marked D zero i a b h = tt
+  every-marked D (suc k) i a b h = go (wrongMarked D i) refl (λ c d. every-marked D k (suc i) c d h)
     where
       go : (w : Bool) → wrongMarked D i ≡ w
           → (suc i ≤ D .nodes → ((j : ℕ) → suc i ≡ suc j → j ≤ getD (D .marked) j 0) → Every P (firstBad 16 (wrongMarked D) (suc i) (upto k (suc i))))
           → Every P (cond w (Refused (refusal 16 i)) (firstBad 16 (wrongMarked D) (suc i) (upto k (suc i))))
       go true e below = h i a
       go false e below =
-          let r = right-mark D i e b in
-          below (omega (arith, r .0, r .1)) (λ j q. subst (λ (x : ℕ). x ≤ getD (D .marked) x 0) (omega arith) (r .0))
+          let r = marked-right D i e in
+          let high = not-below (D .marked) i (r .1) b in
+          below (omega (arith, high, r .0)) (λ j q. subst (λ (x : ℕ). x ≤ getD (D .marked) x 0) (omega arith) high)
 
-  pub every-design : (D : Design) → ((k j : ℕ) → 10 ≤ k → k ≤ 16 → j ≤ 16384 → P (refusal k j)) → Every P (designTests D)
+  pub every-design : (D : Design) → ((k j : ℕ) → 10 ≤ k → k ≤ 15 → j ≤ 16384 → P (refusal k j))
+      → ((j : ℕ) → D .nodes ≤ 4096 → j ≤ D .nodes → P (refusal 16 j)) → Every P (designTests D)
   unfolding designTests
-  every-design D h =
+  every-design D h i =
       let m = length (D .starts) in
       let ks = upto m 0 in
       let t₁₁ : Verdict = unless 11 (leb m 16384) in
@@ -77,12 +80,12 @@ module _ (P : Refusal → Type 0) where
       (λ e.
       let few = passes-le 11 m 16384 (then-passed (nodeCount (D .nodes)) t₁₁ e .1) in
       let nodes = passes-le 10 (D .nodes) 4096 (then-passed (nodeCount (D .nodes)) t₁₁ e .0) in
-      let at : (k : ℕ) → 10 ≤ k → k ≤ 16 → (j : ℕ) → j < 0 + length ks → P (refusal k j) = λ k a b j l. h k j a b (omega (arith, length-upto m 0)) in
+      let at : (k : ℕ) → 10 ≤ k → k ≤ 15 → (j : ℕ) → j < 0 + length ks → P (refusal k j) = λ k a b j l. h k j a b (omega (arith, length-upto m 0)) in
       every-then P t₁₂ (t₁₃ then t₁₄ then t₁₅ then t₁₆) (every-bad P 12 (strays D) 0 ks (at 12 (omega arith) (omega arith)))
       (λ e. every-then P t₁₃ (t₁₄ then t₁₅ then t₁₆) (every-bad P 13 (falls D) 0 ks (at 13 (omega arith) (omega arith)))
       (λ e. every-then P t₁₄ (t₁₅ then t₁₆) (every-bad P 14 (outOfRange D) 0 ks (at 14 (omega arith) (omega arith)))
       (λ e. every-then P t₁₅ t₁₆ (every-bad P 15 (earlyAboveLate D) 0 ks (at 15 (omega arith) (omega arith)))
-      (λ e. every-mark D (length (D .marked)) 0 (omega arith) (λ j q. absurd (omega arith)) (λ j l. h 16 j (omega arith) (omega arith) (omega arith)))))))
+      (λ e. every-marked D (length (D .marked)) 0 (omega arith) (λ j q. absurd (omega arith)) (λ j l. i j nodes l))))))
 
   pub every-counts : (L : PathList) → ((k : ℕ) → 20 ≤ k → k ≤ 21 → P (refusal k 0)) → Every P (listCounts L)
   every-counts L h =

@@ -1,5 +1,5 @@
 // Finds the times of the graphs on standard input, and the records of their nodes, and prints them.
-// The input is two blocks of 65,536 bytes, each of packed numbers: a count of cases, and for each n, T, a
+// The input is up to three blocks of 65,536 bytes, each of packed numbers: a count of cases, and for each n, T, a
 // node, the lengths of the four slices for times and of the five for records, and then ten slices:
 // starts, ends, early and late delays, marked nodes, the nodes and the endpoint numbers of the copies,
 // start copies, end copies, design edges.
@@ -270,6 +270,7 @@ fn run_block() {
 }
 
 fn main() {
+    run_block();
     run_block();
     run_block();
 }

@@ -9,8 +9,8 @@ use lib.IntN.{ℤ, pos, _+ℤ_}
 use Rattle.timing.specs.Lists.{isNil, anyOf, keep, oneIf, upto}
 
 -- A design: n nodes, the start, the end, "an early and a late delay" of each edge (02, request 1), and the marked nodes: "A deck may now
--- mark nodes as ends, sinks or not" (02, request 6). The word *marked* is kept for this list; a *mark* is a tail at a node (`Marks`), and a
--- node or copy where paths end is an *endpoint*.
+-- mark nodes as ends, sinks or not" (02, request 6). The word *marked* is kept for this list; a *mark* is a tail at a node (`Marks`). What
+-- document 02 calls an end, a node or copy where paths end, is an *endpoint* here, since edges have ends too.
 pub record Design : Type 0 where
   pub nodes : ℕ
   pub starts : List ℕ
@@ -44,7 +44,7 @@ pub record Edge : Type 0 where
 abbrev pub edge : ℕ → ℕ → ℕ → Edge
 edge s t k = record { start = s; end = t; name = k }
 
--- a graph: the design node of each copy; 1 for each copy where paths end and 0 for every other; and the edges between copies
+-- a graph: the design node of each copy; its *endpoint number*, 1 where paths end at it and else 0; and the edges between copies
 pub record Graph : Type 0 where
   pub nodes : List ℕ
   pub endpoints : List ℕ

@@ -68,8 +68,8 @@ abbrev pub renumbered : (ℕ → ℕ) → Edge → Edge
 renumbered f e = edge (f (e .start)) (f (e .end)) (e .name)
 
 -- "its copies can be renumbered within each node so that the edges, as start copy, end copy and design edge, are the same
--- set", with "its returned count of copies, the node of each copy number and the count of edges"; "the cut list's renumbering keeps" the
--- ends (02, request 6)
+-- set", with "its returned count of copies, the node of each copy number and the count of edges"; "the cut list's renumbering keeps"
+-- the endpoint numbers (02, request 6)
 pub record Renumbered (G H : Graph) : Type 0 where
   pub nodes : G .nodes ≡ H .nodes
   pub sizes : length (G .endpoints) ≡ length (H .endpoints)

@@ -66,7 +66,7 @@ risesNot marked (suc i) = leb (getD marked (suc i) 0) (getD marked i 0)
 abbrev pub wrongMarked : Design → ℕ → Bool
 wrongMarked D i = not (ltb (getD (D .marked) i 0) (D .nodes)) || risesNot (D .marked) i
 
--- "the reader gives it at a count of marks above n, place n", and the deck's writer too: no marked node of index n can be right
+-- "the reader gives it at a count of marks above n, place n", and the deck's writer too: of more than n marked nodes one is wrong
 abbrev pub markedCount : ℕ → ℕ → Verdict
 markedCount n count = cond (leb count n) Passed (Refused (refusal 16 n))
 

@@ -39,7 +39,8 @@ zeroOrOne endpoints = allOf (λ x. leb x 1) endpoints
 abbrev pub endsOnlyAtEndpoints : Design → Graph → ℕ → Bool
 endsOnlyAtEndpoints D G c = not (endsAt G c) || isEndpoint D (nodeOf G c)
 
--- "every copy of a sink does"; it has no edge out that names a design edge, so that this follows from `edgeFits` and `leftOrEndpoint`
+-- "every copy of a sink does"; where 30 has passed, it has no edge out that names a design edge, and this follows from `edgeFits` and
+-- `leftOrEndpoint`
 abbrev pub sinkEnds : Design → Graph → ℕ → Bool
 sinkEnds D G c = not (isSink D (nodeOf G c)) || endsAt G c
 

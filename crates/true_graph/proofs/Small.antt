@@ -43,7 +43,7 @@ small-room-sizes R =
     (small-sizes (R .nodes) (R .nodes) (R .endpoints)) (λ e. small-sizes (R .starts) (R .ends) (R .names))
 
 pub small-design : (D : Design) → Small (designTests D)
-small-design D = every-design SmallRefusal D (λ k j a b l. (omega arith, omega arith))
+small-design D = every-design SmallRefusal D (λ k j a b l. (omega arith, omega arith)) (λ j a b. (omega arith, omega arith))
 
 pub small-list : (D : Design) (L : PathList) → Small (listTests D L)
 small-list D L =

@@ -1,4 +1,4 @@
-// Tests the decks on standard input, and prints what is found. The input is two blocks of 65,536 bytes,
+// Tests the decks on standard input, and prints what is found. The input is up to three blocks of 65,536 bytes,
 // each of packed numbers: a count, and for each deck n, T, and then its seven slices: starts, ends, early
 // and late delays, marked nodes, listed edges, lengths.
 // Crate `cases` says how a slice is packed.
@@ -103,6 +103,7 @@ fn run_block() {
 }
 
 fn main() {
+    run_block();
     run_block();
     run_block();
 }

@@ -87,7 +87,7 @@ pub fn graph_sizes(nodes: usize, endpoint: usize, from: usize, to: usize, via: u
     then(copies, edges)
 }
 
-// 16 for more marked nodes than the n that there are, by their count: no marked node of index n can be right.
+// 16 for more marked nodes than the n that there are, by their count: one of them is wrong.
 pub fn marked_count(n: u32, count: usize) -> Verdict
     ensures { λ r. ⌜ r ≡ markedCount n count ⌝ }
 {

@@ -64,14 +64,14 @@ returns c =
     let k1 = k2 .before .before .before in
     let s = k1 .before .before .before .before .before .before .before .before .before in
     let a = s .args in
-    let marks = length (a .marked .now) in
+    let count = length (a .marked .now) in
     c .copies-pass .ensures
     ∙ copies-agree (a .n) 4096 (a .nodes .now) (a .endpoint .now) _ _ _ _ _
-    (stands (a .ends .now) (a .d)) (stands (a .starts .now) (a .d)) (stands (a .marked .now) marks) (stands (a .to .now) (a .m)) (stands (a .from .now) (a .m))
+    (stands (a .ends .now) (a .d)) (stands (a .starts .now) (a .d)) (stands (a .marked .now) count) (stands (a .to .now) (a .m)) (stands (a .from .now) (a .m))
     16384 (s .pre .0) (s .pre .1)
     (flags-clear 4096 (a .ends .now) (a .d) _ (k1 .set-flags .ensures))
     (flags-clear 4096 (a .starts .now) (a .d) _ (k2 .set-flags2 .ensures))
-    (flags-clear 4096 (a .marked .now) marks _ (k3 .set-flags3 .ensures))
+    (flags-clear 4096 (a .marked .now) count _ (k3 .set-flags3 .ensures))
     (flags-clear 16384 (a .to .now) (a .m) _ (k4 .set-flags4 .ensures))
     (flags-clear 16384 (a .from .now) (a .m) _ (k5 .set-flags5 .ensures))
 

@@ -110,7 +110,7 @@ graph-sizes-early S =
     (sizes-early n n (length (S .endpoints))) (sizes-early m (length (S .ends)) (length (S .names)))
 
 design-early : (D : Design) → Early (designTests D)
-design-early D = every-design (λ x. keeps (x .number)) D (λ k j a b l. keeps-below k (omega arith))
+design-early D = every-design (λ x. keeps (x .number)) D (λ k j a b l. keeps-below k (omega arith)) (λ j a b. keeps-below 16 (omega arith))
 
 list-early : (D : Design) (L : PathList) → Early (listTests D L)
 list-early D L = every-list (λ x. keeps (x .number)) D L (λ k a b. keeps-below k (omega arith)) (λ k j d a b few l. keeps-below k (omega arith))
