@@ -8,8 +8,8 @@ FOLDER has decks with what the deck program must print (NAME.deck, NAME.out), ca
 - With --program (target/bin/deck_program) the decks are asked of that deck program.
 - With --library (target/staticlib/libjaqhweni.a) the calls are asked of that library, by way of tests/c_runner.c: ccall.tsv and, of
   slices.jsonl, removals, the steps of series, times and written graphs, with all that was lent.
-- With --cases (target/bin/bytes_cases) the readers and writers, which have no C call yet, are asked of that program. Its lines must be
-  those that tests/bytes_cases.py makes of the walker's answer, which is itself compared with the vector.
+- With --cases (target/bin/bytes_cases) the readers and writers are asked of that program; but for the graph's writer they have no C call
+  yet. Its lines must be those that tests/bytes_cases.py makes of the walker's answer, which is itself compared with the vector.
 What is not there yet (kinds of calls), and for the walker a deck with more paths than it walks, is skipped and counted. Prints every
 difference, and how many were compared of each kind; exit status 1 if anything differs.
 """

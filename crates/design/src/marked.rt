@@ -40,11 +40,10 @@ pub(crate) fn and_marked(before: Verdict, n: u32, marked: &[u32]) -> Verdict
     };
     let mut i = 0;
     while i < marked.len() {
-        let next = i + 1;
         if wrong(n, marked, i) {
             return Verdict::Refused(refuse(16, i));
         }
-        i = next;
+        i += 1;
     }
     Verdict::Passed
 }

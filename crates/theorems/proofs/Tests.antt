@@ -1,11 +1,10 @@
 -- What the tests of a design and of a list can refuse with: their numbers, and places that are counted before they are looked at.
 use Prim.Native.Nat.{ℕ, zero, suc, _+_, _≤_, _<_}
 use native.Mathlib.Omega.{arith}
-use native.Mathlib.Decide.{decLt}
 use mathlib.Core.Path.{_≡_, refl, subst}
 use mathlib.Core.Bool.{Bool, true, false, not, cond}
 use mathlib.Core.List.{List}
-use lib.Dec.{ltb, leb, ltb→lt, leb→le, le→leb}
+use lib.Dec.{ltb, leb, ltb→lt, leb→le, nleb→lt}
 use lib.ListN.{length, getD}
 use Rattle.timing.specs.declared.Refusal.{Refusal}
 use Rattle.timing.specs.declared.Verdict.{Verdict}
@@ -16,7 +15,7 @@ use Rattle.timing.specs.Marks.{PathList, pathsOf}
 use Rattle.timing.specs.Refusals.{refusal, refusalWithin, unless, firstBad, firstFault, _then_}
 use Rattle.timing.specs.Tests.{nodeCount, designCounts, strays, falls, outOfRange, earlyAboveLate, risesNot, wrongMarked, designTests, listCounts, meets, emptyAt, firstUnknown, firstBreak, listTests}
 use Rattle.timing.proofs.Verdicts.{then-passed, unless-passed, Every, every-then, every-unless, every-bad, every-fault}
-use Rattle.theorems.proofs.Lists.{holds, fails, not-false, neither-true, length-upto}
+use Rattle.theorems.proofs.Lists.{holds, not-false, neither-true, length-upto}
 
 passes-le : (k a b : ℕ) → unless k (leb a b) ≡ Passed → a ≤ b
 passes-le k a b e = leb→le a b (holds (leb a b) (unless-passed k (leb a b) e))
@@ -29,16 +28,10 @@ marked-right D i e =
     let r = neither-true (not inside) (risesNot (D .marked) i) e in
     (ltb→lt _ _ (not-false inside (r .0)), above i (r .1))
   where
-    lt-if : (a b : ℕ) → leb a b ≡ false → b < a
-    lt-if a b e = elim (decLt b a) [
-      | yes h ↦ h
-      | no h ↦ absurd (fails (leb a b) e (le→leb a b (omega arith)))
-    ]
-
     above : (i : ℕ) → risesNot (D .marked) i ≡ false → (j : ℕ) → i ≡ suc j → getD (D .marked) j 0 < getD (D .marked) i 0
     above zero e j q = absurd (omega arith)
     above (suc i) e j q =
-        subst (λ (x : ℕ). getD (D .marked) x 0 < getD (D .marked) (suc i) 0) (omega arith) (lt-if (getD (D .marked) (suc i) 0) (getD (D .marked) i 0) e)
+        subst (λ (x : ℕ). getD (D .marked) x 0 < getD (D .marked) (suc i) 0) (omega arith) (nleb→lt (getD (D .marked) (suc i) 0) (getD (D .marked) i 0) (rw e tt))
 
 -- numbers that rise are not below their indices
 not-below : (marked : List ℕ) (i : ℕ) → ((j : ℕ) → i ≡ suc j → getD marked j 0 < getD marked i 0) → ((j : ℕ) → i ≡ suc j → j ≤ getD marked j 0)

@@ -32,9 +32,6 @@ returns c = search needs
 loop-holds : tie.Need-loop-holds Inv-loop μ-loop
 loop-holds c = let a = c .before .before .before .args in (omega arith, all-left 16 (wrongMarked (design (a .n) [] [] [] [] (a .marked .now))) (length (a .marked .now)))
 
-add-next : tie.Need-add-next Inv-loop μ-loop
-add-next c = omega arith
-
 wrong-requires : tie.Need-wrong-requires Inv-loop μ-loop
 wrong-requires c κs = search needs
 
@@ -51,6 +48,9 @@ returns-2 c =
     (ap Refused (c .refuse .ensures)
     ∙ sym (bad-here 16 (wrongMarked (design (a .n) [] [] [] [] (a .marked .now))) (l .loop .i) (length (a .marked .now)) (i .loop-test .taken) (sym (u .wrong .ensures) ∙ c .before .if1 .taken))
     ∙ l .loop .inv .1)
+
+add-i : tie.Need-add-i Inv-loop μ-loop
+add-i c = omega arith
 
 loop-less : tie.Need-loop-less Inv-loop μ-loop
 loop-less c = omega arith
@@ -79,10 +79,10 @@ and-marked-spec =
     enum-told-2
     returns
     loop-holds
-    add-next
     wrong-requires
     refuse-requires
     returns-2
+    add-i
     loop-less
     loop-again
     returns-3)
