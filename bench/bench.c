@@ -5,7 +5,8 @@
  * Each line is one piece of work: what came out, the time of each, and the library's time over the reference's. Both are timed in turn, in
  * rounds, and the best round counts; time is the processor's, so that other processes disturb less. Both are lent rooms and scratch of
  * the same size, the scratch of just the size that test 31 asks for, and both clear it. The two results are compared before any time is
- * taken. Two tables double the list and say how the cost grows. Exit status 1 where results differ. */
+ * taken. Two tables double the list and say how the cost grows. One has each removal told and then filled, and says how telling compares
+ * with filling, of the C program and of the library. Exit status 1 where results differ. */
 #define _POSIX_C_SOURCE 199309L
 #include "inputs.h"
 #include "reference.h"
@@ -24,14 +25,16 @@ typedef struct {
     __typeof__(jaqhweni_true_graph) *true_graph;
     __typeof__(jaqhweni_remove_from_design) *remove_from_design;
     __typeof__(jaqhweni_remove_from_graph) *remove_from_graph;
+    __typeof__(jaqhweni_size_from_design) *size_from_design;
+    __typeof__(jaqhweni_size_from_graph) *size_from_graph;
     __typeof__(jaqhweni_times) *times;
     __typeof__(jaqhweni_write_graph) *write_graph;
 } calls;
 
-static const calls LIBRARY = {jaqhweni_true_graph, jaqhweni_remove_from_design, jaqhweni_remove_from_graph, jaqhweni_times,
-                              jaqhweni_write_graph};
-static const calls REFERENCE = {reference_true_graph, reference_remove_from_design, reference_remove_from_graph, reference_times,
-                                reference_write_graph};
+static const calls LIBRARY = {jaqhweni_true_graph, jaqhweni_remove_from_design, jaqhweni_remove_from_graph, jaqhweni_size_from_design,
+                              jaqhweni_size_from_graph, jaqhweni_times, jaqhweni_write_graph};
+static const calls REFERENCE = {reference_true_graph, reference_remove_from_design, reference_remove_from_graph, reference_size_from_design,
+                                reference_size_from_graph, reference_times, reference_write_graph};
 
 /* ---- Work ---------------------------------------------------------------------------------------------------------------------- */
 
@@ -76,6 +79,21 @@ static int64_t do_design(int which)
 static int64_t do_graph(int which)
 {
     return remove_list(which ? &LIBRARY : &REFERENCE, &list, &earlier, &rooms[which][0], words[0]);
+}
+
+static int64_t tell_design(int which)
+{
+    return (which ? LIBRARY : REFERENCE).size_from_design(d.n, d.starts, d.m, d.ends, d.m, d.early, d.m, d.late, d.m, d.marked,
+                                                          d.marked_nodes, list.edges, list.listed, list.lengths, list.paths, scratch,
+                                                          words[0]);
+}
+
+static int64_t tell_graph(int which)
+{
+    return (which ? LIBRARY : REFERENCE).size_from_graph(d.n, d.starts, d.m, d.ends, d.m, d.early, d.m, d.late, d.m, d.marked,
+                                                         d.marked_nodes, list.edges, list.listed, list.lengths, list.paths, earlier.nodes,
+                                                         earlier.copies, earlier.endpoint, earlier.copies, earlier.from, earlier.edges,
+                                                         earlier.to, earlier.edges, earlier.via, earlier.edges, scratch, words[0]);
 }
 
 static int64_t do_series(int which)
@@ -124,7 +142,9 @@ static double time_of(work w, int which, size_t repeats)
     return (now() - begin) / (double)repeats;
 }
 
-static double worst_ratio, slowest;
+static double worst_ratio, slowest, worst_telling;
+static double best[2];                              /* of the last line: the reference's time, the library's, */
+static int64_t answers[2];                          /* and their answers */
 static int differ;
 
 static int same_results(void)
@@ -146,7 +166,7 @@ static double measure(const char *name, work w)
     memset(packed, 0, sizeof packed);
     memset(times, 0, sizeof times);
     memset(scratch, 0, MOST_WORDS * sizeof *scratch);
-    int64_t answers[2] = {w(0), w(1)};
+    for (int which = 0; which < 2; which++) answers[which] = w(which);
     char made[40];
     if (answers[0] < 0) snprintf(made, sizeof made, "refused %d", (int)(-answers[0] % 256));
     else if (w == do_deck || w == do_write) snprintf(made, sizeof made, "%d bytes", (int)answers[0]);
@@ -157,7 +177,8 @@ static double measure(const char *name, work w)
         differ = 1;
         return 0;
     }
-    double reference = time_of(w, 0, 1), library = time_of(w, 1, 1), once = reference > library ? reference : library, best[2] = {1e9, 1e9};
+    double reference = time_of(w, 0, 1), library = time_of(w, 1, 1), once = reference > library ? reference : library;
+    best[0] = best[1] = 1e9;
     size_t repeats = once > ROUND_SECONDS ? 1 : (size_t)(ROUND_SECONDS / once) + 1;
     for (int round = 0; round < ROUNDS; round++)
         for (int which = 0; which < 2; which++) {
@@ -361,6 +382,56 @@ static void growth(void)
     }
 }
 
+/* A removal, told and then filled. Where it is refused, filling fills nothing, and both do the same. */
+static void told_and_filled(const char *name, const graph *old)
+{
+    char line[80];
+    double told[2];
+    words[0] = words_needed(&d, &list, old);
+    snprintf(line, sizeof line, "told: %s", name);
+    measure(line, old ? tell_graph : tell_design);
+    memcpy(told, best, sizeof told);
+    measure("filled", old ? do_graph : do_design);
+    if (differ) return;
+    printf("%-44s %-28s %11.2f %11.2f\n", "", "telling / filling", told[0] / best[0], told[1] / best[1]);
+    if (answers[1] >= 0 && told[1] / best[1] > worst_telling) worst_telling = told[1] / best[1];
+}
+
+static void telling(void)
+{
+    printf("\nA removal is told, and filled:\n");
+    random_design(&d, 60, 150, 10);
+    random_paths(&list, &d, 20, 4);
+    told_and_filled("60 nodes, 150 edges, 20 paths", NULL);
+    random_design(&d, 4096, 16384, 64);
+    random_paths(&list, &d, 0, 8);
+    told_and_filled("4,096 nodes, 16,384 edges, no path", NULL);
+    random_paths(&list, &d, 1024, 8);
+    told_and_filled("the same, 1,024 paths of 8", NULL);
+    hub(60, 1100, 1024);
+    told_and_filled("hub: 60 in, 1,100 out, 1,024 paths", NULL);
+    hub(1820, 51, 35);
+    told_and_filled("hub: 1,820 in, 51 out, 35 paths", NULL);
+    hub(8000, 1024, 1024);
+    told_and_filled("hub: 8,000 in, 1,024 paths (34)", NULL);
+    long_paths(4096, 8, 1024);
+    told_and_filled("4,096 in a row, 8 paths of 1,024", NULL);
+    random_design(&d, 4096, 16000, 64);
+    random_paths(&lists[0], &d, 880, 8);
+    make_earlier(&lists[0]);
+    for (size_t paths = 0; paths <= 512; paths = paths ? 8 * paths : 8) {
+        char name[80];
+        snprintf(name, sizeof name, "%zu copies, %zu paths of 4", earlier.copies, paths);
+        random_paths(&list, &d, paths, 4);
+        told_and_filled(name, &earlier);
+    }
+    full_graph(&d, &earlier);
+    random_paths(&list, &d, 1024, 1);
+    told_and_filled("16,384 copies, 1,024 paths of 1", &earlier);
+    random_paths(&list, &d, 1024, 8);
+    told_and_filled("16,384 copies, 1,024 paths of 8 (33)", &earlier);
+}
+
 static void packing(void)
 {
     full_graph(&d, &earlier);
@@ -381,6 +452,8 @@ int main(void)
     series();
     growth();
     packing();
+    telling();
+    printf("\ntelling takes at most %.2f of filling, by the library, where something is filled", worst_telling);
     printf("\nlargest ratio %.2f (* marks those above 1.25); slowest call %.1f ms\n", worst_ratio, 1e3 * slowest);
     free(scratch);
     return differ;

@@ -8,6 +8,8 @@
 extern __typeof__(jaqhweni_true_graph) reference_true_graph;
 extern __typeof__(jaqhweni_remove_from_design) reference_remove_from_design;
 extern __typeof__(jaqhweni_remove_from_graph) reference_remove_from_graph;
+extern __typeof__(jaqhweni_size_from_design) reference_size_from_design;
+extern __typeof__(jaqhweni_size_from_graph) reference_size_from_graph;
 extern __typeof__(jaqhweni_times) reference_times;
 extern __typeof__(jaqhweni_write_graph) reference_write_graph;
 
@@ -19,13 +21,32 @@ extern __typeof__(jaqhweni_write_graph) reference_write_graph;
 #define GRAPH_PARAMETERS                                                                                                        \
     const uint32_t *nodes, size_t nodes_length, const uint32_t *endpoint, size_t endpoint_length, const uint32_t *from,         \
         size_t from_length, const uint32_t *to, size_t to_length, const uint32_t *via, size_t via_length
+#define SCRATCH_PARAMETERS uint32_t *scratch, size_t scratch_length
 #define ROOM_PARAMETERS                                                                                                         \
     uint32_t *room_nodes, size_t room_nodes_length, uint32_t *room_endpoint, size_t room_endpoint_length, uint32_t *room_from,  \
         size_t room_from_length, uint32_t *room_to, size_t room_to_length, uint32_t *room_via, size_t room_via_length,          \
-        uint32_t *scratch, size_t scratch_length
+        SCRATCH_PARAMETERS
 #define TIME_PARAMETERS                                                                                                         \
     int64_t *arrivals, size_t arrivals_length, int64_t *requireds, size_t requireds_length, int64_t *slacks,                    \
         size_t slacks_length, int64_t *earliests, size_t earliests_length
+
+/* The same as arguments. */
+#define EDGE_SLICES n, starts, starts_length, ends, ends_length, early, early_length, late, late_length
+#define DESIGN_SLICES EDGE_SLICES, marked, marked_length
+#define LIST_SLICES listed, listed_length, lengths, lengths_length
+#define GRAPH_SLICES nodes, nodes_length, endpoint, endpoint_length, from, from_length, to, to_length, via, via_length
+#define SCRATCH_SLICE scratch, scratch_length
+#define ROOM_SLICES                                                                                                           \
+    room_nodes, room_nodes_length, room_endpoint, room_endpoint_length, room_from, room_from_length, room_to, room_to_length, \
+        room_via, room_via_length, SCRATCH_SLICE
+#define TIME_SLICES                                                                                                           \
+    arrivals, arrivals_length, requireds, requireds_length, slacks, slacks_length, earliests, earliests_length
+
+/* For the stand-in (stand_in.c): what the sizes are told from, the counts of a result of any size or a refusal up to 31; and these with 33
+ * and 34 for the limits. */
+extern __typeof__(jaqhweni_size_from_design) reference_count_from_design;
+extern __typeof__(jaqhweni_size_from_graph) reference_count_from_graph;
+int64_t reference_within_limits(int64_t counts);
 
 /* For the stand-in of the deck program (reference_deck.c): a deck read into tables and tested, or its refusal; and the removal. */
 typedef struct {

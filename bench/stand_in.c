@@ -9,16 +9,6 @@
 #define FAULT 0
 #endif
 
-#define EDGE_SLICES n, starts, starts_length, ends, ends_length, early, early_length, late, late_length
-#define DESIGN_SLICES EDGE_SLICES, marked, marked_length
-#define LIST_SLICES listed, listed_length, lengths, lengths_length
-#define GRAPH_SLICES nodes, nodes_length, endpoint, endpoint_length, from, from_length, to, to_length, via, via_length
-#define ROOM_SLICES                                                                                                           \
-    room_nodes, room_nodes_length, room_endpoint, room_endpoint_length, room_from, room_from_length, room_to, room_to_length, \
-        room_via, room_via_length, scratch, scratch_length
-#define TIME_SLICES                                                                                                           \
-    arrivals, arrivals_length, requireds, requireds_length, slacks, slacks_length, earliests, earliests_length
-
 int64_t jaqhweni_true_graph(const uint8_t *deck, size_t deck_length, uint8_t *room, size_t room_length)
 {
     int64_t made = reference_true_graph(deck, deck_length, room, room_length);
@@ -142,6 +132,49 @@ int64_t jaqhweni_remove_from_graph(DESIGN_PARAMETERS, LIST_PARAMETERS, GRAPH_PAR
     if (FAULT == 31 && made == -30 && nodes_length != endpoint_length) return -32;
     if (FAULT == 32 && made == -32) return remove_with_one_end(DESIGN_SLICES, LIST_SLICES, GRAPH_SLICES, ROOM_SLICES);
     return made;
+}
+
+/* What is told, with an error put in. `made` are the counts, whatever the limits are; `bound` is nodes or copies, and listed edges less
+ * paths. */
+static int64_t tell(int64_t made, size_t bound, SCRATCH_PARAMETERS)
+{
+    int64_t right = reference_within_limits(made), copies = (uint32_t)made, edges = made >> 32;
+    if (FAULT == 39 && made == -31) memset(scratch, 0, scratch_length * sizeof *scratch);   /* clears where it must not */
+    if (made < 0) return made;
+    if (FAULT == 37 && right >= 0 && scratch_length > 0) scratch[scratch_length - 1] = 1;   /* leaves a word */
+    if (FAULT == 38 && right < 0 && scratch_length > 0) scratch[0] = 1;                     /* leaves one where it refuses */
+    if (FAULT == 40 && copies == JAQHWENI_MAX_COPIES) return -33;                           /* 33 above 16,383 copies */
+    if (FAULT == 41 && right >= 0 && edges == JAQHWENI_MAX_COPY_EDGES) return -34;          /* 34 above 65,535 edges */
+    if (FAULT == 42 && right == -33) return made;                                           /* knows no limit of copies */
+    if (FAULT == 43 && right == -34) return made;                                           /* knows none of edges */
+    if (FAULT == 44 && right == -33 && edges > JAQHWENI_MAX_COPY_EDGES) return -34;         /* 34 before 33 */
+    if (FAULT == 45 && right == -34) return copies + ((int64_t)JAQHWENI_MAX_COPY_EDGES << 32);  /* counts no edge above 65,536 */
+    if (right < 0) return right;
+    if (FAULT == 36) return edges + (copies << 32);                                         /* counts exchanged */
+    if (FAULT == 46) return (int64_t)bound + (edges << 32);                                 /* a bound, and not the count */
+    if (FAULT == 47 && copies > 0) return made - 1;                                         /* one copy too few */
+    if (FAULT == 48 && edges > 0) return made - ((int64_t)1 << 32);                         /* one edge too few */
+    return right;
+}
+
+int64_t jaqhweni_size_from_design(DESIGN_PARAMETERS, LIST_PARAMETERS, SCRATCH_PARAMETERS)
+{
+    int64_t made = reference_count_from_design(DESIGN_SLICES, LIST_SLICES, SCRATCH_SLICE);
+    if (FAULT == 49 && made == -31 && scratch_length < sizeof longer / sizeof *longer) {    /* takes one word less than removal */
+        made = reference_count_from_design(DESIGN_SLICES, LIST_SLICES, longer, scratch_length + 1);
+        if (made >= 0) memset(scratch, 0, scratch_length * sizeof *scratch);
+    }
+    return tell(made, n + listed_length - lengths_length, SCRATCH_SLICE);
+}
+
+int64_t jaqhweni_size_from_graph(DESIGN_PARAMETERS, LIST_PARAMETERS, GRAPH_PARAMETERS, SCRATCH_PARAMETERS)
+{
+    if (FAULT == 50) return jaqhweni_size_from_design(DESIGN_SLICES, LIST_SLICES, SCRATCH_SLICE);       /* tells of the design */
+    int64_t made = reference_count_from_graph(DESIGN_SLICES, LIST_SLICES, GRAPH_SLICES, SCRATCH_SLICE);
+    if (FAULT == 51 && made == -32) return (int64_t)nodes_length + ((int64_t)from_length << 32);        /* does not look at the graph */
+    if (FAULT == 52 && made == -30 && nodes_length != endpoint_length) return -32;
+    if (FAULT == 53 && made > 0 && nodes_length > 0) ((uint32_t *)(uintptr_t)endpoint)[0] ^= 1;         /* writes what is lent to read */
+    return tell(made, nodes_length + listed_length - lengths_length, SCRATCH_SLICE);
 }
 
 /* Other required times where paths end: the allowed time alone; what comes from further on alone, if there is an edge out. */

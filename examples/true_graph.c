@@ -1,6 +1,7 @@
 /* A design and a false path, packed, given to jaqhweni_true_graph, and the true graph that comes back, unpacked and printed. Then the same
- * from plain arrays, by jaqhweni_remove_from_design, and packed by jaqhweni_write_graph: the same bytes. Then a hold check of that graph,
- * by jaqhweni_times. Last the slack at an observed pin, with and without the logic behind it.
+ * from plain arrays: jaqhweni_size_from_design tells how many copies and edges there will be, just so much is allocated, and
+ * jaqhweni_remove_from_design fills it; jaqhweni_write_graph packs it: the same bytes. Then a further list on that graph, told and filled
+ * in the same way; a hold check, by jaqhweni_times; and last the slack at an observed pin, with and without the logic behind it.
  *
  *     cc -std=c11 -Wall -Wextra -Werror -I include examples/true_graph.c target/staticlib/libjaqhweni.a -o true_graph && ./true_graph
  *
@@ -19,7 +20,7 @@
 #include <stdlib.h>
 #include <string.h>
 
-enum { NODES = 5, EDGES = 4, PIN = 2, ALLOWED_TIME = 10, HOLD_TIME = 4, ROOM = 16, MOST_LISTED = 2 };
+enum { NODES = 5, EDGES = 4, PIN = 2, ALLOWED_TIME = 10, HOLD_TIME = 4, MOST_LISTED = 2 };
 static const uint32_t starts[EDGES] = {0, 1, 2, 2}, ends[EDGES] = {2, 2, 3, 4};
 static const int32_t early[EDGES] = {3, 1, 2, 1}, late[EDGES] = {3, 5, 2, 1};
 static const uint32_t marked[1] = {PIN};
@@ -34,11 +35,11 @@ static const path_list false_path = {2, 1, {1, 2}, {2}}, behind_the_pin = {2, 2,
 
 typedef struct {
     size_t copies, edges;
-    uint32_t nodes[ROOM], endpoint[ROOM], from[ROOM], to[ROOM], via[ROOM];
+    uint32_t *nodes, *endpoint, *from, *to, *via;
 } graph;
 
 typedef struct {
-    int64_t arrivals[ROOM], requireds[ROOM], slacks[ROOM], earliests[ROOM];
+    int64_t *arrivals, *requireds, *slacks, *earliests;
 } times;
 
 typedef struct {
@@ -84,6 +85,17 @@ static size_t or_stop(int64_t answer)
     return (size_t)answer;
 }
 
+/* The library takes no null pointer, not even for a slice of no elements. */
+static void *allocated(size_t count, size_t size)
+{
+    void *block = calloc(count > 0 ? count : 1, size);
+    if (block == NULL) {
+        fprintf(stderr, "out of memory\n");
+        exit(1);
+    }
+    return block;
+}
+
 static packed from_deck(const path_list *l)
 {
     packed deck = {.length = 0}, made;
@@ -108,28 +120,82 @@ static packed from_deck(const path_list *l)
     return made;
 }
 
-/* The scratch has 8 words for each node, for each listed edge but the first of its path, and for each listed edge and edge. */
+/* Room for a graph whose counts were told, and not a word more. */
+static graph room_for(size_t told)
+{
+    graph g = {.copies = (uint32_t)told, .edges = told >> 32};
+    g.nodes = allocated(g.copies, sizeof *g.nodes);
+    g.endpoint = allocated(g.copies, sizeof *g.endpoint);
+    g.from = allocated(g.edges, sizeof *g.from);
+    g.to = allocated(g.edges, sizeof *g.to);
+    g.via = allocated(g.edges, sizeof *g.via);
+    return g;
+}
+
+static void free_graph(graph *g)
+{
+    free(g->nodes);
+    free(g->endpoint);
+    free(g->from);
+    free(g->to);
+    free(g->via);
+}
+
+/* Tell, allocate, fill. The scratch has 8 words for each node, for each listed edge but the first of its path, and for each listed edge and
+ * edge; it serves both calls. In a room of the told lengths there is nothing left to refuse, so or_stop stops at no 33 and no 34 here. */
 static graph from_arrays(const path_list *l, size_t marked_nodes)
 {
     enum { SCRATCH = JAQHWENI_WORDS_PER_UNIT * (NODES + MOST_LISTED - 1 + MOST_LISTED + EDGES) };
     uint32_t scratch[SCRATCH];
-    graph g;
-    size_t counts = or_stop(jaqhweni_remove_from_design(
+    graph g = room_for(or_stop(jaqhweni_size_from_design(
         NODES, starts, EDGES, ends, EDGES, early, EDGES, late, EDGES, marked, marked_nodes, l->edges, l->listed, l->lengths, l->paths,
-        g.nodes, ROOM, g.endpoint, ROOM, g.from, ROOM, g.to, ROOM, g.via, ROOM, scratch, SCRATCH));
-    g.copies = (uint32_t)counts;
-    g.edges = counts >> 32;
+        scratch, SCRATCH)));
+    or_stop(jaqhweni_remove_from_design(
+        NODES, starts, EDGES, ends, EDGES, early, EDGES, late, EDGES, marked, marked_nodes, l->edges, l->listed, l->lengths, l->paths,
+        g.nodes, g.copies, g.endpoint, g.copies, g.from, g.edges, g.to, g.edges, g.via, g.edges, scratch, SCRATCH));
     return g;
+}
+
+/* The same on a graph: 8 words for each copy, for each listed edge but the first of its path that starts at the copy's node (of two listed
+ * edges, at most one), for each listed edge and for each edge of the graph. */
+static graph from_graph(const graph *old, const path_list *l, size_t marked_nodes)
+{
+    size_t words = JAQHWENI_WORDS_PER_UNIT * (2 * old->copies + MOST_LISTED + old->edges);
+    uint32_t *scratch = allocated(words, sizeof *scratch);
+    graph g = room_for(or_stop(jaqhweni_size_from_graph(
+        NODES, starts, EDGES, ends, EDGES, early, EDGES, late, EDGES, marked, marked_nodes, l->edges, l->listed, l->lengths, l->paths,
+        old->nodes, old->copies, old->endpoint, old->copies, old->from, old->edges, old->to, old->edges, old->via, old->edges,
+        scratch, words)));
+    or_stop(jaqhweni_remove_from_graph(
+        NODES, starts, EDGES, ends, EDGES, early, EDGES, late, EDGES, marked, marked_nodes, l->edges, l->listed, l->lengths, l->paths,
+        old->nodes, old->copies, old->endpoint, old->copies, old->from, old->edges, old->to, old->edges, old->via, old->edges,
+        g.nodes, g.copies, g.endpoint, g.copies, g.from, g.edges, g.to, g.edges, g.via, g.edges, scratch, words));
+    free(scratch);
+    return g;
+}
+
+static void print_told(const char *of, const graph *g)
+{
+    printf("told of %s: %zu copies, %zu edges\n", of, g->copies, g->edges);
 }
 
 static times times_of(const graph *g, size_t marked_nodes)
 {
-    times t;
+    times t = {allocated(g->copies, sizeof *t.arrivals), allocated(g->copies, sizeof *t.requireds),
+               allocated(g->copies, sizeof *t.slacks), allocated(g->copies, sizeof *t.earliests)};
     or_stop(jaqhweni_times(
         NODES, starts, EDGES, ends, EDGES, early, EDGES, late, EDGES, marked, marked_nodes, ALLOWED_TIME,
         g->nodes, g->copies, g->endpoint, g->copies, g->from, g->edges, g->to, g->edges, g->via, g->edges,
         t.arrivals, g->copies, t.requireds, g->copies, t.slacks, g->copies, t.earliests, g->copies));
     return t;
+}
+
+static void free_times(times *t)
+{
+    free(t->arrivals);
+    free(t->requireds);
+    free(t->slacks);
+    free(t->earliests);
 }
 
 static packed pack(const graph *g)
@@ -147,6 +213,7 @@ static void check_hold(const graph *g)
         if (g->endpoint[copy])
             printf("copy %zu node %u earliest %d hold margin %d\n",
                    copy, g->nodes[copy], (int)t.earliests[copy], (int)t.earliests[copy] - HOLD_TIME);
+    free_times(&t);
 }
 
 /* The slack of a node is the smallest of its copies' slacks. */
@@ -159,6 +226,8 @@ static void print_slack_at_pin(const char *when, const path_list *l, size_t mark
         if (g.nodes[copy] == PIN && t.slacks[copy] < slack) slack = t.slacks[copy];
     if (slack == INT64_MAX) printf("pin %s: none\n", when);
     else printf("pin %s: slack %d\n", when, (int)slack);
+    free_times(&t);
+    free_graph(&g);
 }
 
 int main(void)
@@ -175,13 +244,17 @@ int main(void)
         uint32_t start = get(&made, &place), end = get(&made, &place), edge = get(&made, &place);
         printf("edge %u from copy %u to copy %u by design edge %u\n", k, start, end, edge);
     }
-    graph g = from_arrays(&false_path, 1);
+    graph g = from_arrays(&false_path, 1), further = from_graph(&g, &behind_the_pin, 1);
     packed again = pack(&g);
     int same = again.length == made.length && memcmp(again.bytes, made.bytes, made.length) == 0;
+    print_told("the false path", &g);
     printf("packed from plain arrays: %s\n", same ? "the same bytes" : "OTHER BYTES");
+    print_told("a further list on that graph, the logic behind the pin", &further);
     check_hold(&g);
     print_slack_at_pin("with the logic behind it", &false_path, 1);
     print_slack_at_pin("without that logic", &behind_the_pin, 1);
     print_slack_at_pin("without that logic, not marked", &behind_the_pin, 0);
+    free_graph(&g);
+    free_graph(&further);
     return same && place == made.length ? 0 : 1;
 }

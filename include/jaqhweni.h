@@ -80,10 +80,13 @@ extern "C" {
 #define JAQHWENI_MAX_DECK_BYTES 65536
 #define JAQHWENI_WORDS_PER_UNIT 8
 
-/* The most stack that a call takes, in bytes, whatever it is given: as measured at the limits (tests/stack.c), rounded up. */
+/* The most stack that a call takes, in bytes, whatever it is given: as measured at the limits (tests/stack.c), rounded up. Telling a
+ * size is held to the removal's promise. */
 #define JAQHWENI_STACK_TRUE_GRAPH 393216
 #define JAQHWENI_STACK_REMOVE_FROM_DESIGN 278528
 #define JAQHWENI_STACK_REMOVE_FROM_GRAPH 196608
+#define JAQHWENI_STACK_SIZE_FROM_DESIGN JAQHWENI_STACK_REMOVE_FROM_DESIGN
+#define JAQHWENI_STACK_SIZE_FROM_GRAPH JAQHWENI_STACK_REMOVE_FROM_GRAPH
 #define JAQHWENI_STACK_TIMES 49152
 #define JAQHWENI_STACK_WRITE_GRAPH 4096
 
@@ -108,7 +111,8 @@ int64_t jaqhweni_true_graph(const uint8_t *deck, size_t deck_length, uint8_t *ro
  * nothing. The listed paths stand end to end in `listed`, and `lengths` has the length of each.
  *
  * The result is a graph as said above, in front of `room_nodes`, `room_endpoint`, `room_from`, `room_to` and `room_via`; copies go by
- * node, edges by end copy and then design edge. The first two slices are of one length, and so are the last three.
+ * node, edges by end copy and then design edge. The first two slices are of one length, and so are the last three. How many places it
+ * takes, jaqhweni_size_from_design tells beforehand.
  *
  * The scratch has at least 8 words for each of: the nodes, the listed edges that are not first in their path, the listed edges, the
  * design's edges. It may hold anything; afterwards it is all zero (after success, 33 and 34) or unchanged.
@@ -136,7 +140,7 @@ int64_t jaqhweni_remove_from_design(
  * nothing of the design's other paths. The earlier graph stands in other slices than the room.
  *
  * The scratch has at least 8 words for each of: the copies; for each copy, the listed edges, not first in their path, that start at its
- * node; the listed edges; the earlier graph's edges. All else is as above. */
+ * node; the listed edges; the earlier graph's edges. How long the room has to be, jaqhweni_size_from_graph tells. All else is as above. */
 int64_t jaqhweni_remove_from_graph(
     uint32_t n,
     const uint32_t *starts, size_t starts_length,
@@ -156,6 +160,57 @@ int64_t jaqhweni_remove_from_graph(
     uint32_t *room_from, size_t room_from_length,
     uint32_t *room_to, size_t room_to_length,
     uint32_t *room_via, size_t room_via_length,
+    uint32_t *scratch, size_t scratch_length);
+
+/* How many copies and edges the result of jaqhweni_remove_from_design or jaqhweni_remove_from_graph has, told before any room is lent. The
+ * slices are those of the removal without the room's five. So a host that asks first need not guess (each slice stands here by its name
+ * alone):
+ *
+ *     int64_t told = jaqhweni_size_from_design(n, starts, ends, early, late, marked, listed, lengths, scratch);
+ *     if (told < 0) ...                                                a refusal: the removal, in this scratch, would be refused, too
+ *     size_t copies = (uint32_t)told, edges = (size_t)(told >> 32);
+ *     ...                                                              lend two slices of `copies` words and three of `edges` words
+ *     jaqhweni_remove_from_design(n, starts, ends, early, late, marked, listed, lengths, room_nodes, room_endpoint, room_from, room_to,
+ *                                 room_via, scratch);                  returns what was told
+ *
+ * A removal from the same design, list and earlier graph, in any room and scratch for which it returns neither 30 nor 31, returns 33 where
+ * its room of copies is below the told number, else 34 where its room of edges is, and else fills just so many places. So in a room of the
+ * told lengths it returns neither 33 nor 34.
+ *
+ * The refusals are the removal's, but there is no room that 30 could measure. 33 means that the result has more than 16,384 copies, 34
+ * that it has at most so many but more than 65,536 edges; such a result fits no room. Where 33 is told, the removal returns 33 in every
+ * room; where 34 is told, 33 in a room for fewer copies than the result's, and else 34. Any other refusal but 31 it returns too. (All this
+ * unless it returns 30 or 31.) From a design there are at most 12,287 copies, so that 33 comes from an earlier graph alone.
+ *
+ * The scratch is as long as the removal's, and the same may be lent to both. It may hold anything; afterwards it is all zero (after
+ * success, 33 and 34) or unchanged. Nothing else is written.
+ *
+ * Returns copies + edges * 2^32. */
+int64_t jaqhweni_size_from_design(
+    uint32_t n,
+    const uint32_t *starts, size_t starts_length,
+    const uint32_t *ends, size_t ends_length,
+    const int32_t *early, size_t early_length,
+    const int32_t *late, size_t late_length,
+    const uint32_t *marked, size_t marked_length,
+    const uint32_t *listed, size_t listed_length,
+    const uint32_t *lengths, size_t lengths_length,
+    uint32_t *scratch, size_t scratch_length);
+
+int64_t jaqhweni_size_from_graph(
+    uint32_t n,
+    const uint32_t *starts, size_t starts_length,
+    const uint32_t *ends, size_t ends_length,
+    const int32_t *early, size_t early_length,
+    const int32_t *late, size_t late_length,
+    const uint32_t *marked, size_t marked_length,
+    const uint32_t *listed, size_t listed_length,
+    const uint32_t *lengths, size_t lengths_length,
+    const uint32_t *nodes, size_t nodes_length,
+    const uint32_t *endpoint, size_t endpoint_length,
+    const uint32_t *from, size_t from_length,
+    const uint32_t *to, size_t to_length,
+    const uint32_t *via, size_t via_length,
     uint32_t *scratch, size_t scratch_length);
 
 /* Arrival, required time, slack and earliest arrival of each copy of a true graph, in picoseconds. `arrivals`, `requireds`, `slacks` and

@@ -26,6 +26,7 @@ import subprocess
 import sys
 import tempfile
 import time
+from unittest import mock
 
 import decks
 import removal_cases
@@ -39,11 +40,12 @@ HERE = pathlib.Path(__file__).resolve().parent.parent
 BUILT = HERE / "target" / "against_walker"
 LIBRARY = HERE / "target" / "staticlib" / "libjaqhweni.a"
 PROGRAM = HERE / "target" / "bin" / "deck_program"
-TRUE_GRAPH, REMOVE_FROM_DESIGN, REMOVE_FROM_GRAPH, TIMES, WRITE_GRAPH = range(5)
+(TRUE_GRAPH, REMOVE_FROM_DESIGN, REMOVE_FROM_GRAPH, TIMES, WRITE_GRAPH, SIZE_FROM_DESIGN, SIZE_FROM_GRAPH, FILL_FROM_DESIGN,
+ FILL_FROM_GRAPH) = range(9)
 PARTS = ["decks", "fixed", "random"]
 LEAST_DECKS = 2000          # random cases end when the time is over, but not before so many decks
 LEAST = {"decks": {"decks printed": LEAST_DECKS}, "random": {"decks": LEAST_DECKS, "random series": LEAST_DECKS // 4}}
-FAULTS = range(1, 36)       # bench/stand_in.c and bench/reference_deck.c
+FAULTS = range(1, 54)       # bench/stand_in.c and bench/reference_deck.c
 VALGRIND = ["valgrind", "--quiet", "--error-exitcode=9", "--main-stacksize=33554432", "--max-stackframe=16777216"]
 BATCH, BATCH_BYTES = 400, 1 << 24       # requests to the runner at a time
 
@@ -107,15 +109,35 @@ def times_call(name, design, graph, allowed_time, lengths, refusal, times):
     return Request(name, sent, refusal_answer(refusal) if refusal else 0, *after)
 
 
+def list_request(name, calls, design, path_list, earlier, lengths, refusal, counts, *after):
+    """Of two calls the first, from the design, where there is no earlier graph. `lengths` are those of the slices to be written."""
+    call, graph = (calls[0], b"") if earlier is None else (calls[1], graph_bytes(earlier))
+    sent = words([call]) + design_bytes(design) + lent(path_list.flat) + lent(path_list.lengths) + graph + words(lengths)
+    return Request(name, sent, refusal_answer(refusal) if refusal else counts[0] + (counts[1] << 32), *after)
+
+
+def counts_of(result):
+    return len(result[0]), len(result[2])
+
+
 def removal_call(name, design, path_list, earlier, room, scratch, refusal, result):
-    """From the design where there is no earlier graph; `result` are five slices, empty where it is refused."""
-    call = REMOVE_FROM_DESIGN if earlier is None else REMOVE_FROM_GRAPH
-    sent = words([call]) + design_bytes(design) + lent(path_list.flat) + lent(path_list.lengths)
-    sent += b"" if earlier is None else graph_bytes(earlier)
-    answer = refusal_answer(refusal) if refusal else len(result[0]) + (len(result[2]) << 32)
+    """`result` are five slices, empty where it is refused."""
     after = [words(part) + words(pattern(which, length)[len(part):]) for which, (length, part) in enumerate(zip(room, result))]
     after.append(words(walker.scratch_after(pattern(5, scratch), refusal)))
-    return Request(name, sent + words([*room, scratch]), answer, *after)
+    return list_request(name, (REMOVE_FROM_DESIGN, REMOVE_FROM_GRAPH), design, path_list, earlier, [*room, scratch], refusal,
+                        counts_of(result), *after)
+
+
+def size_call(name, design, path_list, earlier, scratch, refusal, counts):
+    """How many copies and edges there will be, told."""
+    return list_request(name, (SIZE_FROM_DESIGN, SIZE_FROM_GRAPH), design, path_list, earlier, [scratch], refusal, counts,
+                        words(walker.scratch_after(pattern(0, scratch), refusal)))
+
+
+def fill_as_told_call(name, design, path_list, earlier, scratch, result):
+    """Told, and then removed into a room of just the told lengths: no place is left over, and none is missing."""
+    return list_request(name, (FILL_FROM_DESIGN, FILL_FROM_GRAPH), design, path_list, earlier, [scratch], None, counts_of(result),
+                        words([0] * scratch), *map(words, result))
 
 
 # ---- The same with the walker's outcome -----------------------------------------------------------
@@ -142,19 +164,26 @@ def times_request(name, design, graph, allowed_time, lengths):
 
 
 class Recorded(Series):
-    """A series whose removals become requests. (Not bound by the tables of crates/removal_cases.)"""
+    """A series whose removals become requests, each told first, and where it is not refused made once more in just what is told. (Not bound
+    by the tables of crates/removal_cases.)"""
 
     def __init__(self, design, name="series"):
         super().__init__(design)
-        self.name, self.requests = name, []
+        self.name, self.requests, self.last_told = name, [], None
 
     def add(self, where, path_list, room, scratch, given=None):
         earlier = self.held = self.worked_on(where, given)
+        name = "%s, removal %d" % (self.name, len(self.refusals))
+        told, counts = outcome(None, walker.size, self.design, path_list, earlier, scratch)
+        before, self.last_told = self.last_told, (path_list, earlier, scratch)
+        if before != self.last_told:                                        # not once more for each room
+            self.requests.append(size_call(name + ", told", self.design, path_list, earlier, scratch, told, counts))
         refusal, result = outcome(((),) * 5, walker.removal, self.design, path_list, earlier, scratch, room)
+        self.requests.append(removal_call(name, self.design, path_list, earlier, room, scratch, refusal, result))
         if refusal is None:
             self.held = result
-        name = "%s, removal %d" % (self.name, len(self.requests))
-        self.requests.append(removal_call(name, self.design, path_list, earlier, room, scratch, refusal, result))
+            self.requests.append(fill_as_told_call(name + ", as told", self.design, path_list, earlier, scratch, result))
+        self.told.append(told)
         self.refusals.append(refusal)
         return refusal
 
@@ -200,11 +229,11 @@ def graphs_to_pack():
 
 
 def of_removal_cases():
-    """All fixed series of crates/removal_cases."""
+    """All fixed series of crates/removal_cases, but for those of many copies (told_at_the_limits)."""
     plain, removal_cases.Series = removal_cases.Series, Recorded
     try:
         for cases in (removal_cases.marked, removal_cases.with_marked, removal_cases.adversarial, removal_cases.widest_rooms,
-                      removal_cases.unfit_designs, removal_cases.unfit_lists_and_graphs):
+                      removal_cases.tellings, removal_cases.unfit_designs, removal_cases.unfit_lists_and_graphs):
             for series in cases():
                 yield from ((cases.__name__, request) for request in series.requests)
     finally:
@@ -218,11 +247,12 @@ def random_series(rng):
         series = next(removal_cases.random_cases(rng, 1))
     finally:
         removal_cases.Series = plain
-    yield from (("random series", request) for request in series.requests)
+    for number, request in enumerate(series.requests):          # the first stands for the series: LEAST counts these
+        yield "random series" if number == 0 else "further calls of these", request
     if series.held is not None:
         yield from of_graph("what is held", series.held, (rng.choice((-1, 9)), 0))
         allowed = rng.choice((0, 7, 1_000_000_000, 1_000_000_001))
-        yield "random series", times_request("times", series.design, series.held, allowed, [len(series.held.copy_nodes)] * 4)
+        yield "further calls of these", times_request("times", series.design, series.held, allowed, [len(series.held.copy_nodes)] * 4)
 
 
 def of_unfit_graphs():
@@ -240,10 +270,9 @@ def rooms_above_the_limits():
     assert series.add(DESIGN, paths, Room(16400, 16399, places, places, places), 1024) == (30, 0)
     assert series.add(GIVEN, paths, room_of(6, 4), 1024, Graph([], [], *[[0] * 65537] * 3)) == (32, 0)
     yield from (("rooms above the limits", request) for request in series.requests)
-    into, tails = 1820, 35
-    for extra, refusal in ((16, None), (17, (34, 0))):
-        series = Recorded(hub(into, tails + extra, []).design, "a hub with %d edges out" % (tails + extra))
-        paths = decks.path_list_of([[0, into + j] for j in range(tails)])
+    for extra, refusal in ((0, None), (1, (34, 0))):
+        design, paths = removal_cases.edges_at_the_limit(extra)
+        series = Recorded(design, "%d edges in a large room" % (65536 + extra))
         assert series.add(DESIGN, paths, room_of(64, places), 32768) == refusal
         yield from (("rooms above the limits", request) for request in series.requests)
 
@@ -369,6 +398,22 @@ def at_the_limits():
     yield from done(series)
 
 
+def told_at_the_limits():
+    """Results of 16,384 copies and one more, with fewer than 65,536 edges and with more, told, and removed in rooms to which each number makes
+    a difference. Where it is told 33, no room is wide enough; where it is told 34, copies that fit their room leave it at that."""
+    for given, told in removal_cases.MANY_MARKS:
+        design, earlier, path_list = removal_cases.many_marks(*given)
+        (copies, edges), scratch = removal_cases.result_sizes(design, path_list, earlier), removal_cases.words_needed(design, path_list, earlier)
+        series = Recorded(design, "%d copies and %d edges" % (copies, edges))
+        for room in (room_of(16400, 65600), room_of(copies - 1, edges), room_of(copies, 9)):
+            refusal = series.add(GIVEN, path_list, room, scratch, earlier)
+            assert series.told[-1] == told
+            assert refusal == ((33, 0) if told == (33, 0) or room.copies < copies else told or ((34, 0) if room.starts < edges else None))
+        refusal = series.add(GIVEN, path_list, room_of(9, 9), scratch - 1, earlier)             # 31 before both
+        assert refusal == series.told[-1] == (31, 0)
+        yield from (("told at the limits", request) for request in series.requests)
+
+
 def of_deck(rng, data):
     """The C call on a deck, with a room that is just enough, one byte short, empty or wide."""
     answer, _ = walker.c_call(data, 65536)
@@ -456,7 +501,7 @@ def plan(options, count):
     rng = random.Random(options.seed)
     parts = [options.only] if options.only else PARTS
     if "fixed" in parts:
-        for cases in (of_removal_cases, of_unfit_graphs, graphs_to_pack, rooms_above_the_limits, at_the_limits):
+        for cases in (of_removal_cases, of_unfit_graphs, graphs_to_pack, rooms_above_the_limits, at_the_limits, told_at_the_limits):
             yield from cases()
     if parts == ["fixed"]:
         return
@@ -512,6 +557,7 @@ def try_faults(options):
     print("against_walker: %d faults put in, all found" % len(FAULTS))
 
 
+@mock.patch.object(walker, "true_graph", removal_cases.remembered(walker.true_graph))
 def main():
     parser = argparse.ArgumentParser()
     for flag in ("--long", "--stand-in", "--try-faults"):

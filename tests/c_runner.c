@@ -4,7 +4,9 @@
  *
  * A request is 32-bit words, lowest byte first: which call, and its arguments in order. A number is a word; a slice that is only read is
  * its length and its elements (bytes are padded to a whole word); a slice to be written is its length. Calls: 0 true_graph, 1
- * remove_from_design, 2 remove_from_graph, 3 times, 4 write_graph.
+ * remove_from_design, 2 remove_from_graph, 3 times, 4 write_graph, 5 size_from_design, 6 size_from_graph. 7 and 8 are 5 and 6 and then,
+ * with the same scratch, the removal into a room of just the told lengths: the removal's answer, or, where telling is refused, that
+ * refusal.
  *
  * Before the call, a slice to be written is set to a pattern: byte k is 37 k + 11; word k of the j-th such slice is 3,000,000,000 +
  * 100,000,000 j + k mod 65,536; time k of the j-th is -1,000,000,000,000 (j + 1) - k. The answer is the 64-bit number that was returned,
@@ -102,13 +104,18 @@ static lent *byte_room(void)
     return s;
 }
 
-static lent *word_room(void)
+static lent *word_room_of(size_t length)
 {
-    lent *s = lend(word(), 4, 1);
+    lent *s = lend(length, 4, 1);
     uint32_t *words = data_of(s);
     for (size_t k = 0; k < s->length; k++) words[k] = (uint32_t)(3000000000u + 100000000u * written_count + k % 65536);
     written_count++;
     return s;
+}
+
+static lent *word_room(void)
+{
+    return word_room_of(word());
 }
 
 static lent *time_room(void)
@@ -122,9 +129,37 @@ static lent *time_room(void)
 
 #define SLICE(s) data_of(s), (s)->length
 
+/* Calls 5 to 8. */
+static int64_t tell(int from_graph, int then_fill)
+{
+    uint32_t n = word();
+    lent *starts = read_slice(4), *ends = read_slice(4), *early = read_slice(4), *late = read_slice(4), *marked = read_slice(4);
+    lent *listed = read_slice(4), *lengths = read_slice(4);
+    lent *nodes = NULL, *endpoint = NULL, *from = NULL, *to = NULL, *via = NULL;
+    if (from_graph) nodes = read_slice(4), endpoint = read_slice(4), from = read_slice(4), to = read_slice(4), via = read_slice(4);
+    lent *scratch = word_room();
+    int64_t told = from_graph
+        ? jaqhweni_size_from_graph(n, SLICE(starts), SLICE(ends), SLICE(early), SLICE(late), SLICE(marked), SLICE(listed), SLICE(lengths),
+                                   SLICE(nodes), SLICE(endpoint), SLICE(from), SLICE(to), SLICE(via), SLICE(scratch))
+        : jaqhweni_size_from_design(n, SLICE(starts), SLICE(ends), SLICE(early), SLICE(late), SLICE(marked), SLICE(listed), SLICE(lengths),
+                                    SLICE(scratch));
+    if (!then_fill || told < 0) return told;
+    size_t copies = (uint32_t)told, edges = (size_t)(told >> 32);
+    lent *room_nodes = word_room_of(copies), *room_endpoint = word_room_of(copies);
+    lent *room_from = word_room_of(edges), *room_to = word_room_of(edges), *room_via = word_room_of(edges);
+    return from_graph
+        ? jaqhweni_remove_from_graph(n, SLICE(starts), SLICE(ends), SLICE(early), SLICE(late), SLICE(marked), SLICE(listed), SLICE(lengths),
+                                     SLICE(nodes), SLICE(endpoint), SLICE(from), SLICE(to), SLICE(via), SLICE(room_nodes),
+                                     SLICE(room_endpoint), SLICE(room_from), SLICE(room_to), SLICE(room_via), SLICE(scratch))
+        : jaqhweni_remove_from_design(n, SLICE(starts), SLICE(ends), SLICE(early), SLICE(late), SLICE(marked), SLICE(listed),
+                                      SLICE(lengths), SLICE(room_nodes), SLICE(room_endpoint), SLICE(room_from), SLICE(room_to),
+                                      SLICE(room_via), SLICE(scratch));
+}
+
 static int64_t call(void)
 {
-    switch (word()) {
+    uint32_t which = word();
+    switch (which) {
     case 0: {
         lent *deck = read_slice(1), *room = byte_room();
         return jaqhweni_true_graph(SLICE(deck), SLICE(room));
@@ -166,6 +201,8 @@ static int64_t call(void)
         lent *room = byte_room();
         return jaqhweni_write_graph(SLICE(nodes), SLICE(endpoint), SLICE(from), SLICE(to), SLICE(via), SLICE(room));
     }
+    case 5: case 6: case 7: case 8:
+        return tell(which % 2 == 0, which > 6);
     default:
         fprintf(stderr, "c_runner: no such call\n");
         exit(2);

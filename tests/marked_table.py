@@ -222,6 +222,18 @@ ROWS = [
      [("removal", OBSERVED, LIST_A, w.Room(6, 7, 5, 5, 5), 999), again(observed_but(endpoints=[0, 0, 1, 0, 1])),
       ("times tests", OBSERVED, observed_but(endpoints=[0, 0, 1, 0, 1, 1, 1]), 10, (6, 6, 6, 6)),
       ("graph bytes", pack([1, 0, 2, 0]), w.Room(1, 2, 0, 0, 0)), ("graph tests", w.Graph([7, 9], [2], [], [], []))]),
+    # 02, request 8
+    ("Told of deck A; with path 2 alone, which shuts out candidates for copies; of a list that removes everything; of no nodes",
+     [("size", A, LIST_A, 96), ("size", A, listed((2,)), 999), ("size", CHAIN, listed((0, 1)), 999), ("size", NO_NODES, NONE, 0)]),
+    ("Told of an earlier graph: of deck A's, by which M6 has one edge less; of one with two copies of a source; of one that ends at a marked node",
+     [("size again", A, GRAPH_A, listed((0, 3)), 120), ("size again", FORKED, SPLIT_SOURCE, listed((0, 1)), 999),
+      ("size again", OBSERVED, OBSERVED_ALONE, NONE, 999)]),
+    ("Telling asks removal's scratch: one word less, of the design and of an earlier graph",
+     [("size", A, LIST_A, 95), ("size again", A, GRAPH_A, listed((0, 3)), 119)]),
+    ("Telling is lent no room, but 30 measures the rest: early delays, lengths of paths, endpoint numbers; 13 before 24, 24 before 32, 32 before 31",
+     [("size", FALLING._replace(early=[]), NONE, 96), ("size", A, w.PathList([1], [1, 2]), 999),
+      ("size again", OBSERVED, observed_but(endpoints=[0, 0, 1, 0, 1]), NONE, 999), ("size", FALLING, listed((0, 0)), 96),
+      ("size again", FORKED, OUT_OF_ORDER, listed((1, 0)), 0), ("size again", FORKED, OUT_OF_ORDER, listed((0, 1)), 0)]),
 ]
 
 
@@ -294,6 +306,13 @@ def outcome_text(call):
         return applied("refused", refusal_text(r.refusal))
 
 
+def counts_text(call):
+    try:
+        return applied("Counts", *map(str, call()))
+    except w.Refused as r:
+        return applied("NotMade", refusal_text(r.refusal))
+
+
 def after(d, lists):
     refusals, held = w.run_series(d, [w.Call(l, AMPLE, 16384) for l in lists])
     assert refusals == [None] * len(lists)
@@ -350,6 +369,12 @@ def fact(kind, *given):
         d, g, l, room, words = given
         outcome = outcome_text(lambda: w.removal(d, l, g, words, room))
         return "againIs", named(d), named(g), removal_text(l, room, words), outcome
+    if kind == "size":
+        d, l, words = given
+        return "sizeIs", named(d), named(l), str(words), counts_text(lambda: w.size(d, l, None, words))
+    if kind == "size again":
+        d, g, l, words = given
+        return "sizeAgainIs", named(d), named(g), named(l), str(words), counts_text(lambda: w.size(d, l, g, words))
     if kind in ("reader", "bytes"):
         data, lent = (deck_bytes(*given[:3]), given[3]) if kind == "reader" else given
         return "readerAnswers", named(data), numbers(lent), verdict_text(lambda: w.read_deck(data, w.Tables(*lent)))
@@ -411,6 +436,8 @@ use Rattle.timing.specs.declared.NumberRead.{NumberRead}
 use Rattle.timing.specs.declared.NumberRead.the-variants.{Refused as NotRead}
 use Rattle.timing.specs.declared.NodeTimes.{NodeTimes}
 use Rattle.timing.specs.declared.NodeTimes.the-variants.{Times, None}
+use Rattle.timing.specs.declared.GraphMade.{GraphMade}
+use Rattle.timing.specs.declared.GraphMade.the-variants.{Counts, Refused as NotMade}
 use Rattle.timing.specs.Lists.{upto}
 use Rattle.timing.specs.Graphs.{Design, design, edge, Graph, graph, designGraph, edgesIn, edgesOut}
 use Rattle.timing.specs.Graphs.{runsTo, runsFrom, completeRuns}
@@ -426,7 +453,7 @@ use Rattle.timing.specs.Tests.{Room, designTests, listTests, candidates,
 use Rattle.timing.specs.Calls.{GraphSlices, graphSlices, slicesOf, Outcome, made, refused, Removal, removal, testDeck}
 use Rattle.timing.specs.Calls.{testTimes, arrivalsAfter, requiredsAfter, slacksAfter, earliestsAfter, testRecords, deckRead}
 use Rattle.timing.specs.Calls.{removeFromDesign, removeFromGraph, programRemoval, program, cCall, cRoom}
-use Rattle.timing.specs.Calls.{deckWriteTests, graphWriteTests, graphRead}
+use Rattle.timing.specs.Calls.{deckWriteTests, graphWriteTests, graphRead, sizeFromDesign, sizeFromGraph, graphAnswer}
 
 -- the graph after some lists are removed in turn
 abbrev pub removed : Graph → List PathList → Graph
@@ -451,6 +478,8 @@ pub data Fact : Type 0 where
   deckWriterAnswers : Design → PathList → ℕ → Verdict → Fact
   graphReadIs : List ℕ → Room → Outcome Graph → Fact
   graphWriterAnswers : GraphSlices → Verdict → Fact
+  sizeIs : Design → PathList → ℕ → GraphMade → Fact
+  sizeAgainIs : Design → Graph → PathList → ℕ → GraphMade → Fact
 
 abbrev pub zeros : ℕ → List ℕ
 zeros n = map (λ i. 0) (upto n 0)
@@ -510,6 +539,8 @@ Holds (packedDeckIs D L T bs) = packedDeck (deck D L T) ≡ bs
 Holds (deckWriterAnswers D L T v) = deckWriteTests (deck D L T) ≡ v
 Holds (graphReadIs s R o) = graphRead s R ≡ o
 Holds (graphWriterAnswers S v) = graphWriteTests S ≡ v
+Holds (sizeIs D L words a) = graphAnswer (sizeFromDesign D L words) ≡ a
+Holds (sizeAgainIs D G L words a) = graphAnswer (sizeFromGraph D (slicesOf G) L words) ≡ a
 
 infixr 4 _also_
 pub data All : List Fact → Type 0 where
@@ -526,7 +557,7 @@ UNFOLDING = [
     "slacksAfter earliestsAfter packedIn groupsIn readNumber writeAnswer writtenRoom readDeck graphNumbers packedGraph",
     "designTests listTests candidates scratchTest roomTests testDeck removeFromDesign removeFromGraph programRemoval",
     "program cCall cRoom deckRead testTimes testRecords deckNumbers packedDeck deckWriteTests readGraph graphRead",
-    "graphWriteTests",
+    "graphWriteTests sizeFromDesign sizeFromGraph",
 ]
 
 TYPES = {w.Design: "Design", w.PathList: "PathList", w.Graph: "Graph", w.Room: "Room", bytes: "List ℕ"}

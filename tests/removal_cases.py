@@ -6,7 +6,7 @@ python3 tests/removal_cases.py --check   says whether the two files are what it 
 
 Every expected answer is that of tests/walker.py, the separate program, which walks all paths.
 
-Input: up to three blocks of 65,536 bytes (the last may be shorter). A block is packed numbers: the count of its series, the series, and
+Input: up to four blocks of 65,536 bytes (the last may be shorter). A block is packed numbers: the count of its series, the series, and
 zeros. A series is one design and some removals, in order:
 
     n; five slices: starts, ends, early and late delays (as packed numbers), marked nodes; the count of removals; the removals
@@ -21,13 +21,17 @@ and works on the design while no graph is held, and on the graph held after that
 One that is not refused puts its result in place of the graph held. A slice is how many numbers follow, how often the last is
 then repeated, and the numbers; so slices need not belong together.
 
-Before each removal, place k of the room's slice j (nodes 0, endpoint 1, from 2, to 3, via 4) and of the scratch (5) is set to
-3,000,000,000 + 100,000,000 j + k mod 65,536. Output for each removal: a line `copies C edges E`, or the refusal as the deck
-program prints it, and a line for each of the five slices and the scratch with its name and a sum over all of it, as lent: from
-1, for each word w, h becomes (1,000,003 h + w) mod 4,294,967,291. Where C + E is at most 40, the lines of the five slices go on
-with the words of the result.
+Before each removal it is told how many copies and edges the result has, on the same design, list and graph held, with a scratch of
+the same length. Only there may the scratch be longer than 32,768 words: of a longer one the removal is lent so many.
+
+Before each of the two calls, place k of the room's slice j (nodes 0, endpoint 1, from 2, to 3, via 4) and of the scratch (5) is set to
+3,000,000,000 + 100,000,000 j + k mod 65,536. Output for each removal: a line `told copies C edges E`, or `told` and the refusal as the
+deck program prints it, and a line for the scratch; then a line `copies C edges E`, or the refusal, and a line for each of the five
+slices and the scratch. These have its name and a sum over all of it, as lent: from 1, for each word w, h becomes (1,000,003 h + w) mod
+4,294,967,291. Where C + E is at most 40, the lines of the five slices go on with the words of the result.
 """
 import random
+from unittest import mock
 
 import expected
 import walker
@@ -37,8 +41,8 @@ from walker import Design, Graph, PathList, Room
 
 # The program's tables, and its room and scratch.
 EDGE_TABLE, MARKED_TABLE, LISTED_TABLE, PATH_TABLE, COPY_TABLE, COPY_EDGE_TABLE = 16400, 4200, 8200, 1040, 16400, 2080
-COPY_ROOM, EDGE_ROOM, SCRATCH = 2080, 2080, 32768
-BLOCKS = 3                  # that it reads
+COPY_ROOM, EDGE_ROOM, SCRATCH, TOLD_SCRATCH = 2080, 2080, 32768, 300000     # the last where it is only told
+BLOCKS = 4                  # that it reads
 NUMBERS = (30, 10, 11, 12, 13, 14, 15, 16, 20, 21, 22, 23, 24, 31, 32, 33, 34)
 DESIGN, HELD, GIVEN = range(3)
 TOP = 4294967295
@@ -46,6 +50,28 @@ PRINTED = 40
 
 
 # ---- Series ------------------------------------------------------------------------------
+
+def remembered(true_graph):
+    """Keeps the last answer: a case asks three times for one result (its size, telling, removal). Neither what is given nor the answer may be
+    changed in place."""
+    last = [None]
+
+    def asked(design, path_list, earlier=None):
+        given = (design, path_list, earlier)
+        if last[0] is None or any(a is not b for a, b in zip(last[0], given)):
+            last[:] = given, true_graph(*given)
+        return last[1]
+    return asked
+
+
+class BeyondTables(Exception):
+    """A case that is too long for the program."""
+
+
+def bound(table, *lengths):
+    if max(lengths) > table:
+        raise BeyondTables("%d, where there is room for %d" % (max(lengths), table))
+
 
 def pattern(which, length):
     return [3_000_000_000 + 100_000_000 * which + place % 65536 for place in range(length)]
@@ -71,23 +97,29 @@ class Series:
 
     def __init__(self, design):
         self.design, self.held = design, None
-        self.removals, self.lines, self.refusals = [], [], []
+        self.removals, self.lines, self.refusals, self.told = [], [], [], []
 
     def worked_on(self, where, given):
         return {DESIGN: None, HELD: self.held, GIVEN: given}[where]
 
     def add(self, where, path_list, room, scratch, given=None):
         """One removal; returns the refusal, or None."""
-        assert len(path_list.flat) <= LISTED_TABLE and len(path_list.lengths) <= PATH_TABLE
-        assert max(room[:2]) <= COPY_ROOM and max(room[2:]) <= EDGE_ROOM and scratch <= SCRATCH
+        bound(LISTED_TABLE, len(path_list.flat))
+        bound(PATH_TABLE, len(path_list.lengths))
+        bound(COPY_ROOM, *room[:2])
+        bound(EDGE_ROOM, *room[2:])
+        bound(TOLD_SCRATCH, scratch)
         self.held = self.worked_on(where, given)
         numbers = [where]
         if where == GIVEN:
-            assert max(map(len, given[:2])) <= COPY_TABLE and max(map(len, given[2:])) <= COPY_EDGE_TABLE
+            bound(COPY_TABLE, *map(len, given[:2]))
+            bound(COPY_EDGE_TABLE, *map(len, given[2:]))
             for part in given:
                 numbers += packed_slice(list(part))
         numbers += packed_slice(list(path_list.flat)) + packed_slice(list(path_list.lengths)) + [*room, scratch]
         self.removals.append(numbers)
+        self.tell(path_list, scratch)
+        scratch = min(scratch, SCRATCH)
         refusal, result = None, ((),) * 5
         try:
             result = walker.removal(self.design, path_list, self.held, scratch, room)
@@ -96,6 +128,16 @@ class Series:
             refusal = refused.refusal
         self.say(refusal, result, room, scratch)
         return refusal
+
+    def tell(self, path_list, scratch):
+        """The counts, on what is held, or the refusal; and the scratch."""
+        refusal = None
+        try:
+            answer = "copies %d edges %d" % walker.size(self.design, path_list, self.held, scratch)
+        except walker.Refused as refused:
+            refusal, answer = refused.refusal, walker.printed_refusal(refused.refusal)
+        self.lines += ["told " + answer, "scratch %d" % checksum(walker.scratch_after(pattern(5, scratch), refusal))]
+        self.told.append(refusal)
 
     def say(self, refusal, result, room, scratch):
         if refusal is None:
@@ -113,7 +155,7 @@ class Series:
         nodes, starts, ends, *delays, marked = self.design
         numbers = [nodes]
         for part in (starts, ends, *([walker.pack_delay(delay) for delay in part] for part in delays), marked):
-            assert len(part) <= (MARKED_TABLE if part is marked else EDGE_TABLE)
+            bound(MARKED_TABLE if part is marked else EDGE_TABLE, len(part))
             numbers += packed_slice(list(part))
         numbers.append(len(self.removals))
         return b"".join(map(walker.write_number, numbers + [number for removal in self.removals for number in removal]))
@@ -274,6 +316,76 @@ def widest_rooms():
     assert series.add(DESIGN, MARKED["M6"].path_list, room_of(COPY_ROOM, EDGE_ROOM), SCRATCH) is None
     assert series.add(HELD, MARKED["M6"].path_list, room_of(COPY_ROOM, EDGE_ROOM), 1024) is None
     yield series
+
+
+def edges_at_the_limit(extra):
+    """A hub with 1,820 edges in and 51 + extra out, of which 35 are listed behind one edge in: 65,536 + extra result edges, 38 copies. The edges
+    out come first, so that the slices are short in the input; and a list for it."""
+    tails, out_of, into = 35, 51 + extra, 1820
+    design = design_of(3, [(1, 2, 0)] * out_of + [(0, 1, 0)] * into)
+    return design, path_list_of([[out_of, j] for j in range(tails)])
+
+
+def many_marks(alone, beside=1, early_hub=False):
+    """A design, an earlier graph of it and a list, for more copies than a list on a design can give. Node C has copies, each with A times B ways of
+    its own to the sink, and every one of these is listed behind edge x, beside which `beside` edges stand: so each copy of C has A times B marks.
+    `alone` nodes have no edge. The result has 15,857 + `alone` copies; with `early_hub` it has 15,955 + `alone`, and more than 65,536 edges into
+    the first 126."""
+    (A, B, copies_of_C), (into, tails) = ((30, 30, 17), (540, 124)) if early_hub else ((32, 32, 15), (0, 0))
+    first = 3 if early_hub else 0                               # S, C, H, G and the sink stand behind the hub's three nodes
+    S, C, H, G, sink = range(first, first + 5)
+    edges, groups = [], []
+    for start, end, width in ((0, 1, into), (1, 2, tails), (S, C, 1), (S, C, beside), (C, H, A), (H, G, B), (G, sink, copies_of_C)):
+        groups.append(range(len(edges), len(edges) + width))
+        edges += [(start, end, 0)] * width
+    hub_in, hub_out, x, y, a, b, z = groups
+    nodes = list(range(first)) + [S] + [node for node in (C, H, G) for _ in range(copies_of_C)] + list(range(sink, sink + 1 + alone))
+    at_S, at_C = first, first + 1
+    at_H, at_G, at_sink = (at_C + k * copies_of_C for k in (1, 2, 3))
+    joins = [(0, 1, e) for e in hub_in] + [(1, 2, e) for e in hub_out]
+    joins += [(at_S, at_C + k, e) for k in range(copies_of_C) for e in (*x, *y)]
+    joins += [(at_C + k, at_H + k, e) for k in range(copies_of_C) for e in a]
+    joins += [(at_H + k, at_G + k, e) for k in range(copies_of_C) for e in b]
+    joins += [(at_G + k, at_sink, z[k]) for k in range(copies_of_C)]
+    graph = Graph(nodes, [1 if node >= sink or node == 2 and early_hub else 0 for node in nodes], *map(list, zip(*joins)))
+    listed = [[hub_in[0], e] for e in hub_out] if early_hub else []
+    return design_of(nodes[-1] + 1, edges), graph, path_list_of(listed + [[x[0], e, f] for e in a for f in b])
+
+
+# Told of many_marks: counts, 33 or 34. 33 comes first, also where the edges are above theirs before the copies are.
+MANY_MARKS = [((527, 1), None), ((528, 1), (33, 0)), ((527, 4), (34, 0)), ((528, 4), (33, 0)),
+              ((429, 1, True), (34, 0)), ((430, 1, True), (33, 0))]
+
+
+def tellings():
+    """Where telling and removal part: results of 65,536 edges and above, from the design and from a graph, which no room of the program takes; and
+    results of nothing."""
+    for extra, told in ((0, None), (1, (34, 0))):
+        design, path_list = edges_at_the_limit(extra)
+        series = Series(design)
+        words = words_needed(design, path_list, None)
+        for copies, edges, scratch, refusal in ((38, 2080, words, 34), (37, 2080, words, 33), (0, 0, words, 33), (38, 2080, words - 1, 31)):
+            assert series.add(DESIGN, path_list, room_of(copies, edges), scratch) == (refusal, 0)
+        assert series.add(DESIGN, path_list_of([]), room_of(3, 2080), SCRATCH) is None       # the design as a graph
+        assert series.add(HELD, path_list, room_of(38, 2080), words_needed(design, path_list, series.held)) == (34, 0)
+        assert series.told == [told] * 3 + [(31, 0), None, told]
+        yield series
+    # nothing is left: no copy and no edge, from the design, and from a graph of no copies
+    series = Series(chain(3, []).design)
+    for where in (DESIGN, HELD):
+        thresholds(series, where, path_list_of([[0, 1, 2], [1]]))
+    assert series.held == ([],) * 5
+    yield series
+
+
+def tellings_of_many_copies():
+    """The same at 16,384 copies and above. The removal's scratch is cut to 32,768 words, so it gets 31; tests/against_walker.py lends all of it."""
+    for given, told in MANY_MARKS[:2] + MANY_MARKS[4:]:
+        design, graph, path_list = many_marks(*given)
+        series = Series(design)
+        assert series.add(GIVEN, path_list, room_of(9, 9), words_needed(design, path_list, graph), graph) == (31, 0)
+        assert series.told == [told]
+        yield series
 
 
 def unfit_designs():
@@ -457,16 +569,18 @@ def random_cases(rng, count):
 
 # ---- The files ------------------------------------------------------------------------------
 
+@mock.patch.object(walker, "true_graph", remembered(walker.true_graph))
 def main():
-    all_series = [series for cases in (marked, with_marked, adversarial, widest_rooms, unfit_designs, unfit_lists_and_graphs)
-                  for series in cases()]
+    all_series = [series for cases in (marked, with_marked, adversarial, widest_rooms, tellings, tellings_of_many_copies, unfit_designs,
+                                       unfit_lists_and_graphs) for series in cases()]
     all_series += random_cases(random.Random(7), 800)
     refusals = [refusal for series in all_series for refusal in series.refusals]
-    assert set(NUMBERS) == {refusal[0] for refusal in refusals if refusal}, set(refusals)
+    for found in (refusals, [refusal for series in all_series for refusal in series.told]):
+        assert set(NUMBERS) == {refusal[0] for refusal in found if refusal}, set(found)
     stdin = expected.in_blocks([series.packed() for series in all_series], BLOCKS)
     stdout = "".join(line + "\n" for series in all_series for line in series.lines)
     expected.keep("removal_cases", stdin, stdout.encode())
-    print("removal_cases: %d series, %d removals, %d refused" % (len(all_series), len(refusals), sum(map(bool, refusals))))
+    print("removal_cases: %d series, %d removals, each told first, %d refused" % (len(all_series), len(refusals), sum(map(bool, refusals))))
 
 
 if __name__ == "__main__":

@@ -49,6 +49,19 @@ static int64_t from_graph(void)
                                       room.via, ROOM_EDGES, scratch, words);
 }
 
+static int64_t size_of_design(void)
+{
+    return jaqhweni_size_from_design(d.n, d.starts, d.m, d.ends, d.m, d.early, d.m, d.late, d.m, d.marked, d.marked_nodes, list.edges,
+                                     list.listed, list.lengths, list.paths, scratch, words);
+}
+
+static int64_t size_of_graph(void)
+{
+    return jaqhweni_size_from_graph(d.n, d.starts, d.m, d.ends, d.m, d.early, d.m, d.late, d.m, d.marked, d.marked_nodes, list.edges,
+                                    list.listed, list.lengths, list.paths, earlier.nodes, earlier.copies, earlier.endpoint, earlier.copies,
+                                    earlier.from, earlier.edges, earlier.to, earlier.edges, earlier.via, earlier.edges, scratch, words);
+}
+
 static int64_t of_times(void)
 {
     return jaqhweni_times(d.n, d.starts, d.m, d.ends, d.m, d.early, d.m, d.late, d.m, d.marked, d.marked_nodes, 1000000, earlier.nodes,
@@ -72,6 +85,8 @@ typedef struct {
 static const call TRUE_GRAPH = {"true_graph", of_deck, JAQHWENI_STACK_TRUE_GRAPH};
 static const call REMOVE_FROM_DESIGN = {"remove_from_design", from_design, JAQHWENI_STACK_REMOVE_FROM_DESIGN};
 static const call REMOVE_FROM_GRAPH = {"remove_from_graph", from_graph, JAQHWENI_STACK_REMOVE_FROM_GRAPH};
+static const call SIZE_FROM_DESIGN = {"size_from_design", size_of_design, JAQHWENI_STACK_SIZE_FROM_DESIGN};
+static const call SIZE_FROM_GRAPH = {"size_from_graph", size_of_graph, JAQHWENI_STACK_SIZE_FROM_GRAPH};
 static const call TIMES = {"times", of_times, JAQHWENI_STACK_TIMES};
 static const call WRITE_GRAPH = {"write_graph", of_writing, JAQHWENI_STACK_WRITE_GRAPH};
 
@@ -146,6 +161,29 @@ static void decks(void)
     measure(&TRUE_GRAPH, "numbers of five bytes", 12);
 }
 
+/* A removal, told first: the answers must be the same. */
+static int64_t told_and_removed(const call *tell, const call *remove, const char *input, int refused)
+{
+    int64_t told = measure(tell, input, refused), answer = measure(remove, input, refused);
+    if (told != answer) {
+        printf("%s told another answer than %s gave  FAILED\n", tell->name, remove->name);
+        over++;
+    }
+    return answer;
+}
+
+static int64_t on_design(const char *input, int refused)
+{
+    words = words_needed(&d, &list, NULL);
+    return told_and_removed(&SIZE_FROM_DESIGN, &REMOVE_FROM_DESIGN, input, refused);
+}
+
+static void on_graph(const char *input, int refused)
+{
+    words = words_needed(&d, &list, &earlier);
+    told_and_removed(&SIZE_FROM_GRAPH, &REMOVE_FROM_GRAPH, input, refused);
+}
+
 /* The lists are of the largest size, and random, so that there are many marks; where the earlier graph is the largest, so many that the
  * result would have more copies than a graph may: then a list of single edges is what can be written. */
 static void removals(void)
@@ -153,23 +191,18 @@ static void removals(void)
     random_design(&d, JAQHWENI_MAX_NODES, JAQHWENI_MAX_EDGES, 64);
     mark_every(&d, 1);
     random_paths(&list, &d, 0, 8);
-    words = words_needed(&d, &list, NULL);
-    int64_t answer = measure(&REMOVE_FROM_DESIGN, "4,096 nodes, 16,384 edges, no path", 0);
+    int64_t answer = on_design("4,096 nodes, 16,384 edges, no path", 0);
     earlier = room;
     earlier.copies = (uint32_t)answer;
     earlier.edges = (size_t)(answer >> 32);
     random_paths(&list, &d, JAQHWENI_MAX_PATHS, 8);
-    words = words_needed(&d, &list, NULL);
-    measure(&REMOVE_FROM_DESIGN, "the same, 1,024 paths of 8", 0);
-    words = words_needed(&d, &list, &earlier);
-    measure(&REMOVE_FROM_GRAPH, "4,096 copies, 16,384 edges, 1,024 paths of 8", 0);
+    on_design("the same, 1,024 paths of 8", 0);
+    on_graph("4,096 copies, 16,384 edges, 1,024 paths of 8", 0);
     full_graph(&d, &earlier);
     random_paths(&list, &d, JAQHWENI_MAX_PATHS, 8);
-    words = words_needed(&d, &list, &earlier);
-    measure(&REMOVE_FROM_GRAPH, "16,384 copies, 65,536 edges, 1,024 paths of 8", 33);
+    on_graph("16,384 copies, 65,536 edges, 1,024 paths of 8", 33);
     random_paths(&list, &d, JAQHWENI_MAX_PATHS, 1);
-    words = words_needed(&d, &list, &earlier);
-    measure(&REMOVE_FROM_GRAPH, "16,384 copies, 65,536 edges, 1,024 paths of 1", 0);
+    on_graph("16,384 copies, 65,536 edges, 1,024 paths of 1", 0);
 }
 
 int main(int count, char **arguments)

@@ -434,6 +434,129 @@ class Ends(unittest.TestCase):
         self.assertGreater(min(seen.values()), 30, seen)
 
 
+class Sizes(unittest.TestCase):
+    """Document 02, request 8: room known beforehand."""
+    def told(self, design, path_list, earlier=None, words=MANY_WORDS):
+        """The counts, or the refusal."""
+        try:
+            return w.size(design, path_list, earlier, words)
+        except w.Refused as refused:
+            return refused.refusal
+
+    def filled(self, design, path_list, earlier, room, words=MANY_WORDS):
+        """What filling gives in such a room: how many places it fills, or its refusal."""
+        try:
+            result = w.removal(design, path_list, earlier, words, room)
+            return len(result.copy_nodes), len(result.starts)
+        except w.Refused as refused:
+            return refused.refusal
+
+    def test_counts_by_hand(self):
+        for name, counts in (("M1", (6, 5)), ("M2", (0, 0)), ("M3", (1, 0)), ("M4", (4, 3)), ("M5", (4, 3)), ("M6", (6, 4)), ("M7", (0, 0)),
+                             ("M8", (5, 4)), ("M9", (2, 1))):
+            self.assertEqual(self.told(MARKED[name].design, MARKED[name].path_list), counts, name)
+        design, earlier = MARKED["M1"].design, graph_of(MARKED["M1"])
+        for paths, counts in (([], (6, 5)), ([[0, 3]], (6, 4)), ([[2]], (4, 3)), ([[0]], (3, 2)), ([[0], [1]], (0, 0))):
+            self.assertEqual(self.told(design, path_list_of(paths), earlier), counts, paths)
+        # two copies of a source stay two, and nothing is left of no copies
+        forked = design_of(4, [(0, 1, 0), (1, 2, 0), (1, 3, 0)])
+        split = w.Graph([0, 0, 1, 1, 2, 3], [0, 0, 0, 0, 1, 1], [0, 1, 2, 3], [2, 3, 4, 5], [0, 0, 1, 2])
+        self.assertEqual((self.told(forked, NO_LIST, split), self.told(forked, path_list_of([[0, 1]]), split)), ((6, 4), (3, 2)))
+        self.assertEqual(self.told(forked, NO_LIST, w.Graph([], [], [], [], [])), (0, 0))
+
+    def test_34_at_65537_edges_of_few_copies(self):
+        """1,820 edges in, 51 out, one edge in listed with 35 of these: 36 copies of the hub; 35 have 1,819 edges in, and one has 1,820."""
+        for out_of, told in ((51, (38, 35 * 1819 + 1820 + 51)), (52, (34, 0))):
+            edges = [(0, 1, 0)] * 1820 + [(1, 2, 0)] * out_of
+            self.assertEqual(self.told(design_of(3, edges), path_list_of([[0, 1820 + j] for j in range(35)])), told)
+
+    def test_limits_and_their_order(self):
+        """With lower limits, on deck A: 6 copies, 5 edges. 31 comes before 33, this before 34, and neither where the limit is reached."""
+        design, path_list = MARKED["M1"].design, MARKED["M1"].path_list
+        for most_copies, most_edges, told in ((6, 5, (6, 5)), (5, 5, (33, 0)), (6, 4, (34, 0)), (5, 4, (33, 0)), (5, 0, (33, 0)), (9, 0, (34, 0))):
+            with mock.patch.object(w, "MOST_COPIES", most_copies), mock.patch.object(w, "MOST_GRAPH_EDGES", most_edges):
+                self.assertEqual(self.told(design, path_list), told)
+                self.assertEqual(self.told(design, path_list, None, 95), (31, 0))               # it needs 96
+
+    def test_refusals(self):
+        design, one_two, earlier = MARKED["M1"].design, path_list_of([[1, 2]]), graph_of(MARKED["M1"])
+        self.assertEqual([self.told(design, one_two, None, words) for words in (0, 95, 96)], [(31, 0), (31, 0), (6, 5)])
+        self.assertEqual([self.told(design, path_list_of([[0, 3]]), earlier, words) for words in (119, 120)], [(31, 0), (6, 4)])
+        for part in ("starts", "ends", "early", "late"):
+            self.assertEqual(self.told(design._replace(**{part: [0] * 5}), one_two), (30, 0))
+        for path_list in (w.PathList([1], []), w.PathList([2 ** 32 - 1, 1], []), w.PathList([], [1])):
+            self.assertEqual(self.told(design, path_list), (30, 0))
+        for part in w.Graph._fields:
+            self.assertEqual(self.told(design, one_two, earlier._replace(**{part: getattr(earlier, part)[:-1]})), (30, 0))
+        bad_graph = w.Graph([9], [0], [], [], [])
+        self.assertEqual(self.told(design, NO_LIST, bad_graph, 0), (32, 0))                    # 32 before 31
+        self.assertEqual(self.told(design, path_list_of([[2, 1]]), bad_graph, 0), (24, 0, 1))
+        self.assertEqual(self.told(design_of(5, [(0, 2, 1, 0)]), path_list_of([[]]), bad_graph, 0), (15, 0))
+        self.assertEqual(self.told(design_of(5, A_EDGES, [2, 2]), path_list_of([[9]])), (16, 1))
+        self.assertEqual(self.told(design_of(4097, []), w.PathList([1], [])), (30, 0))
+        self.assertEqual(self.told(design_of(4097, []), w.PathList([1] * 1025, [0] * 1025)), (10, 0))
+
+    def both_ways(self):
+        """Random designs and lists, on the design and on an earlier graph of it."""
+        rng = random.Random(SEED + 8)
+        for number in range(300):
+            design = decks.random_design(rng)
+            path_list = path_list_of(decks.random_paths(rng, design))
+            yield design, path_list, decks.random_foreign_graph(rng, design) if number % 2 else None
+
+    def test_told_and_filled(self):
+        """"Where the first tells, filling ..., unless it gives 30 or 31, is refused for room if and only if a room is below the told number." """
+        for design, path_list, earlier in self.both_ways():
+            copies, edges = self.told(design, path_list, earlier)
+            result = w.true_graph(design, path_list, earlier)
+            self.assertEqual((copies, edges), (len(result.copy_nodes), len(result.starts)))
+            words = w.words_needed(design, path_list, w.design_as_graph(design) if earlier is None else earlier)
+            for room_copies, room_edges in itertools.product((0, copies - 1, copies, copies + 3), (0, edges - 1, edges, edges + 2)):
+                if room_copies < 0 or room_edges < 0:
+                    continue
+                wanted = (33, 0) if room_copies < copies else (34, 0) if room_edges < edges else (copies, edges)
+                self.assertEqual(self.filled(design, path_list, earlier, room_of(room_copies, room_edges), words), wanted)
+            if words > 0:
+                self.assertEqual(self.told(design, path_list, earlier, words - 1), (31, 0))
+                self.assertEqual(self.filled(design, path_list, earlier, room_of(0, 0), words - 1), (31, 0))
+
+    def test_what_fits_no_room(self):
+        """Where it is told 33, filling gives 33 in every room; where it is told 34, it gives 33 in a room for fewer copies, and else 34. Lower
+        limits stand for 16,384 and 65,536."""
+        seen = set()
+        for design, path_list, earlier in self.both_ways():
+            copies, edges = self.told(design, path_list, earlier)
+            for less_copies, less_edges in ((1, 0), (0, 1), (1, 1)):
+                if copies < less_copies or edges < less_edges:
+                    continue
+                with mock.patch.object(w, "MOST_COPIES", copies - less_copies), mock.patch.object(w, "MOST_GRAPH_EDGES", edges - less_edges):
+                    if earlier is not None and not w.is_well_formed(design, earlier):           # 32 goes by the same limits
+                        continue
+                    told = self.told(design, path_list, earlier)
+                    self.assertEqual(told, (33, 0) if less_copies else (34, 0))
+                    for room in (room_of(max(copies - 1, 0), edges), room_of(copies, edges), room_of(16400, 65600), room_of(copies, 0)):
+                        wanted = (33, 0) if told == (33, 0) or room.copies < copies else (34, 0)
+                        self.assertEqual(self.filled(design, path_list, earlier, room), wanted)
+                        seen.add((told, wanted, earlier is None))
+        self.assertEqual(len(seen), 6, seen)
+
+    def test_refused_alike(self):
+        """Removal's refusals: on random calls, damaged or not, telling and filling in the widest room give the same."""
+        rng, seen = random.Random(SEED + 9), set()
+        for _ in range(600):
+            design = decks.random_design(rng)
+            earlier = decks.random_foreign_graph(rng, design) if rng.random() < 0.5 else None
+            if earlier is not None and rng.random() < 0.3:
+                earlier = decks.damage_graph(rng, earlier)
+            path_list, _, words = decks.random_call(rng, design)
+            if rng.random() < 0.4:
+                design, path_list, _ = decks.damage_values(rng, w.Deck(design, path_list, 0))
+            found = w.refusal_of(w.size, design, path_list, earlier, words)
+            self.assertEqual(found, refusal(design, path_list, earlier, words))
+            seen.add(found and found[0])
+        self.assertTrue({None, 12, 13, 14, 15, 16, 22, 23, 24, 30, 31, 32} <= seen, seen)
+
+
 class Packing(unittest.TestCase):
     def test_numbers(self):
         edges = {0, 2 ** 32 - 1} | {2 ** (7 * k) + d for k in range(1, 5) for d in (-1, 0, 1)}

@@ -1,17 +1,18 @@
 #!/usr/bin/env python3
 """Vectors that came from outside, against tests/walker.py and against what is built.
 
-    python3 tests/vectors.py FOLDER [--program PATH] [--library PATH] [--cases PATH]
+    python3 tests/vectors.py FOLDER [--program PATH] [--library PATH] [--cases PATH] [--removals PATH]
 
 FOLDER has decks with what the deck program must print (NAME.deck, NAME.out), calls of the C function from deck to packed graph
 (ccall.tsv) and calls over slices (slices.jsonl); the README.md there says how they are written. All of it is asked of the walker.
 - With --program (target/bin/deck_program) the decks are asked of that deck program.
 - With --library (target/staticlib/libjaqhweni.a) the calls are asked of that library, by way of tests/c_runner.c: ccall.tsv and, of
-  slices.jsonl, removals, the steps of series, times and written graphs, with all that was lent.
+  slices.jsonl, removals, the steps of series, sizes, times and written graphs, with all that was lent.
 - With --cases (target/bin/bytes_cases) the readers and writers are asked of that program; but for the graph's writer they have no C call
   yet. Its lines must be those that tests/bytes_cases.py makes of the walker's answer, which is itself compared with the vector.
-What is not there yet (kinds of calls), and for the walker a deck with more paths than it walks, is skipped and counted. Prints every
-difference, and how many were compared of each kind; exit status 1 if anything differs.
+- With --removals (target/bin/removal_cases) removals, series and sizes are asked of that program, in the same way, by tests/removal_cases.py.
+What is not there yet (kinds of calls), for the walker a deck with more paths than it walks, and what such a program has no room for, is
+skipped and counted. Prints every difference, and how many were compared of each kind; exit status 1 if anything differs.
 """
 import argparse
 import collections
@@ -19,11 +20,15 @@ import json
 import pathlib
 import subprocess
 import sys
+from unittest import mock
 
 import against_walker
 import bytes_cases
+import expected
+import removal_cases
 import walker
-from against_walker import deck_call, removal_call, times_call, write_call
+from against_walker import deck_call, removal_call, size_call, times_call, write_call
+from decks import room_of
 from walker import Deck, Design, Graph, PathList, Room, Tables
 
 TIMES = ("arrival", "required", "slack", "earliest")
@@ -99,7 +104,12 @@ def times(vector):
     return {"times": {name: [at_copy[part] for at_copy in found] for part, name in enumerate(TIMES)}}
 
 
+def size(vector):
+    return {"size": list(walker.size(design_in(vector), list_in(vector), graph_in(vector["graph"]), vector["scratch"]))}
+
+
 KINDS = {
+    "size": size,
     "remove": lambda v: {"graph": graph_out(removed(v, graph_in(v["graph"])))},
     "times": times,
     "read_graph": lambda v: {"graph": graph_out(walker.read_graph(bytes.fromhex(v["bytes"]), room_in(v)))},
@@ -148,6 +158,8 @@ def requests_of(vector, name):
             held = graph_in(step["want"].get("graph")) or held
     elif kind == "remove":
         yield removal_request(name, vector, graph_in(vector["graph"]), vector)
+    elif kind == "size":
+        yield size_call(name, design_in(vector), list_in(vector), graph_in(vector["graph"]), vector["scratch"], refusal, want.get("size"))
     elif kind == "times":
         times = [want["times"][part] for part in TIMES] if "times" in want else None
         yield times_call(name, design_in(vector), graph_in(vector["graph"]), vector["T"], vector["time_lengths"], refusal, times)
@@ -181,6 +193,36 @@ def run_case(program, vector, name, compared):
     compared.same("bytes_cases, " + vector["kind"], name, lambda: (run.returncode, run.stdout.decode()), (0, lines))
 
 
+# ---- Removals and sizes: series of removal_cases ----------------------------------------------------
+
+def series_of(vector):
+    """The input and the lines. A size is asked in front of a removal into no room; there alone the program takes a scratch above 32,768 words."""
+    kind, series = vector["kind"], removal_cases.Series(design_in(vector))
+    for step in vector["steps"] if kind == "series" else [vector]:
+        earlier = None if kind == "series" else graph_in(vector["graph"])
+        where = removal_cases.HELD if earlier is None else removal_cases.GIVEN
+        removal_cases.bound(removal_cases.TOLD_SCRATCH if kind == "size" else removal_cases.SCRATCH, step["scratch"])
+        series.add(where, list_in(step), room_of(0, 0) if kind == "size" else room_in(step), step["scratch"], earlier)
+    data = walker.write_number(1) + series.packed()
+    removal_cases.bound(expected.BUFFER, len(data))
+    return data, series.lines
+
+
+def run_series(program, vector, name, compared):
+    """One run for each vector."""
+    kind = "removal_cases, " + vector["kind"]
+    try:
+        data, lines = series_of(vector)
+    except walker.WalkTooLong:
+        compared.skipped[kind + " (too many paths to walk)"] += 1
+        return
+    except removal_cases.BeyondTables:
+        compared.skipped[kind + " (no room in the program)"] += 1
+        return
+    run = subprocess.run([program], input=data, capture_output=True)
+    compared.same(kind, name, lambda: (run.returncode, run.stdout.decode().splitlines()), (0, lines))
+
+
 # ---- All of it ---------------------------------------------------------------------------------
 
 def c_calls(folder):
@@ -191,12 +233,14 @@ def c_calls(folder):
             yield "%s in %s" % (deck, room), (folder / (deck + ".deck")).read_bytes(), int(room), int(number), bytes.fromhex(written)
 
 
+@mock.patch.object(walker, "true_graph", removal_cases.remembered(walker.true_graph))
 def main():
     parser = argparse.ArgumentParser()
     parser.add_argument("folder", type=pathlib.Path)
     parser.add_argument("--program", type=pathlib.Path)
     parser.add_argument("--library", type=pathlib.Path)
     parser.add_argument("--cases", type=pathlib.Path)
+    parser.add_argument("--removals", type=pathlib.Path)
     options = parser.parse_args()
     compared, command = Compared(), None
     if options.library:
@@ -219,6 +263,8 @@ def main():
             run_request(command, request, "C, " + NAMES.get(vector["kind"], vector["kind"]), compared)
         if options.cases and vector["kind"] in CASES:
             run_case(options.cases.resolve(), vector, name, compared)
+        if options.removals and vector["kind"] in ("remove", "series", "size"):
+            run_series(options.removals.resolve(), vector, name, compared)
     for difference in compared.differences:
         print(difference)
     print("vectors: %s; skipped: %s; %d differences" % (against_walker.in_words(compared.counts),

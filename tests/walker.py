@@ -1,7 +1,7 @@
 #!/usr/bin/env python3
 """Reference program: true timing graphs by walking all paths.
 
-Written from document 01, the specification, with requests 1, 4, 6 and 9 of document 02, and from no code
+Written from document 01, the specification, with requests 1, 4, 6, 8 and 9 of document 02, and from no code
 or definition of this repository; points that they leave open are read as docs/DECISIONS.md
 says ("How document 01 is read"). Naive on purpose: every complete path is written out, the false ones are struck
 out, and copies, edges and times are read off the paths that remain. Text in double quotes in
@@ -305,11 +305,10 @@ def room_refusal(graph, room):
 
 # ---- Removal, and a series of removals ----------------------------------------------------
 
-def removal(design, path_list, earlier, scratch_words, room, allowed_time=None):
-    """One call: from the design (earlier None) or from an earlier true graph. T is None for
-    the slice calls, which do not take it; the deck program and the C call give it ("25
-    included"). "Slice calls test 30, then 10 to 14" and the new 15 and 16, then "20 to 25, 32, 31, 33, 34" """
-    groups = [design_slices(design), *room_groups(room)]
+def result_of(design, path_list, earlier, scratch_words, room_slices=(), allowed_time=None):
+    """What removal and telling have in common: the tests up to 31, and the result that 33 and 34 then measure.
+    "Slice calls test 30, then 10 to 14" and the new 15 and 16, then "20 to 25, 32, 31", "leaving out tests of what a call does not take" """
+    groups = [design_slices(design), *room_slices]
     if earlier is not None:
         groups += graph_groups(earlier)
     refuse(slices_refusal(groups, path_list))
@@ -321,9 +320,25 @@ def removal(design, path_list, earlier, scratch_words, room, allowed_time=None):
         refuse(graph_refusal(design, earlier))
     worked_on = design_as_graph(design) if earlier is None else earlier
     refuse(scratch_refusal(design, path_list, worked_on, scratch_words))
-    result = true_graph(design, path_list, earlier)
+    return true_graph(design, path_list, earlier)
+
+def removal(design, path_list, earlier, scratch_words, room, allowed_time=None):
+    """One call: from the design (earlier None) or from an earlier true graph. T is None for
+    the slice calls, which do not take it; the deck program and the C call give it ("25
+    included"). After 31 come "33, 34" for the room lent."""
+    result = result_of(design, path_list, earlier, scratch_words, room_groups(room), allowed_time)
     refuse(room_refusal(result, room))
     return result
+
+def size(design, path_list, earlier, scratch_words):
+    """"one call tells how many copies and edges the result has": it takes no room, and "gives removal's refusals, but 33 or 34 only
+    where the result passes 16,384 copies or 65,536 edges". The scratch is removal's (scratch_after)."""
+    result = result_of(design, path_list, earlier, scratch_words)
+    if len(result.copy_nodes) > MOST_COPIES:
+        raise Refused(33)
+    if len(result.starts) > MOST_GRAPH_EDGES:               # 34: "they fit and the edges exceed theirs"
+        raise Refused(34)
+    return len(result.copy_nodes), len(result.starts)
 
 def scratch_after(before, refusal):
     """"Scratch is all zero after success and after 33, 34 or 35, and unchanged after the others." """

@@ -5,12 +5,17 @@ use mathlib.Core.List.{List, [], _∷_, map}
 use mathlib.Core.Option.{Option, none, some}
 use contract.Lifetimes.{Lfts}
 use denote.Ref.{RefT}
+use lib.ListN.{length}
 use Rattle.timing.specs.Graphs.{Design}
+use Rattle.timing.specs.Marks.{pathList}
 use Rattle.timing.specs.Calls.{GraphSlices}
 use Rattle.timing.specs.Called.{Called, removalOf, Meets, removeOn, heldSlices, Ran}
+use Rattle.timing.specs.Told.{Telling, Tells, sizeOn, Foretells}
 use Rattle.timing.proofs.Marked.{deckA}
-use Rattle.theorems.proofs.CalledExample.{series, series-ran}
+use Rattle.theorems.proofs.CalledExample.{series, series-ran, madeWith, toldA, told, filled}
 use Rattle.called.specs.Removals.{Call, onDesign, onGraph, designOf, earlierOf, calledOf, Follows}
+use Rattle.called.specs.Sizes.{SizeCall, ofDesign, ofGraph, sizedDesign, sizedEarlier, tellingOf}
+use Rattle.called.proofs.Told.{call-foretells}
 
 -- some slice that holds x
 abbrev pub lent : {X : Type 0} → X → RefT X
@@ -54,3 +59,38 @@ calls-of D held (c ∷ cs) (m, r) =
 
 pub example : (ks : List Call) × Follows deckA none ks × (map calledOf ks ≡ series)
 example = calls-of deckA none series series-ran
+
+-- The same of a call that tells a size.
+sizeOf : (D : Design) (held : Option GraphSlices) (t : Telling) → Tells (sizeOn D held (pathList (t .listed) (t .lengths)) (length (t .scratch))) t
+    → (k : SizeCall) × (sizedDesign k ≡ D) × (sizedEarlier k ≡ held) × (tellingOf k ≡ t)
+sizeOf D none t m = (
+  ofDesign record {
+    lifetimes = ([], ([], ([], ([], ([], ([], ([], ([], tt))))))));
+    passed = (D .nodes, (lent (D .starts), (lent (D .ends), (lent (D .early), (lent (D .late), (lent (D .marked), (lent (t .listed), (lent (t .lengths), (lent (t .scratch), tt)))))))));
+    answer = t .answer;
+    left = (D .nodes, (lent (D .starts), (lent (D .ends), (lent (D .early), (lent (D .late), (lent (D .marked), (lent (t .listed), (lent (t .lengths), (lent (t .scratchAt), tt)))))))));
+    learnt = (m .answer, m .scratch);
+  },
+  refl,
+  refl,
+  refl,
+)
+sizeOf D (some S) t m = (
+  ofGraph record {
+    lifetimes = ([], ([], ([], ([], ([], ([], ([], ([], ([], ([], ([], ([], ([], tt)))))))))))));
+    passed = (D .nodes, (lent (D .starts), (lent (D .ends), (lent (D .early), (lent (D .late), (lent (D .marked), (lent (t .listed), (lent (t .lengths), (lent (S .nodes), (lent (S .endpoints), (lent (S .starts), (lent (S .ends), (lent (S .names), (lent (t .scratch), tt))))))))))))));
+    answer = t .answer;
+    left = (D .nodes, (lent (D .starts), (lent (D .ends), (lent (D .early), (lent (D .late), (lent (D .marked), (lent (t .listed), (lent (t .lengths), (lent (S .nodes), (lent (S .endpoints), (lent (S .starts), (lent (S .ends), (lent (S .names), (lent (t .scratchAt), tt))))))))))))));
+    learnt = (m .answer, m .scratch);
+  },
+  refl,
+  refl,
+  refl,
+)
+
+-- Deck A told and then filled, by calls.
+pub told-example : (t : SizeCall) × (c : Call) × (tellingOf t ≡ toldA) × (calledOf c ≡ madeWith 96) × Foretells deckA none (tellingOf t) (calledOf c)
+told-example =
+    let t = sizeOf deckA none toldA told in
+    let c = callOn deckA none (madeWith 96) filled in
+    (t .0, c .0, t .3, c .3, call-foretells deckA none (t .0) (c .0) (t .1) (t .2) (c .1) (c .2))

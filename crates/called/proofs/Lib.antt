@@ -2,6 +2,7 @@
 pub mod Series
 pub mod Faults
 pub mod Scratch
+pub mod Told
 pub mod Demand2
 pub mod Times
 pub mod Example

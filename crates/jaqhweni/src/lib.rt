@@ -5,9 +5,11 @@ ghost use Prim.Native.Nat.{_<_};
 ghost use lib.IntN.{pos, negℤ};
 ghost use lib.ListN.{length};
 ghost use Rattle.timing.specs.Graphs.{design};
+ghost use Rattle.timing.specs.Marks.{pathList};
 ghost use Rattle.timing.specs.GraphBytes.{packedGraph};
 ghost use Rattle.timing.specs.Calls.{graphSlices, graphOf, lentRemoval, removeFromDesign, removeFromGraph, graphAnswer};
 ghost use Rattle.timing.specs.Calls.{nodesAfter, endpointsAfter, startsAfter, endsAfter, namesAfter, scratchAfter};
+ghost use Rattle.timing.specs.Calls.{sizeFromDesign, sizeFromGraph};
 ghost use Rattle.timing.specs.Calls.{testTimes, arrivalsAfter, requiredsAfter, slacksAfter, earliestsAfter};
 ghost use Rattle.timing.specs.Calls.{graphWriteTests, writing, roomAfterWriting};
 ghost use Rattle.timing.specs.Calls.{refusalNumber, graphNumber, verdictNumber, cNumber, cCall, cRoom};
@@ -193,6 +195,86 @@ pub extern "C" fn jaqhweni_remove_from_graph(
         scratch,
     );
     graph_number(made)
+}
+
+// How many copies and edges the true graph of a design and a list of paths has.
+#[no_mangle]
+pub extern "C" fn jaqhweni_size_from_design(
+    n: u32,
+    starts: &[u32],
+    ends: &[u32],
+    early: &[i32],
+    late: &[i32],
+    marked: &[u32],
+    listed: &[u32],
+    lengths: &[u32],
+    scratch: &mut [u32],
+) -> i64
+    ensures { λ r.
+        let D = design n (now (starts .entry)) (now (ends .entry)) (now (early .entry)) (now (late .entry))
+        (now (marked .entry)) in
+        let L = pathList (now (listed .entry)) (now (lengths .entry)) in
+        let o = sizeFromDesign D L (length (now (scratch .entry))) in
+        ⌜ (r ≡ graphNumber (graphAnswer o)) × (now (scratch .exit) ≡ scratchAfter o (now (scratch .entry))) ⌝ }
+{
+    let told = removal::size_from_design(
+        n,
+        starts,
+        ends,
+        early,
+        late,
+        marked,
+        listed,
+        lengths,
+        scratch,
+    );
+    graph_number(told)
+}
+
+// How many copies and edges are left of an earlier true graph after a further list of paths.
+#[no_mangle]
+pub extern "C" fn jaqhweni_size_from_graph(
+    n: u32,
+    starts: &[u32],
+    ends: &[u32],
+    early: &[i32],
+    late: &[i32],
+    marked: &[u32],
+    listed: &[u32],
+    lengths: &[u32],
+    nodes: &[u32],
+    endpoint: &[u32],
+    from: &[u32],
+    to: &[u32],
+    via: &[u32],
+    scratch: &mut [u32],
+) -> i64
+    ensures { λ r.
+        let D = design n (now (starts .entry)) (now (ends .entry)) (now (early .entry)) (now (late .entry))
+        (now (marked .entry)) in
+        let S = graphSlices (now (nodes .entry)) (now (endpoint .entry))
+        (now (from .entry)) (now (to .entry)) (now (via .entry)) in
+        let L = pathList (now (listed .entry)) (now (lengths .entry)) in
+        let o = sizeFromGraph D S L (length (now (scratch .entry))) in
+        ⌜ (r ≡ graphNumber (graphAnswer o)) × (now (scratch .exit) ≡ scratchAfter o (now (scratch .entry))) ⌝ }
+{
+    let told = removal::size_from_graph(
+        n,
+        starts,
+        ends,
+        early,
+        late,
+        marked,
+        listed,
+        lengths,
+        nodes,
+        endpoint,
+        from,
+        to,
+        via,
+        scratch,
+    );
+    graph_number(told)
 }
 
 // Arrival, required time, slack and earliest arrival of every copy of a true graph.

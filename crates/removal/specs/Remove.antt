@@ -3,14 +3,20 @@ use Prim.Native.Nat.{ℕ, _+_, _≤_}
 use mathlib.Core.Path.{_≡_}
 use mathlib.Core.List.{List, flatMap}
 use lib.ListN.{length, take}
+use Rattle.timing.specs.declared.Verdict.{Verdict}
+use Rattle.timing.specs.declared.Verdict.the-variants.{Passed, Refused}
 use Rattle.timing.specs.declared.GraphMade.{GraphMade}
 use Rattle.timing.specs.Graphs.{Design, Graph, edgesIn}
-use Rattle.timing.specs.Marks.{PathList, pathsOf}
+use Rattle.timing.specs.Marks.{PathList, pathList, pathsOf}
 use Rattle.timing.specs.TrueGraphs.{trueGraph}
-use Rattle.timing.specs.Tests.{candidates, roomTests}
-use Rattle.timing.specs.Calls.{Outcome, outcome, removal, removalTests, graphSlices, roomOf, graphAnswer, nodesAfter, endpointsAfter, startsAfter, endsAfter, namesAfter, scratchAfter}
+use Rattle.timing.specs.Tests.{candidates, wordsTest, Room, roomTests}
+use Rattle.timing.specs.Calls.{Outcome, outcome, removal, removalTests, graphSlices, roomOf, largestRoom, graphAnswer, nodesAfter, endpointsAfter, startsAfter, endsAfter, namesAfter, scratchAfter}
 use Rattle.theorems.proofs.Tested.{DesignFits}
 use Rattle.removal.specs.declared.rows.Layout.{Layout}
+use Rattle.removal.specs.declared.remove.Searched.{Searched}
+use Rattle.removal.specs.declared.remove.Searched.the-variants.{Found as SearchFound}
+use Rattle.removal.specs.declared.remove.Searched.the-variants.{Refused as SearchRefused}
+use Rattle.removal.specs.Search.{ofStarts, ofNodes}
 use Rattle.removal.specs.Result.{shownBelow}
 use Rattle.removal.specs.Rows.{Tabled}
 use Rattle.removal.specs.Fill.{EdgesInto, ShownReady, RowsShown, boundsNow, shownNow, edgesNow}
@@ -53,6 +59,18 @@ pub record Found (starts listed lengths nodes endpoint from to via s t : List �
   pub tabled : (D : Design) (L : PathList) (G : Graph) → Given D L G starts listed lengths nodes from to via → Tabled D L G l listed from to via (take (l .slots) t)
   pub all : AllFound l listed nodes endpoint from to via t copies edges
 
+-- 31, by the candidates of what the slices are of
+abbrev pub wordsFor : List ℕ → List ℕ → List ℕ → List ℕ → List ℕ → List ℕ → Verdict
+wordsFor starts listed lengths nodes from s =
+    wordsTest (candidates (ofStarts starts) (ofNodes nodes) (pathList listed lengths)) (length listed) (length from) (length s)
+
+-- what a search answers, and t is the scratch then: what was found, or 31 and the scratch as it was
+abbrev pub AllSearched : List ℕ → List ℕ → List ℕ → List ℕ → List ℕ → List ℕ → List ℕ → List ℕ → List ℕ → List ℕ → Searched → Type 0
+AllSearched starts listed lengths nodes endpoint from to via s t (SearchFound f) =
+    (wordsFor starts listed lengths nodes from s ≡ Passed)
+    × Found starts listed lengths nodes endpoint from to via s t (f .layout) (f .counts .copies) (f .counts .edges)
+AllSearched starts listed lengths nodes endpoint from to via s t (SearchRefused r) = (wordsFor starts listed lengths nodes from s ≡ Refused r) × (t ≡ s)
+
 -- the answer and the room are those of an outcome
 pub record Answered (o : Outcome Graph) (r : GraphMade) (room-nodes room-endpoint room-from room-to room-via room-nodes′ room-endpoint′ room-from′ room-to′ room-via′ : List ℕ) : Type 0 where
   pub answer : r ≡ graphAnswer o
@@ -63,18 +81,17 @@ pub record Answered (o : Outcome Graph) (r : GraphMade) (room-nodes room-endpoin
   pub names : room-via′ ≡ namesAfter o room-via
 
 -- what is made where only 33 and 34 are left to test
-abbrev pub roomOutcome : PathList → Graph → List ℕ → List ℕ → List ℕ → List ℕ → List ℕ → Outcome Graph
-roomOutcome L G room-nodes room-endpoint room-from room-to room-via = outcome (roomTests (roomOf (graphSlices room-nodes room-endpoint room-from room-to room-via)) (trueGraph G (pathsOf L))) (trueGraph G (pathsOf L))
+abbrev pub roomOutcome : PathList → Graph → Room → Outcome Graph
+roomOutcome L G R = outcome (roomTests R (trueGraph G (pathsOf L))) (trueGraph G (pathsOf L))
 
 unfoldable pub RoomAnswered : Layout → List ℕ → List ℕ → List ℕ → List ℕ → List ℕ → List ℕ → List ℕ → GraphMade → List ℕ → List ℕ → List ℕ → List ℕ → List ℕ → List ℕ → List ℕ → List ℕ → List ℕ → List ℕ → Type 0
 RoomAnswered l listed nodes endpoint from to via s r room-nodes room-endpoint room-from room-to room-via room-nodes′ room-endpoint′ room-from′ room-to′ room-via′ =
     (D : Design) (L : PathList) (G : Graph) → Tabled D L G l listed from to via (take (l .slots) s) → G .nodes ≡ nodes → G .endpoints ≡ endpoint → EdgesInto G (edgesIn G)
-    → Answered (roomOutcome L G room-nodes room-endpoint room-from room-to room-via) r room-nodes room-endpoint room-from room-to room-via room-nodes′ room-endpoint′ room-from′ room-to′ room-via′
+    → Answered (roomOutcome L G (roomOf (graphSlices room-nodes room-endpoint room-from room-to room-via))) r room-nodes room-endpoint room-from room-to room-via room-nodes′ room-endpoint′ room-from′ room-to′ room-via′
 
 -- and where 31 is too
-abbrev pub removalOutcome : Design → PathList → Graph → List ℕ → List ℕ → List ℕ → List ℕ → List ℕ → List ℕ → Outcome Graph
-removalOutcome D L G room-nodes room-endpoint room-from room-to room-via s =
-    outcome (removalTests D G (removal L (roomOf (graphSlices room-nodes room-endpoint room-from room-to room-via)) (length s))) (trueGraph G (pathsOf L))
+abbrev pub removalOutcome : Design → PathList → Graph → Room → ℕ → Outcome Graph
+removalOutcome D L G R words = outcome (removalTests D G (removal L R words)) (trueGraph G (pathsOf L))
 
 -- the scratch is too
 pub record Removed (o : Outcome Graph) (r : GraphMade) (room-nodes room-endpoint room-from room-to room-via s room-nodes′ room-endpoint′ room-from′ room-to′ room-via′ s′ : List ℕ) : Type 0 where
@@ -83,4 +100,13 @@ pub record Removed (o : Outcome Graph) (r : GraphMade) (room-nodes room-endpoint
 
 unfoldable pub AllRemoved : List ℕ → List ℕ → List ℕ → List ℕ → List ℕ → List ℕ → List ℕ → List ℕ → GraphMade → List ℕ → List ℕ → List ℕ → List ℕ → List ℕ → List ℕ → List ℕ → List ℕ → List ℕ → List ℕ → List ℕ → List ℕ → Type 0
 AllRemoved starts listed lengths nodes endpoint from to via r room-nodes room-endpoint room-from room-to room-via s room-nodes′ room-endpoint′ room-from′ room-to′ room-via′ s′ =
-    (D : Design) (L : PathList) (G : Graph) → Worked D L G starts listed lengths nodes endpoint from to via → Removed (removalOutcome D L G room-nodes room-endpoint room-from room-to room-via s) r room-nodes room-endpoint room-from room-to room-via s room-nodes′ room-endpoint′ room-from′ room-to′ room-via′ s′
+    (D : Design) (L : PathList) (G : Graph) → Worked D L G starts listed lengths nodes endpoint from to via → Removed (removalOutcome D L G (roomOf (graphSlices room-nodes room-endpoint room-from room-to room-via)) (length s)) r room-nodes room-endpoint room-from room-to room-via s room-nodes′ room-endpoint′ room-from′ room-to′ room-via′ s′
+
+-- What telling the size answers and leaves behind.
+abbrev pub Sized : Outcome Graph → GraphMade → List ℕ → List ℕ → Type 0
+Sized o r s s′ = (r ≡ graphAnswer o) × (s′ ≡ scratchAfter o s)
+
+-- by the outcome in the largest room
+unfoldable pub AllSized : List ℕ → List ℕ → List ℕ → List ℕ → List ℕ → List ℕ → List ℕ → List ℕ → GraphMade → List ℕ → List ℕ → Type 0
+AllSized starts listed lengths nodes endpoint from to via r s s′ =
+    (D : Design) (L : PathList) (G : Graph) → Worked D L G starts listed lengths nodes endpoint from to via → Sized (removalOutcome D L G largestRoom (length s)) r s s′

@@ -1,6 +1,7 @@
 // Removal of listed paths, from the design and from an earlier true graph. The room is five slices:
 // the node and the endpoint number of each copy, and the start copy, the end copy and the design edge of each
-// edge. A refusal changes nothing in it, and places past the result stay as they are.
+// edge. A refusal changes nothing in it, and places past the result stay as they are. How long a room has to be
+// is told beforehand by a call that is lent none, from the same passes.
 //
 // The tables that the passes go by stand in the lent scratch, each at an offset: `scratch[base + i]` is entry i
 // of the table at `base`. Nothing is written to the room before 33 and 34 are settled.
@@ -10,14 +11,13 @@
 // local arrays, each as long as a design or a list can ask:
 // - `build::count_candidates`: a count for each node, 16,384 bytes. A scratch that is too short (31) stays as it
 //   was, so that the candidates are counted without it;
-// - `remove_tested`: the numbers of the nodes, their endpoint numbers and the numbers of the edges, by which a design
-//   is lent as a graph, 16,384, 16,384 and 65,536 bytes;
+// - `remove_tested`, `size_tested`: the numbers of the nodes, their endpoint numbers and the numbers of the edges, by
+//   which a design is lent as a graph, 16,384, 16,384 and 65,536 bytes;
 // - `build::build`: where the places of each node begin, 32,772 bytes;
 // - `tables::fill_tables`: the positions level by level, their ranks and their codes, 32,768 bytes each;
 // - `names::name_edges`: a flag for each edge of the design, 65,536 bytes.
-// The most at a time is 229,380 bytes: those of `remove_tested`, `build` and `fill_tables`.
+// The most at a time is 229,380 bytes: those of `remove_tested` or `size_tested`, `build` and `fill_tables`.
 ghost use mathlib.Core.Path.{_≡_};
-ghost use Prim.Native.Nat.{ℕ, _≤_, _<_};
 ghost use lib.ListN.{length};
 ghost use Rattle.timing.specs.Graphs.{design};
 ghost use Rattle.timing.specs.Marks.{pathList};
@@ -25,10 +25,12 @@ ghost use Rattle.timing.specs.Refusals.{_then_};
 ghost use Rattle.timing.specs.Tests.{designSizes, listSizes, designTests, listTests, graphTest};
 ghost use Rattle.timing.specs.Calls.{graphSlices, graphOf, graphSizes, lentRemoval, removeFromDesign, removeFromGraph};
 ghost use Rattle.timing.specs.Calls.{graphAnswer, nodesAfter, endpointsAfter, startsAfter, endsAfter, namesAfter, scratchAfter};
-ghost use Rattle.removal.specs.Numbered.{Numberable, DesignRemoved};
-use crate::numbers::number_endpoints;
-use crate::numbers::number_places;
+ghost use Rattle.timing.specs.Calls.{sizeFromDesign, sizeFromGraph};
+ghost use Rattle.removal.specs.Fill.{RoomsAlike};
+ghost use Rattle.removal.specs.Numbered.{Numberable, DesignRemoved, DesignSized};
+use crate::numbers::number_design;
 use crate::remove::remove;
+use crate::remove::size;
 use design::and_design_tests;
 use graph::and_graph_test;
 use path_list::and_list_tests;
@@ -79,9 +81,8 @@ fn list_tests(
     and_list_tests(fit, starts, ends, listed, lengths)
 }
 
-// Removal from a design that has passed its tests. As a graph it has a copy for each node and an edge for
-// each edge, each of its own number: so the numbers are written down, in room for as many as a design can
-// have, and for each node its endpoint number.
+// Removal from a design that has passed its tests. It is lent as a graph, whose numbers are written down in room for
+// as many as a design can have.
 fn remove_tested(
     n: usize,
     starts: &[u32],
@@ -97,8 +98,7 @@ fn remove_tested(
     scratch: &mut [u32],
 ) -> GraphMade
     requires { ⌜ Numberable (now starts) (now ends) (now marked) (now listed) (now lengths) n
-        (length (now starts)) (now «room_nodes») (now «room_endpoint») (now «room_from») (now «room_to»)
-        (now «room_via») ⌝ }
+        × RoomsAlike (now «room_nodes») (now «room_endpoint») (now «room_from») (now «room_to») (now «room_via») ⌝ }
     ensures { λ r.
         ⌜ DesignRemoved (now (starts .entry)) (now (ends .entry)) (now (marked .entry)) (now (listed .entry))
         (now (lengths .entry)) n r (now («room_nodes» .entry)) (now («room_endpoint» .entry))
@@ -106,13 +106,10 @@ fn remove_tested(
         (now («room_nodes» .exit)) (now («room_endpoint» .exit)) (now («room_from» .exit))
         (now («room_to» .exit)) (now («room_via» .exit)) (now (scratch .exit)) ⌝ }
 {
-    let m = starts.len();
     let mut numbers = [0u32; 4096];
     let mut endpoint = [1u32; 4096];
     let mut names = [0u32; 16384];
-    number_places(&mut numbers, n);
-    number_endpoints(&mut endpoint, n, starts, marked);
-    number_places(&mut names, m);
+    number_design(n, starts, marked, &mut numbers, &mut endpoint, &mut names);
     remove(
         starts,
         listed,
@@ -121,7 +118,7 @@ fn remove_tested(
         &endpoint[..n],
         starts,
         ends,
-        &names[..m],
+        &names[..starts.len()],
         room_nodes,
         room_endpoint,
         room_from,
@@ -187,6 +184,73 @@ pub fn remove_from_design(
         room_via,
         scratch,
     )
+}
+
+// The size of a removal from a design that has passed its tests.
+fn size_tested(
+    n: usize,
+    starts: &[u32],
+    ends: &[u32],
+    marked: &[u32],
+    listed: &[u32],
+    lengths: &[u32],
+    scratch: &mut [u32],
+) -> GraphMade
+    requires { ⌜ Numberable (now starts) (now ends) (now marked) (now listed) (now lengths) n ⌝ }
+    ensures { λ r.
+        ⌜ DesignSized (now (starts .entry)) (now (ends .entry)) (now (marked .entry)) (now (listed .entry))
+        (now (lengths .entry)) n r (now (scratch .entry)) (now (scratch .exit)) ⌝ }
+{
+    let mut numbers = [0u32; 4096];
+    let mut endpoint = [1u32; 4096];
+    let mut names = [0u32; 16384];
+    number_design(n, starts, marked, &mut numbers, &mut endpoint, &mut names);
+    size(
+        starts,
+        listed,
+        lengths,
+        &numbers[..n],
+        &endpoint[..n],
+        starts,
+        ends,
+        &names[..starts.len()],
+        scratch,
+    )
+}
+
+// How many copies and edges `remove_from_design` makes of the same design and list.
+pub fn size_from_design(
+    n: u32,
+    starts: &[u32],
+    ends: &[u32],
+    early: &[i32],
+    late: &[i32],
+    marked: &[u32],
+    listed: &[u32],
+    lengths: &[u32],
+    scratch: &mut [u32],
+) -> GraphMade
+    ensures { λ r.
+        let D = design n (now (starts .entry)) (now (ends .entry)) (now (early .entry)) (now (late .entry)) (now (marked .entry)) in
+        let L = pathList (now (listed .entry)) (now (lengths .entry)) in
+        let o = sizeFromDesign D L (length (now (scratch .entry))) in
+        ⌜ (r ≡ graphAnswer o) × (now (scratch .exit) ≡ scratchAfter o (now (scratch .entry))) ⌝ }
+{
+    let verdict = list_tests(
+        n,
+        starts,
+        ends,
+        early,
+        late,
+        marked,
+        listed,
+        lengths,
+        Verdict::Passed,
+    );
+    if let Verdict::Refused(r) = verdict {
+        return GraphMade::Refused(r);
+    }
+    size_tested(n as usize, starts, ends, marked, listed, lengths, scratch)
 }
 
 // The tests of a removal from an earlier true graph that come before 31.
@@ -306,6 +370,62 @@ pub fn remove_from_graph(
         room_from,
         room_to,
         room_via,
+        scratch,
+    )
+}
+
+// How many copies and edges `remove_from_graph` makes of the same design, earlier true graph and list.
+pub fn size_from_graph(
+    n: u32,
+    starts: &[u32],
+    ends: &[u32],
+    early: &[i32],
+    late: &[i32],
+    marked: &[u32],
+    listed: &[u32],
+    lengths: &[u32],
+    nodes: &[u32],
+    endpoint: &[u32],
+    from: &[u32],
+    to: &[u32],
+    via: &[u32],
+    scratch: &mut [u32],
+) -> GraphMade
+    ensures { λ r.
+        let D = design n (now (starts .entry)) (now (ends .entry)) (now (early .entry)) (now (late .entry)) (now (marked .entry)) in
+        let S = graphSlices (now (nodes .entry)) (now (endpoint .entry)) (now (from .entry)) (now (to .entry)) (now (via .entry)) in
+        let L = pathList (now (listed .entry)) (now (lengths .entry)) in
+        let o = sizeFromGraph D S L (length (now (scratch .entry))) in
+        ⌜ (r ≡ graphAnswer o) × (now (scratch .exit) ≡ scratchAfter o (now (scratch .entry))) ⌝ }
+{
+    let verdict = graph_tests(
+        n,
+        starts,
+        ends,
+        early,
+        late,
+        marked,
+        listed,
+        lengths,
+        nodes,
+        endpoint,
+        from,
+        to,
+        via,
+        Verdict::Passed,
+    );
+    if let Verdict::Refused(r) = verdict {
+        return GraphMade::Refused(r);
+    }
+    size(
+        starts,
+        listed,
+        lengths,
+        nodes,
+        endpoint,
+        from,
+        to,
+        via,
         scratch,
     )
 }

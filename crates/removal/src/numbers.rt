@@ -5,6 +5,7 @@ ghost use lib.ListN.{length, take};
 ghost use Rattle.timing.specs.Lists.{upto};
 ghost use Rattle.sorting.specs.Places.{InOrder};
 ghost use Rattle.removal.specs.Endpoints.{storedAt, AllOnes, NodesBelow, EndpointsOf};
+ghost use Rattle.removal.specs.Numbered.{NumberRoom, Numbered};
 use sorting::sort_places;
 
 // Writes its own number to each of the first n places.
@@ -52,4 +53,23 @@ pub(crate) fn number_endpoints(t: &mut [u32], n: usize, starts: &[u32], marked: 
 {
     store_at(t, starts, 0);
     store_at(t, marked, 1);
+}
+
+// Writes the numbers by which a design is lent as a graph, with a copy for each of its n nodes and an edge for each edge: their own
+// numbers, and the nodes' endpoint numbers.
+pub(crate) fn number_design(
+    n: usize,
+    starts: &[u32],
+    marked: &[u32],
+    numbers: &mut [u32],
+    endpoint: &mut [u32],
+    names: &mut [u32],
+)
+    requires { ⌜ NumberRoom n (now starts) (now marked) (now numbers) (now endpoint) (now names) ⌝ }
+    ensures { λ r.
+        ⌜ Numbered n (now (starts .entry)) (now (marked .entry)) (now (numbers .exit)) (now (endpoint .exit)) (now (names .exit)) ⌝ }
+{
+    number_places(numbers, n);
+    number_endpoints(endpoint, n, starts, marked);
+    number_places(names, starts.len());
 }

@@ -1,7 +1,7 @@
 // A whole removal of listed paths from a graph that has passed its tests: 31, the passes over the
-// slots, 33 and 34, and then the result.
+// slots, 33 and 34, and then the result. Telling its size is the same but for the result.
 ghost use Rattle.removal.specs.Fill.{RoomsAlike};
-ghost use Rattle.removal.specs.Remove.{Workable, WorkableIn, AllFound, Found, RoomAnswered, AllRemoved};
+ghost use Rattle.removal.specs.Remove.{Workable, WorkableIn, AllFound, Found, AllSearched, RoomAnswered, AllRemoved, AllSized};
 use crate::build::build;
 use crate::build::count_candidates;
 use crate::fill::fill_all;
@@ -10,9 +10,12 @@ use crate::rows::reach_all;
 use crate::show::Counts;
 use crate::show::show_all;
 use entries::zero;
-use sizes::room_tests;
+use sizes::room_answer;
 use sizes::scratch_test;
 use timing::GraphMade;
+use timing::MAX_COPIES;
+use timing::MAX_COPY_EDGES;
+use timing::Refusal;
 use timing::Verdict;
 
 // Where the tables stand, and how many slots are shown, with how many edges between them.
@@ -21,8 +24,14 @@ struct Finding {
     counts: Counts,
 }
 
+// What a search answers: this, or 31.
+enum Searched {
+    Found(Finding),
+    Refused(Refusal),
+}
+
 // Finds the shown slots: the tables, what reaches an end, and of that what a path shows.
-fn search(
+fn find(
     starts: &[u32],
     listed: &[u32],
     lengths: &[u32],
@@ -44,6 +53,43 @@ fn search(
     reach_all(layout, listed, endpoint, from, to, via, scratch);
     let counts = show_all(layout, listed, from, to, via, scratch);
     Finding { layout, counts }
+}
+
+// 31, and then the passes over the slots. A removal and its size share this function and its frame: the array by which the candidates
+// are counted is gone when the others are made.
+fn search(
+    starts: &[u32],
+    listed: &[u32],
+    lengths: &[u32],
+    nodes: &[u32],
+    endpoint: &[u32],
+    from: &[u32],
+    to: &[u32],
+    via: &[u32],
+    scratch: &mut [u32],
+) -> Searched
+    requires { ⌜ Workable (now starts) (now listed) (now lengths) (now nodes) (now endpoint) (now from) (now to) (now via) ⌝ }
+    ensures { λ r.
+        ⌜ AllSearched (now (starts .entry)) (now (listed .entry)) (now (lengths .entry)) (now (nodes .entry)) (now (endpoint .entry))
+        (now (from .entry)) (now (to .entry)) (now (via .entry)) (now (scratch .entry)) (now (scratch .exit)) r ⌝ }
+{
+    let candidates = count_candidates(starts, listed, lengths, nodes);
+    let verdict = scratch_test(scratch.len(), candidates, listed.len(), from.len());
+    if let Verdict::Refused(r) = verdict {
+        return Searched::Refused(r);
+    }
+    let finding = find(
+        starts,
+        listed,
+        lengths,
+        nodes,
+        endpoint,
+        from,
+        to,
+        via,
+        scratch,
+    );
+    Searched::Found(finding)
 }
 
 // 33 and 34, and then the result to the room. The scratch is only read.
@@ -72,13 +118,13 @@ fn write_result(
         (now («room_to» .entry)) (now («room_via» .entry)) (now («room_nodes» .exit)) (now («room_endpoint» .exit))
         (now («room_from» .exit)) (now («room_to» .exit)) (now («room_via» .exit)) ⌝ }
 {
-    let verdict = room_tests(
+    let answer = room_answer(
         counts.copies,
         counts.edges,
         room_nodes.len(),
         room_from.len(),
     );
-    if let Verdict::Refused(r) = verdict {
+    if let GraphMade::Refused(r) = answer {
         return GraphMade::Refused(r);
     }
     fill_all(
@@ -96,10 +142,7 @@ fn write_result(
         room_to,
         room_via,
     );
-    GraphMade::Counts {
-        copies: counts.copies,
-        edges: counts.edges,
-    }
+    answer
 }
 
 // A removal of listed paths from a graph. The tests before 31 have passed. With enough scratch, this is all
@@ -129,12 +172,7 @@ pub(crate) fn remove(
         (now («room_nodes» .exit)) (now («room_endpoint» .exit)) (now («room_from» .exit)) (now («room_to» .exit))
         (now («room_via» .exit)) (now (scratch .exit)) ⌝ }
 {
-    let candidates = count_candidates(starts, listed, lengths, nodes);
-    let verdict = scratch_test(scratch.len(), candidates, listed.len(), from.len());
-    if let Verdict::Refused(r) = verdict {
-        return GraphMade::Refused(r);
-    }
-    let finding = search(
+    let searched = search(
         starts,
         listed,
         lengths,
@@ -145,22 +183,69 @@ pub(crate) fn remove(
         via,
         scratch,
     );
-    let made = write_result(
-        finding.layout,
-        finding.counts,
+    match searched {
+        Searched::Found(finding) => {
+            let made = write_result(
+                finding.layout,
+                finding.counts,
+                listed,
+                nodes,
+                endpoint,
+                from,
+                to,
+                via,
+                scratch,
+                room_nodes,
+                room_endpoint,
+                room_from,
+                room_to,
+                room_via,
+            );
+            zero(scratch);
+            made
+        }
+        Searched::Refused(r) => GraphMade::Refused(r),
+    }
+}
+
+// How many copies and edges that removal makes, in the largest room. The scratch is left as by the removal.
+pub(crate) fn size(
+    starts: &[u32],
+    listed: &[u32],
+    lengths: &[u32],
+    nodes: &[u32],
+    endpoint: &[u32],
+    from: &[u32],
+    to: &[u32],
+    via: &[u32],
+    scratch: &mut [u32],
+) -> GraphMade
+    requires { ⌜ Workable (now starts) (now listed) (now lengths) (now nodes) (now endpoint) (now from) (now to) (now via) ⌝ }
+    ensures { λ r.
+        ⌜ AllSized (now (starts .entry)) (now (listed .entry)) (now (lengths .entry)) (now (nodes .entry)) (now (endpoint .entry))
+        (now (from .entry)) (now (to .entry)) (now (via .entry)) r (now (scratch .entry)) (now (scratch .exit)) ⌝ }
+{
+    let searched = search(
+        starts,
         listed,
+        lengths,
         nodes,
         endpoint,
         from,
         to,
         via,
         scratch,
-        room_nodes,
-        room_endpoint,
-        room_from,
-        room_to,
-        room_via,
     );
-    zero(scratch);
-    made
+    match searched {
+        Searched::Found(finding) => {
+            zero(scratch);
+            room_answer(
+                finding.counts.copies,
+                finding.counts.edges,
+                MAX_COPIES,
+                MAX_COPY_EDGES,
+            )
+        }
+        Searched::Refused(r) => GraphMade::Refused(r),
+    }
 }

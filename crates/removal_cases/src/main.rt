@@ -1,8 +1,10 @@
-// Runs series of removals from standard input, and prints each answer, the graph if it is small, and
-// a sum over each lent slice afterwards. tests/removal_cases.py says what the input and the output are.
+// Runs series of removals from standard input, and prints of each what it is told beforehand, its answer,
+// the graph if it is small, and a sum over each lent slice afterwards. tests/removal_cases.py says what
+// the input and the output are.
 mod output;
 mod remove;
 mod tables;
+mod tell;
 
 use entries::front_delays;
 use libc::STDIN_FILENO;
@@ -17,6 +19,7 @@ use tables::nothing;
 use tables::read_design;
 use tables::read_list;
 use tables::read_sizes;
+use tell::tell;
 
 // What a removal works on: 0 the design, 1 what is held, 2 the graph at a place.
 fn hold(choice: u32, s: &[u8], at: usize, held: Held, words: &mut [u32]) -> Step {
@@ -45,6 +48,7 @@ fn run_removal(
     let start = hold(choice.value, s, choice.next, before.held, words);
     let l = read_list(s, start.next, words);
     let sizes = read_sizes(s, l.next);
+    tell(words, d, early, late, l, start.held, sizes.scratch);
     let held = lend(words, d, early, late, l, start.held, sizes);
     Step {
         held,
@@ -101,6 +105,7 @@ fn run_block() {
 }
 
 fn main() {
+    run_block();
     run_block();
     run_block();
     run_block();

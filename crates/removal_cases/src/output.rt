@@ -67,20 +67,34 @@ fn shown(copies: usize, edges: usize) -> Printed {
     }
 }
 
-fn say_made(made: GraphMade) -> Printed {
+// The same of what a removal made.
+fn shown_of(made: GraphMade) -> Printed {
+    match made {
+        GraphMade::Counts { copies, edges } => shown(copies, edges),
+        GraphMade::Refused(_) => shown(0, 0),
+    }
+}
+
+// The counts, or the refusal.
+fn say_made(made: GraphMade) {
     match made {
         GraphMade::Counts { copies, edges } => {
             text(b"copies ");
             print::number(copies as u64);
             text(b" edges ");
             print::number(edges as u64);
-            shown(copies, edges)
         }
         GraphMade::Refused(r) => {
             refused(r);
-            shown(0, 0)
         }
     }
+}
+
+// What is told before a removal, and a sum over the scratch.
+pub(crate) fn say_told(told: GraphMade, scratch: &[u32]) {
+    text(b"told ");
+    say_made(told);
+    say_slice(b"\nscratch ", 0, scratch);
 }
 
 // A removal's answer, the graph if it is small, and a sum over each slice.
@@ -93,7 +107,8 @@ pub(crate) fn say(
     room_via: &[u32],
     scratch: &[u32],
 ) {
-    let c = say_made(made);
+    say_made(made);
+    let c = shown_of(made);
     say_slice(b"\nnodes ", c.copies, room_nodes);
     say_slice(b"endpoint ", c.copies, room_endpoint);
     say_slice(b"from ", c.edges, room_from);

@@ -2,14 +2,14 @@
 // 34: a result against its room.
 ghost use mathlib.Core.Path.{_≡_};
 ghost use mathlib.Core.List.{List};
-ghost use Prim.Native.Nat.{ℕ, min};
-ghost use lib.Dec.{leb};
+ghost use Prim.Native.Nat.{ℕ};
 ghost use Rattle.timing.specs.Refusals.{_then_};
-ghost use Rattle.timing.specs.Refusals.{unless as passedIf};
 ghost use Rattle.timing.specs.Graphs.{design};
 ghost use Rattle.timing.specs.Marks.{pathList};
-ghost use Rattle.timing.specs.Tests.{edgeSizes, designSizes, timeSizes, listSizes, wordsTest};
+ghost use Rattle.timing.specs.Tests.{edgeSizes, designSizes, timeSizes, listSizes, wordsTest, countTests};
+ghost use Rattle.timing.specs.Calls.{countsAnswer};
 use entries::least;
+use timing::GraphMade;
 use timing::MAX_COPIES;
 use timing::MAX_COPY_EDGES;
 use timing::Verdict;
@@ -90,13 +90,22 @@ pub fn scratch_test(words: usize, candidates: usize, listed: usize, edges: usize
 }
 
 // 33 and 34, from the counts of a result and the lent lengths for its copies and its edges.
-pub fn room_tests(copies: usize, edges: usize, node_room: usize, edge_room: usize) -> Verdict
-    ensures { λ r.
-        ⌜ r ≡ (passedIf 33 (leb copies (min «node_room» 16384))
-        then passedIf 34 (leb edges (min «edge_room» 65536))) ⌝ }
+fn room_tests(copies: usize, edges: usize, node_room: usize, edge_room: usize) -> Verdict
+    ensures { λ r. ⌜ r ≡ countTests copies edges «node_room» «edge_room» ⌝ }
 {
     if least(node_room, MAX_COPIES) < copies {
         return unless(33, false);
     }
     unless(34, edges <= least(edge_room, MAX_COPY_EDGES))
+}
+
+// What is answered of a result with so many copies and edges, in a room with so many places for each: 33, 34, or its counts.
+pub fn room_answer(copies: usize, edges: usize, node_room: usize, edge_room: usize) -> GraphMade
+    ensures { λ r. ⌜ r ≡ countsAnswer (countTests copies edges «node_room» «edge_room») copies edges ⌝ }
+{
+    let verdict = room_tests(copies, edges, node_room, edge_room);
+    match verdict {
+        Verdict::Passed => GraphMade::Counts { copies, edges },
+        Verdict::Refused(r) => GraphMade::Refused(r),
+    }
 }

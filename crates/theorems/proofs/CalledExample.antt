@@ -3,25 +3,28 @@
 -- before.
 use Prim.Native.Nat.{ℕ}
 use native.Mathlib.Omega.{arith}
-use mathlib.Core.Path.{_≡_, refl}
+use mathlib.Core.Path.{_≡_, refl, ap}
 use mathlib.Core.List.{List, [], _∷_, map, flatMap}
 use mathlib.Core.Option.{none}
 use lib.Dec.{leb→le}
+use lib.ListN.{length}
 use Rattle.timing.specs.declared.GraphMade.{GraphMade}
 use Rattle.timing.specs.declared.GraphMade.the-variants.{Counts}
 use Rattle.timing.specs.declared.GraphMade.the-variants.{Refused as NoGraph}
 use Rattle.timing.specs.Lists.{upto}
-use Rattle.timing.specs.Graphs.{designGraph, edgesIn, edgesOut, runsFrom, completeRuns}
-use Rattle.timing.specs.Marks.{pathList, permitted, tails, mark}
+use Rattle.timing.specs.Graphs.{Graph, designGraph, edgesIn, edgesOut, runsFrom, completeRuns}
+use Rattle.timing.specs.Marks.{pathList, pathsOf, permitted, tails, mark}
 use Rattle.timing.specs.TrueGraphs.{permittedRuns, copies, pathEnds, joins, trueGraph}
 use Rattle.timing.specs.WellFormed.{wellFormed}
 use Rattle.timing.specs.Refusals.{refusal, refusalWithin}
 use Rattle.timing.specs.Tests.{designTests, listTests, candidates, scratchWords, scratchTest, roomTests}
-use Rattle.timing.specs.Calls.{GraphSlices, graphSlices, removeFromDesign, removeFromGraph}
-use Rattle.timing.specs.Called.{Called, Ran, CalledDemand3}
+use Rattle.timing.specs.Calls.{GraphSlices, graphSlices, roomOf, removeFromDesign, removeFromGraph, sizeFromDesign}
+use Rattle.timing.specs.Called.{Called, removalOf, Meets, removeOn, Ran, CalledDemand3}
+use Rattle.timing.specs.Told.{Telling, Tells, sizeOn, foretold, FillsJust}
 use Rattle.timing.proofs.Marked.{deckA}
 use Rattle.theorems.proofs.Called.{called-demand3}
 use Rattle.theorems.proofs.Scratch.{same-answers}
+use Rattle.theorems.proofs.Told.{foretells}
 
 abbrev pub words : ℕ → ℕ → List ℕ
 words n x = map (λ i. x) (upto n 0)
@@ -86,3 +89,51 @@ half-answers =
     (record { answer = refl; nodes = refl; endpoints = refl; starts = refl; ends = refl; names = refl; scratch = refl })
     (λ e. absurd (let z : _≡_ {A = ℕ} 0 1 = cc in omega arith)) refl refl refl
     (leb→le (scratchWords (candidates deckA (designGraph deckA) (pathList (1 ∷ 2 ∷ []) (2 ∷ []))) 2 4) 96 tt)
+
+-- Deck A's size as it is told with 96 words, and its list in three rooms: for five copies it is refused 33, for four edges 34, and for six of
+-- each it fills six copies and five edges.
+abbrev pub toldA : Telling
+toldA = record { listed = 1 ∷ 2 ∷ []; lengths = 2 ∷ []; scratch = words 96 9; answer = Counts 6 5; scratchAt = words 96 0 }
+
+-- room for six copies and four edges
+abbrev fourEdges : GraphSlices
+fourEdges = graphSlices (words 6 9) (words 6 9) (words 4 9) (words 4 9) (words 4 9)
+
+abbrev pub refusedIn : GraphSlices → ℕ → Called
+refusedIn room number = calledWith 96 (1 ∷ 2 ∷ []) (2 ∷ []) room (NoGraph (refusal number 0)) room 0
+
+-- an answer with another number than k is not refused k
+abbrev numberIn : GraphMade → ℕ
+numberIn (Counts c e) = 0
+numberIn (NoGraph r) = r .number
+
+pub apart : (a : GraphMade) (k : ℕ) → (numberIn a ≡ k → ⊥) → a ≡ NoGraph (refusal k 0) → ⊥
+apart a k h e = h (ap numberIn e)
+
+pub told : Tells (sizeOn deckA none (pathList (1 ∷ 2 ∷ []) (2 ∷ [])) 96) toldA
+unfolding flatMap designGraph edgesIn edgesOut runsFrom completeRuns permitted tails mark permittedRuns copies pathEnds joins trueGraph designTests listTests candidates scratchTest roomTests removeFromDesign sizeFromDesign
+told = record { answer = refl; scratch = refl }
+
+pub filled : Meets (removeOn deckA none (removalOf (madeWith 96))) (madeWith 96)
+unfolding flatMap designGraph edgesIn edgesOut runsFrom completeRuns permitted tails mark permittedRuns copies pathEnds joins trueGraph designTests listTests candidates scratchTest roomTests removeFromDesign
+filled = record { answer = refl; nodes = refl; endpoints = refl; starts = refl; ends = refl; names = refl; scratch = refl }
+
+-- what deck A's true graph is called here
+abbrev graphA : Graph
+graphA = trueGraph (designGraph deckA) (pathsOf (pathList (1 ∷ 2 ∷ []) (2 ∷ [])))
+
+pub told-answers :
+    (refusedIn (roomFor 5) 33 .answer ≡ foretold (roomOf (roomFor 5)) (length (graphA .nodes)) (toldA .answer))
+    × (refusedIn fourEdges 34 .answer ≡ foretold (roomOf fourEdges) (length (graphA .nodes)) (toldA .answer))
+    × FillsJust graphA 6 5 (roomFor 6) afterA
+unfolding flatMap designGraph edgesIn edgesOut runsFrom completeRuns permitted tails mark permittedRuns copies pathEnds joins trueGraph designTests listTests candidates scratchTest roomTests removeFromDesign
+told-answers =
+    let one = apart (Counts 6 5) 31 (λ e. omega arith) in (
+      foretells deckA none toldA (refusedIn (roomFor 5) 33) told
+          (record { answer = refl; nodes = refl; endpoints = refl; starts = refl; ends = refl; names = refl; scratch = refl })
+          refl refl one (apart (NoGraph (refusal 33 0)) 30 (λ e. omega arith)) (apart (NoGraph (refusal 33 0)) 31 (λ e. omega arith)) .0,
+      foretells deckA none toldA (refusedIn fourEdges 34) told
+          (record { answer = refl; nodes = refl; endpoints = refl; starts = refl; ends = refl; names = refl; scratch = refl })
+          refl refl one (apart (NoGraph (refusal 34 0)) 30 (λ e. omega arith)) (apart (NoGraph (refusal 34 0)) 31 (λ e. omega arith)) .0,
+      foretells deckA none toldA (madeWith 96) told filled refl refl one (apart (Counts 6 5) 30 (λ e. omega arith)) one .1 6 5 refl,
+    )

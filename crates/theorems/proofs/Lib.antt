@@ -11,6 +11,7 @@ pub mod Parts
 -- what a refusal says, and what passing the tests gives
 pub mod Refusals
 pub mod Tests
+pub mod Early
 pub mod Faults
 pub mod Placed
 pub mod Tested
@@ -29,9 +30,10 @@ pub mod Times
 pub mod Nodes
 pub mod Demand2Times
 pub mod Records
--- demand 3 of a series of calls, and calls that differ in their scratch
+-- demand 3 of a series of calls, calls that differ in their scratch, and what a told size foretells
 pub mod Called
 pub mod Scratch
+pub mod Told
 -- the hypotheses can be met
 pub mod Examples
 pub mod CalledExample

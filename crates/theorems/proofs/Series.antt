@@ -63,12 +63,12 @@ pub record Held (D : Design) (L : List (List ℕ)) (H : Graph) : Type 0 where
   pub paths : Paths D L
 
 -- the tests of a removal, as one verdict
-pub designVerdict : Design → Removal → Verdict
+unfoldable pub designVerdict : Design → Removal → Verdict
 designVerdict D r =
     designSizes D then listSizes (r .list) then roomSizes (r .room)
     then designTests D then listTests D (r .list) then removalTests D (designGraph D) r
 
-pub graphVerdict : Design → GraphSlices → Removal → Verdict
+unfoldable pub graphVerdict : Design → GraphSlices → Removal → Verdict
 graphVerdict D S r =
     designSizes D then listSizes (r .list) then graphSizes S then roomSizes (r .room)
     then designTests D then listTests D (r .list) then graphTest D (graphOf S) then removalTests D (graphOf S) r

@@ -13,6 +13,8 @@ use Rattle.timing.specs.declared.NumberRead.{NumberRead}
 use Rattle.timing.specs.declared.NumberRead.the-variants.{Refused as NotRead}
 use Rattle.timing.specs.declared.NodeTimes.{NodeTimes}
 use Rattle.timing.specs.declared.NodeTimes.the-variants.{Times, None}
+use Rattle.timing.specs.declared.GraphMade.{GraphMade}
+use Rattle.timing.specs.declared.GraphMade.the-variants.{Counts, Refused as NotMade}
 use Rattle.timing.specs.Lists.{upto}
 use Rattle.timing.specs.Graphs.{Design, design, edge, Graph, graph, designGraph, edgesIn, edgesOut}
 use Rattle.timing.specs.Graphs.{runsTo, runsFrom, completeRuns}
@@ -28,7 +30,7 @@ use Rattle.timing.specs.Tests.{Room, designTests, listTests, candidates,
 use Rattle.timing.specs.Calls.{GraphSlices, graphSlices, slicesOf, Outcome, made, refused, Removal, removal, testDeck}
 use Rattle.timing.specs.Calls.{testTimes, arrivalsAfter, requiredsAfter, slacksAfter, earliestsAfter, testRecords, deckRead}
 use Rattle.timing.specs.Calls.{removeFromDesign, removeFromGraph, programRemoval, program, cCall, cRoom}
-use Rattle.timing.specs.Calls.{deckWriteTests, graphWriteTests, graphRead}
+use Rattle.timing.specs.Calls.{deckWriteTests, graphWriteTests, graphRead, sizeFromDesign, sizeFromGraph, graphAnswer}
 
 -- the graph after some lists are removed in turn
 abbrev pub removed : Graph → List PathList → Graph
@@ -53,6 +55,8 @@ pub data Fact : Type 0 where
   deckWriterAnswers : Design → PathList → ℕ → Verdict → Fact
   graphReadIs : List ℕ → Room → Outcome Graph → Fact
   graphWriterAnswers : GraphSlices → Verdict → Fact
+  sizeIs : Design → PathList → ℕ → GraphMade → Fact
+  sizeAgainIs : Design → Graph → PathList → ℕ → GraphMade → Fact
 
 abbrev pub zeros : ℕ → List ℕ
 zeros n = map (λ i. 0) (upto n 0)
@@ -112,6 +116,8 @@ Holds (packedDeckIs D L T bs) = packedDeck (deck D L T) ≡ bs
 Holds (deckWriterAnswers D L T v) = deckWriteTests (deck D L T) ≡ v
 Holds (graphReadIs s R o) = graphRead s R ≡ o
 Holds (graphWriterAnswers S v) = graphWriteTests S ≡ v
+Holds (sizeIs D L words a) = graphAnswer (sizeFromDesign D L words) ≡ a
+Holds (sizeAgainIs D G L words a) = graphAnswer (sizeFromGraph D (slicesOf G) L words) ≡ a
 
 infixr 4 _also_
 pub data All : List Fact → Type 0 where
@@ -521,6 +527,25 @@ marked =
     ∷ timesAnswer observed (ending (0 ∷ 0 ∷ 1 ∷ 0 ∷ 1 ∷ 1 ∷ 1 ∷ [])) 10 (6 ∷ 6 ∷ 6 ∷ 6 ∷ []) (Refused (refusal 30 0))
     ∷ graphReadIs (1 ∷ 0 ∷ 2 ∷ 0 ∷ []) (room 1 2 0 0 0) (refused (refusal 30 0))
     ∷ graphWriterAnswers (graphSlices (7 ∷ 9 ∷ []) (2 ∷ []) [] [] []) (Refused (refusal 30 0))
+    -- Told of deck A; with path 2 alone, which shuts out candidates for copies; of a list that removes everything; of no nodes
+    ∷ sizeIs deckA listA 96 (Counts 6 5)
+    ∷ sizeIs deckA (pathList (2 ∷ []) (1 ∷ [])) 999 (Counts 4 3)
+    ∷ sizeIs chain (pathList (0 ∷ 1 ∷ []) (2 ∷ [])) 999 (Counts 0 0)
+    ∷ sizeIs noNodes noPaths 0 (Counts 0 0)
+    -- Told of an earlier graph: of deck A's, by which M6 has one edge less; of one with two copies of a source; of one that ends at a marked node
+    ∷ sizeAgainIs deckA graphA (pathList (0 ∷ 3 ∷ []) (2 ∷ [])) 120 (Counts 6 4)
+    ∷ sizeAgainIs forked splitSource (pathList (0 ∷ 1 ∷ []) (2 ∷ [])) 999 (Counts 3 2)
+    ∷ sizeAgainIs observed observedAlone noPaths 999 (Counts 3 2)
+    -- Telling asks removal's scratch: one word less, of the design and of an earlier graph
+    ∷ sizeIs deckA listA 95 (NotMade (refusal 31 0))
+    ∷ sizeAgainIs deckA graphA (pathList (0 ∷ 3 ∷ []) (2 ∷ [])) 119 (NotMade (refusal 31 0))
+    -- Telling is lent no room, but 30 measures the rest: early delays, lengths of paths, endpoint numbers; 13 before 24, 24 before 32, 32 before 31
+    ∷ sizeIs (design 2 (1 ∷ []) (0 ∷ []) [] (pos 0 ∷ []) []) noPaths 96 (NotMade (refusal 30 0))
+    ∷ sizeIs deckA (pathList (1 ∷ 2 ∷ []) (1 ∷ [])) 999 (NotMade (refusal 30 0))
+    ∷ sizeAgainIs observed (ending (0 ∷ 0 ∷ 1 ∷ 0 ∷ 1 ∷ [])) noPaths 999 (NotMade (refusal 30 0))
+    ∷ sizeIs falling (pathList (0 ∷ 0 ∷ []) (2 ∷ [])) 96 (NotMade (refusal 13 0))
+    ∷ sizeAgainIs forked outOfOrder (pathList (1 ∷ 0 ∷ []) (2 ∷ [])) 0 (NotMade (refusalWithin 24 0 1))
+    ∷ sizeAgainIs forked outOfOrder (pathList (0 ∷ 1 ∷ []) (2 ∷ [])) 0 (NotMade (refusal 32 0))
     ∷ []
 
 pub marked-hold : All marked
@@ -529,7 +554,7 @@ unfolding flatMap designGraph edgesIn edgesOut runsTo runsFrom completeRuns perm
     slacksAfter earliestsAfter packedIn groupsIn readNumber writeAnswer writtenRoom readDeck graphNumbers packedGraph
     designTests listTests candidates scratchTest roomTests testDeck removeFromDesign removeFromGraph programRemoval
     program cCall cRoom deckRead testTimes testRecords deckNumbers packedDeck deckWriteTests readGraph graphRead
-    graphWriteTests
+    graphWriteTests sizeFromDesign sizeFromGraph
 marked-hold =
     refl also refl also refl also refl also refl also refl also refl also refl also refl also refl also refl also
     refl also refl also refl also refl also refl also refl also refl also refl also refl also refl also refl also
@@ -543,4 +568,5 @@ marked-hold =
     refl also refl also refl also refl also refl also refl also refl also refl also refl also refl also refl also
     refl also refl also refl also refl also refl also refl also refl also refl also refl also refl also refl also
     refl also refl also refl also refl also refl also refl also refl also refl also refl also refl also refl also
-    refl also refl also refl also refl also refl also none
+    refl also refl also refl also refl also refl also refl also refl also refl also refl also refl also refl also
+    refl also refl also refl also refl also refl also refl also refl also refl also refl also none

@@ -127,9 +127,25 @@ removeFromGraph D S r =
     then designTests D then listTests D (r .list) then graphTest D G then removalTests D G r)
     (trueGraph G (pathsOf (r .list)))
 
+-- "One call tells how many copies and edges the result has" (02, request 8): what it answers, and leaves in the scratch, is what removal does in
+-- the largest room, so that 33 or 34 come "only where the result passes 16,384 copies or 65,536 edges". It is lent no room; ℕ is the scratch.
+abbrev pub largestRoom : Room
+largestRoom = record { nodes = 16384; endpoints = 16384; starts = 65536; ends = 65536; names = 65536 }
+
+unfoldable pub sizeFromDesign : Design → PathList → ℕ → Outcome Graph
+sizeFromDesign D L words = removeFromDesign D (removal L largestRoom words)
+
+unfoldable pub sizeFromGraph : Design → GraphSlices → PathList → ℕ → Outcome Graph
+sizeFromGraph D S L words = removeFromGraph D S (removal L largestRoom words)
+
+-- what a removal answers: the counts of its result, or its refusal; and the same from a verdict and counts alone
 abbrev pub graphAnswer : Outcome Graph → GraphMade
 graphAnswer (made G) = Counts (length (G .nodes)) (length (G .edges))
 graphAnswer (refused r) = NoGraph r
+
+abbrev pub countsAnswer : Verdict → ℕ → ℕ → GraphMade
+countsAnswer Passed copies edges = Counts copies edges
+countsAnswer (Refused r) copies edges = NoGraph r
 
 -- the room afterwards
 abbrev pub nodesAfter : Outcome Graph → List ℕ → List ℕ

@@ -22,6 +22,7 @@ pub mod Tests
 pub mod Calls
 pub mod Series
 pub mod Called
+pub mod Told
 -- what the theorems say of these: demand 2, whose times the times are, and where a listed path is at fault
 pub mod Paths
 pub mod Demands

@@ -159,6 +159,10 @@ pub record Room : Type 0 where
 abbrev pub roomSizes : Room → Verdict
 roomSizes R = sameSizes (R .nodes) (R .nodes) (R .endpoints) then sameSizes (R .starts) (R .ends) (R .names)
 
--- 33: "result copies exceed the room"; 34: "they fit and the edges exceed theirs"; "room is the lent length, at most 16,384 and 65,536"
+-- 33: "result copies exceed the room"; 34: "they fit and the edges exceed theirs"; "room is the lent length, at most 16,384 and 65,536". From how
+-- many copies and edges the result has, and the lent lengths for these
+abbrev pub countTests : ℕ → ℕ → ℕ → ℕ → Verdict
+countTests copies edges nodes starts = unless 33 (leb copies (min nodes 16384)) then unless 34 (leb edges (min starts 65536))
+
 unfoldable pub roomTests : Room → Graph → Verdict
-roomTests R G = unless 33 (leb (length (G .nodes)) (min (R .nodes) 16384)) then unless 34 (leb (length (G .edges)) (min (R .starts) 65536))
+roomTests R G = countTests (length (G .nodes)) (length (G .edges)) (R .nodes) (R .starts)

@@ -88,7 +88,7 @@ pub enum DeckRead {
     Refused(Refusal),
 }
 
-// What a removal and the reader of a packed true graph answer.
+// What a removal, the call that tells its size and the reader of a packed true graph answer.
 pub enum GraphMade {
     Counts { copies: usize, edges: usize },
     Refused(Refusal),

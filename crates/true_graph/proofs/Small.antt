@@ -15,7 +15,7 @@ use Rattle.timing.specs.TrueGraphs.{trueGraph}
 use Rattle.timing.specs.WellFormed.{wellFormed}
 use Rattle.timing.specs.Refusals.{unless, _then_}
 use Rattle.timing.specs.Tests.{sameSizes, timeSizes, designSizes, listSizes, designTests, listTests, allowedTest, graphTest, candidates, scratchWords, scratchTest, Room, roomSizes, roomTests}
-use Rattle.timing.specs.Calls.{GraphSlices, graphOf, roomOf, graphSizes, outcome, Removal, removeFromDesign, removeFromGraph, graphAnswer, testTimes}
+use Rattle.timing.specs.Calls.{GraphSlices, graphOf, roomOf, graphSizes, outcome, Removal, removal, removeFromDesign, removeFromGraph, largestRoom, sizeFromDesign, sizeFromGraph, graphAnswer, testTimes}
 use Rattle.theorems.proofs.Lists.{holds}
 use Rattle.timing.proofs.Verdicts.{every-then, every-unless}
 use Rattle.theorems.proofs.Tests.{every-design, every-list}
@@ -122,6 +122,15 @@ small-from-graph D S r =
     (λ e. small-then (designTests D) _ (small-design D)
     (λ e. small-then (listTests D (r .list)) _ (small-list D (r .list))
     (λ e. small-then (graphTest D G) _ (small-unless 32 (omega arith) (wellFormed D G)) (λ e. small-scratch D G (r .list) (r .scratch))))))))))
+
+-- a told size is an answer of removal
+pub small-size-design : (D : Design) (L : PathList) (words : ℕ) → SmallGraph (graphAnswer (sizeFromDesign D L words))
+unfolding sizeFromDesign
+small-size-design D L words = small-from-design D (removal L largestRoom words)
+
+pub small-size-graph : (D : Design) (S : GraphSlices) (L : PathList) (words : ℕ) → SmallGraph (graphAnswer (sizeFromGraph D S L words))
+unfolding sizeFromGraph
+small-size-graph D S L words = small-from-graph D S (removal L largestRoom words)
 
 pub small-times : (D : Design) (S : GraphSlices) (T a r s e : ℕ) → Small (testTimes D S T a r s e)
 unfolding testTimes

@@ -16,8 +16,8 @@ use Rattle.timing.specs.Graphs.{Design, Graph, edgesIn}
 use Rattle.timing.specs.Marks.{PathList, pathsOf, pathList}
 use Rattle.timing.specs.TrueGraphs.{trueGraph}
 use Rattle.timing.specs.Refusals.{unless, _then_}
-use Rattle.timing.specs.Tests.{candidates, scratchWords, wordsTest, scratchTest, Room, roomTests}
-use Rattle.timing.specs.Calls.{outcome, graphSlices, roomOf, scratchAfter}
+use Rattle.timing.specs.Tests.{candidates, scratchWords, wordsTest, scratchTest, countTests, Room, roomTests}
+use Rattle.timing.specs.Calls.{Outcome, refused, outcome, graphSlices, roomOf, largestRoom, countsAnswer, graphAnswer, scratchAfter}
 use Rattle.theorems.proofs.Lists.{holds}
 use Rattle.timing.proofs.Verdicts.{then-passed, unless-passed, unless-refused}
 use Rattle.theorems.proofs.Tested.{ListFits}
@@ -27,14 +27,23 @@ use Rattle.removal.specs.Fill.{EdgesInto, ResultFilled}
 use Rattle.removal.specs.Search.{ofStarts, ofNodes}
 use Rattle.removal.specs.Build.{tableWords, Given}
 use Rattle.removal.specs.Counts.{ListCountable, CopiesCountable}
-use Rattle.removal.specs.Remove.{Worked, Workable, WorkableIn, AllFound, Found, Answered, roomOutcome, RoomAnswered, Removed, AllRemoved}
+use Rattle.removal.specs.Remove.{Worked, Workable, WorkableIn, AllFound, Found, wordsFor, Answered, roomOutcome, RoomAnswered, removalOutcome, Removed, AllRemoved, Sized, AllSized}
 use Rattle.removal.proofs.Showing.IntoLaws.{length-edges}
 use Rattle.removal.proofs.Building.BuildLaws.{copies-candidates, candidates-slices}
 use Rattle.removal.proofs.Building.CountLaws.{list-countable, copies-countable}
 
--- 33 and 34 of counts
-abbrev pub countTests : ℕ → ℕ → ℕ → ℕ → Verdict
-countTests copies edges nodes starts = unless 33 (leb copies (min nodes 16384)) then unless 34 (leb edges (min starts 65536))
+-- an answer tells whether 33 and 34 passed
+pub answer-refused : (v : Verdict) (copies edges : ℕ) (r : Refusal) → countsAnswer v copies edges ≡ NoGraph r → v ≡ Refused r
+answer-refused Passed copies edges r e = absurd (let z : _≡_ {A = ℕ} 0 1 = cc in omega arith)
+answer-refused (Refused x) copies edges r e = cc
+
+pub answer-passed : (v : Verdict) (copies edges c e : ℕ) → countsAnswer v copies edges ≡ Counts c e → v ≡ Passed
+answer-passed Passed copies edges c e q = refl
+answer-passed (Refused x) copies edges c e q = absurd (let z : _≡_ {A = ℕ} 0 1 = cc in omega arith)
+
+answer-of : (v : Verdict) (H : Graph) → countsAnswer v (length (H .nodes)) (length (H .edges)) ≡ graphAnswer (outcome v H)
+answer-of Passed H = refl
+answer-of (Refused r) H = refl
 
 pub counts-fit : (copies edges nodes starts : ℕ) → countTests copies edges nodes starts ≡ Passed → (copies ≤ nodes) × (edges ≤ starts)
 counts-fit copies edges nodes starts e =
@@ -43,36 +52,46 @@ counts-fit copies edges nodes starts e =
     let b = leb→le edges (min starts 65536) (holds (leb edges (min starts 65536)) (unless-passed 34 (leb edges (min starts 65536)) (t .1))) in
     (omega (arith, a), omega (arith, b))
 
-module _ (l : Layout) (listed nodes endpoint from to via s room-nodes room-endpoint room-from room-to room-via : List ℕ) (copies edges : ℕ) (x : AllFound l listed nodes endpoint from to via s copies edges) where
-  tests-are : (D : Design) (L : PathList) (G : Graph) → Tabled D L G l listed from to via (take (l .slots) s) → G .endpoints ≡ endpoint → EdgesInto G (edgesIn G)
-      → countTests copies edges (length room-nodes) (length room-from) ≡ roomTests (roomOf (graphSlices room-nodes room-endpoint room-from room-to room-via)) (trueGraph G (pathsOf L))
+module _ (l : Layout) (listed nodes endpoint from to via s : List ℕ) (copies edges : ℕ) (x : AllFound l listed nodes endpoint from to via s copies edges) where
+  -- the counts that were found, tested and answered in a room, are those of the result
+  tests-are : (R : Room) (D : Design) (L : PathList) (G : Graph) → Tabled D L G l listed from to via (take (l .slots) s) → G .endpoints ≡ endpoint → EdgesInto G (edgesIn G)
+      → countTests copies edges (R .nodes) (R .starts) ≡ roomTests R (trueGraph G (pathsOf L))
   unfolding roomTests
-  tests-are D L G y ends into = λ i. countTests (x .copies-are D L G y ends i) (x .edges-are D L G y ends into i) (length room-nodes) (length room-from)
+  tests-are R D L G y ends into = λ i. countTests (x .copies-are D L G y ends i) (x .edges-are D L G y ends into i) (R .nodes) (R .starts)
 
-  -- a refusal changes nothing
-  pub room-refused : (r : Refusal) → countTests copies edges (length room-nodes) (length room-from) ≡ Refused r
-      → RoomAnswered l listed nodes endpoint from to via s (NoGraph r) room-nodes room-endpoint room-from room-to room-via room-nodes room-endpoint room-from room-to room-via
-  unfolding RoomAnswered
-  room-refused r e D L G y q ends into =
-      subst (λ (v : Verdict). Answered (outcome v (trueGraph G (pathsOf L))) (NoGraph r) room-nodes room-endpoint room-from room-to room-via room-nodes room-endpoint room-from room-to room-via) (sym e ∙ tests-are D L G y ends into)
-      (record { answer = refl; nodes = refl; endpoints = refl; starts = refl; ends = refl; names = refl })
+  pub answer-is : (R : Room) (D : Design) (L : PathList) (G : Graph) → Tabled D L G l listed from to via (take (l .slots) s) → G .endpoints ≡ endpoint → EdgesInto G (edgesIn G)
+      → countsAnswer (countTests copies edges (R .nodes) (R .starts)) copies edges ≡ graphAnswer (roomOutcome L G R)
+  answer-is R D L G y ends into =
+      (λ i. countsAnswer (tests-are R D L G y ends into i) (x .copies-are D L G y ends i) (x .edges-are D L G y ends into i))
+      ∙ answer-of (roomTests R (trueGraph G (pathsOf L))) (trueGraph G (pathsOf L))
 
-  -- and else the result is in the room
-  pub room-made : countTests copies edges (length room-nodes) (length room-from) ≡ Passed → (room-nodes′ room-endpoint′ room-from′ room-to′ room-via′ : List ℕ)
-      → ResultFilled l listed nodes endpoint from to via s room-nodes room-endpoint room-from room-to room-via room-nodes′ room-endpoint′ room-from′ room-to′ room-via′
-      → RoomAnswered l listed nodes endpoint from to via s (Counts copies edges) room-nodes room-endpoint room-from room-to room-via room-nodes′ room-endpoint′ room-from′ room-to′ room-via′
-  unfolding RoomAnswered ResultFilled
-  room-made e room-nodes′ room-endpoint′ room-from′ room-to′ room-via′ f D L G y q ends into =
-      let r = f D L G y q ends into in
-      subst (λ (v : Verdict). Answered (outcome v (trueGraph G (pathsOf L))) (Counts copies edges) room-nodes room-endpoint room-from room-to room-via room-nodes′ room-endpoint′ room-from′ room-to′ room-via′) (sym e ∙ tests-are D L G y ends into)
-      (record {
-        answer = λ i. Counts (x .copies-are D L G y ends i) (x .edges-are D L G y ends into i);
-        nodes = r .nodes;
-        endpoints = r .endpoints;
-        starts = r .starts;
-        ends = r .ends;
-        names = r .names;
-      })
+  module _ (room-nodes room-endpoint room-from room-to room-via : List ℕ) where
+    abbrev R : Room
+    R = roomOf (graphSlices room-nodes room-endpoint room-from room-to room-via)
+
+    abbrev tests : Verdict
+    tests = countTests copies edges (length room-nodes) (length room-from)
+
+    -- a refusal changes nothing
+    pub room-refused : (r : Refusal) → countsAnswer tests copies edges ≡ NoGraph r
+        → RoomAnswered l listed nodes endpoint from to via s (NoGraph r) room-nodes room-endpoint room-from room-to room-via room-nodes room-endpoint room-from room-to room-via
+    unfolding RoomAnswered
+    room-refused r e D L G y q ends into =
+        subst (λ (v : Verdict). Answered (outcome v (trueGraph G (pathsOf L))) (NoGraph r) room-nodes room-endpoint room-from room-to room-via room-nodes room-endpoint room-from room-to room-via)
+        (sym (answer-refused tests copies edges r e) ∙ tests-are R D L G y ends into)
+        (record { answer = refl; nodes = refl; endpoints = refl; starts = refl; ends = refl; names = refl })
+
+    -- and else the result is in the room
+    pub room-made : tests ≡ Passed → (r : GraphMade) → r ≡ countsAnswer tests copies edges → (room-nodes′ room-endpoint′ room-from′ room-to′ room-via′ : List ℕ)
+        → ResultFilled l listed nodes endpoint from to via s room-nodes room-endpoint room-from room-to room-via room-nodes′ room-endpoint′ room-from′ room-to′ room-via′
+        → RoomAnswered l listed nodes endpoint from to via s r room-nodes room-endpoint room-from room-to room-via room-nodes′ room-endpoint′ room-from′ room-to′ room-via′
+    unfolding RoomAnswered ResultFilled
+    room-made e r is room-nodes′ room-endpoint′ room-from′ room-to′ room-via′ f D L G y q ends into =
+        let z = f D L G y q ends into in
+        subst (λ (v : Verdict). r ≡ graphAnswer (outcome v (trueGraph G (pathsOf L))) → Answered (outcome v (trueGraph G (pathsOf L))) r room-nodes room-endpoint room-from room-to room-via room-nodes′ room-endpoint′ room-from′ room-to′ room-via′)
+        (sym e ∙ tests-are R D L G y ends into)
+        (λ a. record { answer = a; nodes = z .nodes; endpoints = z .endpoints; starts = z .starts; ends = z .ends; names = z .names })
+        (is ∙ answer-is R D L G y ends into)
 
 -- the scratch is all zero after success, 33 and 34
 zeros : (s : List ℕ) → replicate {A = ℕ} (length s) 0 ≡ map (λ (w : ℕ). 0) s
@@ -88,21 +107,25 @@ room-scratch R H s = go (leb (length (H .nodes)) (min (R .nodes) 16384)) (leb (l
     go true false = refl
     go false b = refl
 
--- what is made where the scratch is enough
-unfoldable pub SearchRemoved : List ℕ → List ℕ → List ℕ → List ℕ → List ℕ → List ℕ → List ℕ → List ℕ → GraphMade → List ℕ → List ℕ → List ℕ → List ℕ → List ℕ → List ℕ → List ℕ → List ℕ → List ℕ → List ℕ → List ℕ → List ℕ → Type 0
-SearchRemoved starts listed lengths nodes endpoint from to via r room-nodes room-endpoint room-from room-to room-via s room-nodes′ room-endpoint′ room-from′ room-to′ room-via′ s′ =
-    (D : Design) (L : PathList) (G : Graph) → Worked D L G starts listed lengths nodes endpoint from to via → Removed (roomOutcome L G room-nodes room-endpoint room-from room-to room-via) r room-nodes room-endpoint room-from room-to room-via s room-nodes′ room-endpoint′ room-from′ room-to′ room-via′ s′
+-- What is made where the scratch is enough: by a removal, and by telling its size.
+module _ (starts listed lengths nodes endpoint from to via s t t′ : List ℕ) (l : Layout) (copies edges : ℕ) (f : Found starts listed lengths nodes endpoint from to via s t l copies edges) (z : t′ ≡ replicate (length t) 0)
+    (D : Design) (L : PathList) (G : Graph) (w : Worked D L G starts listed lengths nodes endpoint from to via) where
+  scratch-zero : (R : Room) → t′ ≡ scratchAfter (roomOutcome L G R) s
+  scratch-zero R = z ∙ ap (λ (n : ℕ). replicate n 0) (f .size) ∙ zeros s ∙ room-scratch R (trueGraph G (pathsOf L)) s
 
-module _ (starts listed lengths nodes endpoint from to via room-nodes room-endpoint room-from room-to room-via s : List ℕ) where
-  pub search-removed : (l : Layout) (copies edges : ℕ) (t room-nodes′ room-endpoint′ room-from′ room-to′ room-via′ t′ : List ℕ) (r : GraphMade) → Found starts listed lengths nodes endpoint from to via s t l copies edges
-      → RoomAnswered l listed nodes endpoint from to via t r room-nodes room-endpoint room-from room-to room-via room-nodes′ room-endpoint′ room-from′ room-to′ room-via′ → t′ ≡ replicate (length t) 0
-      → SearchRemoved starts listed lengths nodes endpoint from to via r room-nodes room-endpoint room-from room-to room-via s room-nodes′ room-endpoint′ room-from′ room-to′ room-via′ t′
-  unfolding RoomAnswered SearchRemoved
-  search-removed l copies edges t room-nodes′ room-endpoint′ room-from′ room-to′ room-via′ t′ r f a z D L G w =
+  pub search-removed : (room-nodes room-endpoint room-from room-to room-via room-nodes′ room-endpoint′ room-from′ room-to′ room-via′ : List ℕ) (r : GraphMade)
+      → RoomAnswered l listed nodes endpoint from to via t r room-nodes room-endpoint room-from room-to room-via room-nodes′ room-endpoint′ room-from′ room-to′ room-via′
+      → Removed (roomOutcome L G (roomOf (graphSlices room-nodes room-endpoint room-from room-to room-via))) r room-nodes room-endpoint room-from room-to room-via s room-nodes′ room-endpoint′ room-from′ room-to′ room-via′ t′
+  unfolding RoomAnswered
+  search-removed room-nodes room-endpoint room-from room-to room-via room-nodes′ room-endpoint′ room-from′ room-to′ room-via′ r a =
       record {
         answered = a D L G (f .tabled D L G (w .given)) (w .given .copies) (w .endpoints) (w .into);
-        scratch = z ∙ ap (λ (n : ℕ). replicate n 0) (f .size) ∙ zeros s ∙ room-scratch (roomOf (graphSlices room-nodes room-endpoint room-from room-to room-via)) (trueGraph G (pathsOf L)) s;
+        scratch = scratch-zero (roomOf (graphSlices room-nodes room-endpoint room-from room-to room-via));
       }
+
+  pub search-sized : (R : Room) (r : GraphMade) → r ≡ countsAnswer (countTests copies edges (R .nodes) (R .starts)) copies edges → Sized (roomOutcome L G R) r s t′
+  search-sized R r e =
+      (e ∙ answer-is l listed nodes endpoint from to via t copies edges (f .all) R D L G (f .tabled D L G (w .given)) (w .endpoints) (w .into), scratch-zero R)
 
 -- What 31 asks is enough for the tables: each copy is a candidate, so that with its slot it takes six words of its eight.
 tables-fit : (copies count listed edges : ℕ) → copies ≤ count → tableWords copies edges listed + count ≤ scratchWords count listed edges
@@ -117,52 +140,66 @@ module _ (starts listed lengths nodes endpoint from to via : List ℕ) where
         copies-countable (x .design) (x .graph) nodes (w .fits) (w .given .legal) (w .given .copies) (w .given .few-copies),
       )
 
-  module _ (count : ℕ) (e : count ≡ candidates (ofStarts starts) (ofNodes nodes) (pathList listed lengths)) where
-    count-is : (D : Design) (L : PathList) (G : Graph) → Given D L G starts listed lengths nodes from to via → count ≡ candidates D G L
-    count-is D L G g = e ∙ sym (candidates-slices D L G starts listed lengths nodes (g .design) (g .list) (g .copies))
+  abbrev count : ℕ
+  count = candidates (ofStarts starts) (ofNodes nodes) (pathList listed lengths)
 
-    pub work-in : (s : List ℕ) → Workable starts listed lengths nodes endpoint from to via → wordsTest count (length listed) (length from) (length s) ≡ Passed
-        → WorkableIn starts listed lengths nodes endpoint from to via s
-    work-in s x p =
-        let g = x .worked .given in
-        let asked = scratchWords count (length listed) (length from) in
-        let long = leb→le asked (length s) (holds (leb asked (length s)) (unless-passed 31 (leb asked (length s)) p)) in
-        let is = count-is (x .design) (x .list) (x .graph) g in
-        let copies : length nodes ≤ count = omega (arith, is, copies-candidates (x .design) (x .graph) (x .list), ap length (g .copies)) in
-        record { work = x; room = omega (arith, long, is, tables-fit (length nodes) count (length listed) (length from) copies) }
+  abbrev words : List ℕ → Verdict
+  words s = wordsFor starts listed lengths nodes from s
 
-    scratch-is : (s : List ℕ) (D : Design) (L : PathList) (G : Graph) → Worked D L G starts listed lengths nodes endpoint from to via
-        → wordsTest count (length listed) (length from) (length s) ≡ scratchTest D G L (length s)
-    unfolding scratchTest
-    scratch-is s D L G w =
-        let g = w .given in
-        λ i. wordsTest (count-is D L G g i) (length (sym (g .list) i .edges)) (sym (ap length (g .edges) ∙ length-edges from to via (g .ends) (g .names)) i) (length s)
+  count-is : (D : Design) (L : PathList) (G : Graph) → Given D L G starts listed lengths nodes from to via → count ≡ candidates D G L
+  count-is D L G g = sym (candidates-slices D L G starts listed lengths nodes (g .design) (g .list) (g .copies))
 
-    module _ (room-nodes room-endpoint room-from room-to room-via s : List ℕ) where
-      pub removed-refused : (r : Refusal) → wordsTest count (length listed) (length from) (length s) ≡ Refused r
-          → AllRemoved starts listed lengths nodes endpoint from to via (NoGraph r) room-nodes room-endpoint room-from room-to room-via s room-nodes room-endpoint room-from room-to room-via s
+  pub work-in : (s : List ℕ) → Workable starts listed lengths nodes endpoint from to via → words s ≡ Passed → WorkableIn starts listed lengths nodes endpoint from to via s
+  work-in s x p =
+      let g = x .worked .given in
+      let asked = scratchWords count (length listed) (length from) in
+      let long = leb→le asked (length s) (holds (leb asked (length s)) (unless-passed 31 (leb asked (length s)) p)) in
+      let is = count-is (x .design) (x .list) (x .graph) g in
+      let copies : length nodes ≤ count = omega (arith, is, copies-candidates (x .design) (x .graph) (x .list), ap length (g .copies)) in
+      record { work = x; room = omega (arith, long, is, tables-fit (length nodes) count (length listed) (length from) copies) }
+
+  scratch-is : (s : List ℕ) (D : Design) (L : PathList) (G : Graph) → Worked D L G starts listed lengths nodes endpoint from to via
+      → words s ≡ scratchTest D G L (length s)
+  unfolding scratchTest
+  scratch-is s D L G w =
+      let g = w .given in
+      λ i. wordsTest (count-is D L G g i) (length (sym (g .list) i .edges)) (sym (ap length (g .edges) ∙ length-edges from to via (g .ends) (g .names)) i) (length s)
+
+  -- what is true of an outcome, from what 31 answers: of a removal in its room, and of its size in the largest
+  module _ (P : Outcome Graph → Type 0) (R : Room) (s : List ℕ) (D : Design) (L : PathList) (G : Graph) (w : Worked D L G starts listed lengths nodes endpoint from to via) where
+    words-are : (v : Verdict) → words s ≡ v → P (outcome (v then roomTests R (trueGraph G (pathsOf L))) (trueGraph G (pathsOf L))) → P (removalOutcome D L G R (length s))
+    words-are v e p = subst (λ (x : Verdict). P (outcome (x then roomTests R (trueGraph G (pathsOf L))) (trueGraph G (pathsOf L)))) (sym e ∙ scratch-is s D L G w) p
+
+  -- a refusal by 31 leaves the scratch
+  kept : (s : List ℕ) (r : Refusal) → words s ≡ Refused r → s ≡ scratchAfter {A = Graph} (refused r) s
+  kept s r f = ap (λ (x : Refusal). scratchAfter {A = Graph} (refused x) s) (unless-refused 31 (leb (scratchWords count (length listed) (length from)) (length s)) r f)
+
+  module _ (s : List ℕ) where
+    pub removed-refused : (r : Refusal) (t : List ℕ) → words s ≡ Refused r → t ≡ s → (room-nodes room-endpoint room-from room-to room-via : List ℕ)
+        → AllRemoved starts listed lengths nodes endpoint from to via (NoGraph r) room-nodes room-endpoint room-from room-to room-via s room-nodes room-endpoint room-from room-to room-via t
+    unfolding AllRemoved
+    removed-refused r t f q room-nodes room-endpoint room-from room-to room-via D L G w =
+        words-are (λ o. Removed o (NoGraph r) room-nodes room-endpoint room-from room-to room-via s room-nodes room-endpoint room-from room-to room-via t)
+        (roomOf (graphSlices room-nodes room-endpoint room-from room-to room-via)) s D L G w (Refused r) f
+        (record { answered = record { answer = refl; nodes = refl; endpoints = refl; starts = refl; ends = refl; names = refl }; scratch = q ∙ kept s r f })
+
+    pub sized-refused : (r : Refusal) (t : List ℕ) → words s ≡ Refused r → t ≡ s → AllSized starts listed lengths nodes endpoint from to via (NoGraph r) s t
+    unfolding AllSized
+    sized-refused r t f q D L G w =
+        words-are (λ o. Sized o (NoGraph r) s t) largestRoom s D L G w (Refused r) f (refl, q ∙ kept s r f)
+
+    module _ (t t′ : List ℕ) (l : Layout) (copies edges : ℕ) (enough : words s ≡ Passed) (f : Found starts listed lengths nodes endpoint from to via s t l copies edges) (z : t′ ≡ replicate (length t) 0) (r : GraphMade) where
+      pub removed-made : (room-nodes room-endpoint room-from room-to room-via room-nodes′ room-endpoint′ room-from′ room-to′ room-via′ : List ℕ)
+          → RoomAnswered l listed nodes endpoint from to via t r room-nodes room-endpoint room-from room-to room-via room-nodes′ room-endpoint′ room-from′ room-to′ room-via′
+          → AllRemoved starts listed lengths nodes endpoint from to via r room-nodes room-endpoint room-from room-to room-via s room-nodes′ room-endpoint′ room-from′ room-to′ room-via′ t′
       unfolding AllRemoved
-      removed-refused r f D L G w =
-          subst
-          (λ (v : Verdict).
-          Removed (outcome (v then roomTests (roomOf (graphSlices room-nodes room-endpoint room-from room-to room-via)) (trueGraph G (pathsOf L))) (trueGraph G (pathsOf L))) (NoGraph r) room-nodes room-endpoint room-from room-to room-via s room-nodes room-endpoint room-from room-to room-via s)
-          (sym f ∙ scratch-is s D L G w)
-          (record { answered = record { answer = refl; nodes = refl; endpoints = refl; starts = refl; ends = refl; names = refl }; scratch = kept })
-        where
-          asked : ℕ
-          asked = scratchWords count (length listed) (length from)
+      removed-made room-nodes room-endpoint room-from room-to room-via room-nodes′ room-endpoint′ room-from′ room-to′ room-via′ a D L G w =
+          words-are (λ o. Removed o r room-nodes room-endpoint room-from room-to room-via s room-nodes′ room-endpoint′ room-from′ room-to′ room-via′ t′)
+          (roomOf (graphSlices room-nodes room-endpoint room-from room-to room-via)) s D L G w Passed enough
+          (search-removed starts listed lengths nodes endpoint from to via s t t′ l copies edges f z D L G w room-nodes room-endpoint room-from room-to room-via room-nodes′ room-endpoint′ room-from′ room-to′ room-via′ r a)
 
-          -- a refusal by 31 leaves the scratch
-          kept : s ≡ scratchAfter (outcome (Refused r) (trueGraph G (pathsOf L))) s
-          kept = ap (λ (x : Refusal). scratchAfter (outcome (Refused x) (trueGraph G (pathsOf L))) s) (unless-refused 31 (leb asked (length s)) r f)
-
-      pub removed-made : wordsTest count (length listed) (length from) (length s) ≡ Passed → (r : GraphMade) (room-nodes′ room-endpoint′ room-from′ room-to′ room-via′ s′ : List ℕ)
-          → SearchRemoved starts listed lengths nodes endpoint from to via r room-nodes room-endpoint room-from room-to room-via s room-nodes′ room-endpoint′ room-from′ room-to′ room-via′ s′
-          → AllRemoved starts listed lengths nodes endpoint from to via r room-nodes room-endpoint room-from room-to room-via s room-nodes′ room-endpoint′ room-from′ room-to′ room-via′ s′
-      unfolding AllRemoved SearchRemoved
-      removed-made f r room-nodes′ room-endpoint′ room-from′ room-to′ room-via′ s′ x D L G w =
-          subst
-          (λ (v : Verdict).
-          Removed (outcome (v then roomTests (roomOf (graphSlices room-nodes room-endpoint room-from room-to room-via)) (trueGraph G (pathsOf L))) (trueGraph G (pathsOf L))) r room-nodes room-endpoint room-from room-to room-via s room-nodes′ room-endpoint′ room-from′ room-to′ room-via′ s′)
-          (sym f ∙ scratch-is s D L G w)
-          (x D L G w)
+      pub sized-made : r ≡ countsAnswer (countTests copies edges 16384 65536) copies edges → AllSized starts listed lengths nodes endpoint from to via r s t′
+      unfolding AllSized
+      sized-made e D L G w =
+          words-are (λ o. Sized o r s t′) largestRoom s D L G w Passed enough
+          (search-sized starts listed lengths nodes endpoint from to via s t t′ l copies edges f z D L G w largestRoom r e)

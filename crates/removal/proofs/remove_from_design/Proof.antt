@@ -1,16 +1,15 @@
 -- The tests refuse, and nothing has changed; or they pass, and the passes are asked about the design as a graph.
-use mathlib.Core.Path.{_≡_, refl, _∙_}
+use mathlib.Core.Path.{sym, _∙_}
 use lib.ListN.{length}
-use Rattle.removal.proofs.Whole.TestLaws.{designBefore, design-tested, design-refused, design-numberable, design-removed}
+use Rattle.timing.specs.declared.GraphMade.the-variants.{Refused as NoGraph}
+use Rattle.timing.specs.Graphs.{design, designGraph, Graph}
+use Rattle.timing.specs.Marks.{pathList}
+use Rattle.timing.specs.Calls.{Outcome, graphSlices, roomOf}
+use Rattle.removal.specs.Remove.{removalOutcome}
+use Rattle.removal.proofs.Whole.TestLaws.{design-refused, design-passed, design-numberable, design-removed, rooms-alike, design-room, Stated, stated-refused, stated-removed}
 use borrow.Author.Needs.{needs}
 use Rattle.removal.proofs.remove_from_design.Statement.{statement}
 use Rattle.removal.proofs.remove_from_design.Tie as tie
-
-abbrev start : tie.After-list-tests → tie.Start
-start c = c .before .before .before .before .before .before .before .before .before .before .before .before .before
-
-tested : (c : tie.After-list-tests) → let a = start c .args in designBefore (a .n) (a .starts .now) (a .ends .now) (a .early .now) (a .late .now) (a .marked .now) (a .listed .now) (a .lengths .now) (a .room-nodes .now) (a .room-endpoint .now) (a .room-from .now) (a .room-to .now) (a .room-via .now) ≡ c .list-tests .result
-tested c = let a = start c .args in design-tested (a .n) (a .starts .now) (a .ends .now) (a .early .now) (a .late .now) (a .marked .now) (a .listed .now) (a .lengths .now) (a .room-nodes .now) (a .room-endpoint .now) (a .room-from .now) (a .room-to .now) (a .room-via .now) (c .list-tests .result) (c .before .graph-sizes .result) (c .before .graph-sizes .ensures) (c .list-tests .ensures)
 
 graph-sizes-requires : tie.Need-graph-sizes-requires
 graph-sizes-requires c κs = search needs
@@ -23,18 +22,17 @@ enum-known-verdict c = search needs
 
 returns : tie.Need-returns
 returns c =
-    let w = c .before .before .before in
-    let a = start w .args in
-    design-refused (a .n) (a .starts .now) (a .ends .now) (a .early .now) (a .late .now) (a .marked .now) (a .listed .now) (a .lengths .now) (a .room-nodes .now) (a .room-endpoint .now) (a .room-from .now) (a .room-to .now) (a .room-via .now) (a .scratch .now) (c .before .verdict .given .0 .0) (tested w ∙ c .before .verdict .given .1)
+    let a = c .before .before .before .before .before .before .before .before .before .before .before .before .before .before .before .before .args in
+    let v = c .before .verdict .given in
+    design-refused (a .n) (a .starts .now) (a .ends .now) (a .early .now) (a .late .now) (a .marked .now) (a .listed .now) (a .lengths .now) (c .before .before .before .before .graph-sizes .result) (roomOf (graphSlices (a .room-nodes .now) (a .room-endpoint .now) (a .room-from .now) (a .room-to .now) (a .room-via .now))) (c .before .before .before .before .graph-sizes .ensures) (length (a .scratch .now)) (λ (o : Outcome Graph). Stated o (NoGraph (v .0 .0)) (a .room-nodes .now) (a .room-endpoint .now) (a .room-from .now) (a .room-to .now) (a .room-via .now) (a .scratch .now) (a .room-nodes .now) (a .room-endpoint .now) (a .room-from .now) (a .room-to .now) (a .room-via .now) (a .scratch .now)) (v .0 .0) (sym (c .before .before .before .list-tests .ensures) ∙ v .1) (stated-refused (v .0 .0) (a .room-nodes .now) (a .room-endpoint .now) (a .room-from .now) (a .room-to .now) (a .room-via .now) (a .scratch .now))
 
 enum-told : tie.Need-enum-told
 enum-told c = search needs
 
 remove-tested-requires : tie.Need-remove-tested-requires
 remove-tested-requires c κs =
-    let w = c .before .before .before .before .before .before .before .before in
-    let a = start w .args in
-    design-numberable (a .n) (a .starts .now) (a .ends .now) (a .early .now) (a .late .now) (a .marked .now) (a .listed .now) (a .lengths .now) (a .room-nodes .now) (a .room-endpoint .now) (a .room-from .now) (a .room-to .now) (a .room-via .now) (a .scratch .now) (tested w ∙ c .before .before .before .before .before .before .enum-told .given .1) (length (a .starts .now)) refl
+    let a = c .before .before .before .before .before .before .before .before .before .before .before .before .before .before .before .before .before .before .before .before .before .args in
+    (design-numberable (a .n) (a .starts .now) (a .ends .now) (a .early .now) (a .late .now) (a .marked .now) (a .listed .now) (a .lengths .now) (c .before .before .before .before .before .before .before .before .before .graph-sizes .result) (sym (c .before .before .before .before .before .before .before .before .list-tests .ensures) ∙ c .before .before .before .before .before .before .enum-told .given .1), rooms-alike (a .room-nodes .now) (a .room-endpoint .now) (a .room-from .now) (a .room-to .now) (a .room-via .now) (sym (c .before .before .before .before .before .before .before .before .before .graph-sizes .ensures) ∙ design-room (a .n) (a .starts .now) (a .ends .now) (a .early .now) (a .late .now) (a .marked .now) (a .listed .now) (a .lengths .now) (c .before .before .before .before .before .before .before .before .before .graph-sizes .result) (sym (c .before .before .before .before .before .before .before .before .list-tests .ensures) ∙ c .before .before .before .before .before .before .enum-told .given .1)))
 
 same-length : tie.Need-same-length
 same-length c = search needs
@@ -56,10 +54,10 @@ same-length-6 c = search needs
 
 returns-2 : tie.Need-returns-2
 returns-2 c =
-    let t = c .before .before .before .before .before .before .before .before .before .before .before .before in
-    let w = t .before .before .before .before .before .before .before .before .before in
-    let a = start w .args in
-    design-removed (a .n) (a .starts .now) (a .ends .now) (a .early .now) (a .late .now) (a .marked .now) (a .listed .now) (a .lengths .now) (a .room-nodes .now) (a .room-endpoint .now) (a .room-from .now) (a .room-to .now) (a .room-via .now) (a .scratch .now) (tested w ∙ t .before .before .before .before .before .before .before .enum-told .given .1) (t .remove-tested .result) (t .remove-tested .last .1 .1 .1 .1 .1 .1 .0) (t .remove-tested .last .1 .1 .1 .1 .1 .1 .1 .0) (t .remove-tested .last .1 .1 .1 .1 .1 .1 .1 .1 .0) (t .remove-tested .last .1 .1 .1 .1 .1 .1 .1 .1 .1 .0) (t .remove-tested .last .1 .1 .1 .1 .1 .1 .1 .1 .1 .1 .0) (t .remove-tested .last .1 .1 .1 .1 .1 .1 .1 .1 .1 .1 .1 .0) (t .remove-tested .ensures)
+    let a = c .before .before .before .before .before .before .before .before .before .before .before .before .before .before .before .before .before .before .before .before .before .before .before .before .before .before .before .before .before .before .before .before .before .before .args in
+    let r = c .before .before .before .before .before .before .before .before .before .before .before .before .remove-tested in
+    design-passed (a .n) (a .starts .now) (a .ends .now) (a .early .now) (a .late .now) (a .marked .now) (a .listed .now) (a .lengths .now) (c .before .before .before .before .before .before .before .before .before .before .before .before .before .before .before .before .before .before .before .before .before .before .graph-sizes .result) (roomOf (graphSlices (a .room-nodes .now) (a .room-endpoint .now) (a .room-from .now) (a .room-to .now) (a .room-via .now))) (c .before .before .before .before .before .before .before .before .before .before .before .before .before .before .before .before .before .before .before .before .before .before .graph-sizes .ensures) (length (a .scratch .now)) (λ (o : Outcome Graph). Stated o (r .result) (a .room-nodes .now) (a .room-endpoint .now) (a .room-from .now) (a .room-to .now) (a .room-via .now) (a .scratch .now) (r .last .1 .1 .1 .1 .1 .1 .0) (r .last .1 .1 .1 .1 .1 .1 .1 .0) (r .last .1 .1 .1 .1 .1 .1 .1 .1 .0) (r .last .1 .1 .1 .1 .1 .1 .1 .1 .1 .0) (r .last .1 .1 .1 .1 .1 .1 .1 .1 .1 .1 .0) (r .last .1 .1 .1 .1 .1 .1 .1 .1 .1 .1 .1 .0)) (sym (c .before .before .before .before .before .before .before .before .before .before .before .before .before .before .before .before .before .before .before .before .before .list-tests .ensures) ∙ c .before .before .before .before .before .before .before .before .before .before .before .before .before .before .before .before .before .before .before .enum-told .given .1)
+    (stated-removed (removalOutcome (design (a .n) (a .starts .now) (a .ends .now) (a .early .now) (a .late .now) (a .marked .now)) (pathList (a .listed .now) (a .lengths .now)) (designGraph (design (a .n) (a .starts .now) (a .ends .now) (a .early .now) (a .late .now) (a .marked .now))) (roomOf (graphSlices (a .room-nodes .now) (a .room-endpoint .now) (a .room-from .now) (a .room-to .now) (a .room-via .now))) (length (a .scratch .now))) (r .result) (a .room-nodes .now) (a .room-endpoint .now) (a .room-from .now) (a .room-to .now) (a .room-via .now) (a .scratch .now) (r .last .1 .1 .1 .1 .1 .1 .0) (r .last .1 .1 .1 .1 .1 .1 .1 .0) (r .last .1 .1 .1 .1 .1 .1 .1 .1 .0) (r .last .1 .1 .1 .1 .1 .1 .1 .1 .1 .0) (r .last .1 .1 .1 .1 .1 .1 .1 .1 .1 .1 .0) (r .last .1 .1 .1 .1 .1 .1 .1 .1 .1 .1 .1 .0) (design-removed (a .n) (a .starts .now) (a .ends .now) (a .early .now) (a .late .now) (a .marked .now) (a .listed .now) (a .lengths .now) (c .before .before .before .before .before .before .before .before .before .before .before .before .before .before .before .before .before .before .before .before .before .before .graph-sizes .result) (sym (c .before .before .before .before .before .before .before .before .before .before .before .before .before .before .before .before .before .before .before .before .before .list-tests .ensures) ∙ c .before .before .before .before .before .before .before .before .before .before .before .before .before .before .before .before .before .before .before .enum-told .given .1) (r .result) (a .room-nodes .now) (a .room-endpoint .now) (a .room-from .now) (a .room-to .now) (a .room-via .now) (a .scratch .now) (r .last .1 .1 .1 .1 .1 .1 .0) (r .last .1 .1 .1 .1 .1 .1 .1 .0) (r .last .1 .1 .1 .1 .1 .1 .1 .1 .0) (r .last .1 .1 .1 .1 .1 .1 .1 .1 .1 .0) (r .last .1 .1 .1 .1 .1 .1 .1 .1 .1 .1 .0) (r .last .1 .1 .1 .1 .1 .1 .1 .1 .1 .1 .1 .0) (r .ensures)))
 
 pub remove-from-design-spec : {M : Type 1} → statement M
 remove-from-design-spec =

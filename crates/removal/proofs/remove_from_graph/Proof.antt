@@ -1,15 +1,15 @@
 -- The tests refuse, and nothing has changed; or they pass, and the passes are asked.
-use mathlib.Core.Path.{_≡_, _∙_}
-use Rattle.removal.proofs.Whole.TestLaws.{graphBefore, graph-tested, graph-refused, graph-workable, graph-rooms, graph-removed}
+use mathlib.Core.Path.{sym, _∙_}
+use lib.ListN.{length}
+use Rattle.timing.specs.declared.GraphMade.the-variants.{Refused as NoGraph}
+use Rattle.timing.specs.Graphs.{design, Graph}
+use Rattle.timing.specs.Marks.{pathList}
+use Rattle.timing.specs.Calls.{Outcome, graphSlices, graphOf, roomOf}
+use Rattle.removal.specs.Remove.{removalOutcome}
+use Rattle.removal.proofs.Whole.TestLaws.{graph-refused, graph-passed, graph-workable, graph-removed, rooms-alike, graph-room, Stated, stated-refused, stated-removed}
 use borrow.Author.Needs.{needs}
 use Rattle.removal.proofs.remove_from_graph.Statement.{statement}
 use Rattle.removal.proofs.remove_from_graph.Tie as tie
-
-abbrev start : tie.After-graph-tests → tie.Start
-start c = c .before .before .before .before .before .before .before .before .before .before .before .before .before .before .before .before .before .before
-
-tested : (c : tie.After-graph-tests) → let a = start c .args in graphBefore (a .n) (a .starts .now) (a .ends .now) (a .early .now) (a .late .now) (a .marked .now) (a .listed .now) (a .lengths .now) (a .nodes .now) (a .endpoint .now) (a .from .now) (a .to .now) (a .via .now) (a .room-nodes .now) (a .room-endpoint .now) (a .room-from .now) (a .room-to .now) (a .room-via .now) ≡ c .graph-tests .result
-tested c = let a = start c .args in graph-tested (a .n) (a .starts .now) (a .ends .now) (a .early .now) (a .late .now) (a .marked .now) (a .listed .now) (a .lengths .now) (a .room-nodes .now) (a .room-endpoint .now) (a .room-from .now) (a .room-to .now) (a .room-via .now) (a .nodes .now) (a .endpoint .now) (a .from .now) (a .to .now) (a .via .now) (c .graph-tests .result) (c .before .graph-sizes .result) (c .before .graph-sizes .ensures) (c .graph-tests .ensures)
 
 graph-sizes-requires : tie.Need-graph-sizes-requires
 graph-sizes-requires c κs = search needs
@@ -22,19 +22,17 @@ enum-known-verdict c = search needs
 
 returns : tie.Need-returns
 returns c =
-    let w = c .before .before .before in
-    let a = start w .args in
-    graph-refused (a .n) (a .starts .now) (a .ends .now) (a .early .now) (a .late .now) (a .marked .now) (a .listed .now) (a .lengths .now) (a .nodes .now) (a .endpoint .now) (a .from .now) (a .to .now) (a .via .now) (a .room-nodes .now) (a .room-endpoint .now) (a .room-from .now) (a .room-to .now) (a .room-via .now) (a .scratch .now) (c .before .verdict .given .0 .0) (tested w ∙ c .before .verdict .given .1)
+    let a = c .before .before .before .before .before .before .before .before .before .before .before .before .before .before .before .before .before .before .before .before .before .args in
+    let v = c .before .verdict .given in
+    graph-refused (a .n) (a .starts .now) (a .ends .now) (a .early .now) (a .late .now) (a .marked .now) (a .listed .now) (a .lengths .now) (c .before .before .before .before .graph-sizes .result) (a .nodes .now) (a .endpoint .now) (a .from .now) (a .to .now) (a .via .now) (roomOf (graphSlices (a .room-nodes .now) (a .room-endpoint .now) (a .room-from .now) (a .room-to .now) (a .room-via .now))) (c .before .before .before .before .graph-sizes .ensures) (length (a .scratch .now)) (λ (o : Outcome Graph). Stated o (NoGraph (v .0 .0)) (a .room-nodes .now) (a .room-endpoint .now) (a .room-from .now) (a .room-to .now) (a .room-via .now) (a .scratch .now) (a .room-nodes .now) (a .room-endpoint .now) (a .room-from .now) (a .room-to .now) (a .room-via .now) (a .scratch .now)) (v .0 .0) (sym (c .before .before .before .graph-tests .ensures) ∙ v .1) (stated-refused (v .0 .0) (a .room-nodes .now) (a .room-endpoint .now) (a .room-from .now) (a .room-to .now) (a .room-via .now) (a .scratch .now))
 
 enum-told : tie.Need-enum-told
 enum-told c = search needs
 
 remove-requires : tie.Need-remove-requires
 remove-requires c κs =
-    let w = c .before .before .before .before .before .before .before .before in
-    let a = start w .args in
-    let e = tested w ∙ c .before .before .before .before .before .before .enum-told .given .1 in
-    (graph-workable (a .n) (a .starts .now) (a .ends .now) (a .early .now) (a .late .now) (a .marked .now) (a .listed .now) (a .lengths .now) (a .nodes .now) (a .endpoint .now) (a .from .now) (a .to .now) (a .via .now) (a .room-nodes .now) (a .room-endpoint .now) (a .room-from .now) (a .room-to .now) (a .room-via .now) (a .scratch .now) e, graph-rooms (a .n) (a .starts .now) (a .ends .now) (a .early .now) (a .late .now) (a .marked .now) (a .listed .now) (a .lengths .now) (a .nodes .now) (a .endpoint .now) (a .from .now) (a .to .now) (a .via .now) (a .room-nodes .now) (a .room-endpoint .now) (a .room-from .now) (a .room-to .now) (a .room-via .now) (a .scratch .now) e)
+    let a = c .before .before .before .before .before .before .before .before .before .before .before .before .before .before .before .before .before .before .before .before .before .before .before .before .before .before .args in
+    (graph-workable (a .n) (a .starts .now) (a .ends .now) (a .early .now) (a .late .now) (a .marked .now) (a .listed .now) (a .lengths .now) (c .before .before .before .before .before .before .before .before .before .graph-sizes .result) (a .nodes .now) (a .endpoint .now) (a .from .now) (a .to .now) (a .via .now) (sym (c .before .before .before .before .before .before .before .before .graph-tests .ensures) ∙ c .before .before .before .before .before .before .enum-told .given .1), rooms-alike (a .room-nodes .now) (a .room-endpoint .now) (a .room-from .now) (a .room-to .now) (a .room-via .now) (sym (c .before .before .before .before .before .before .before .before .before .graph-sizes .ensures) ∙ graph-room (a .n) (a .starts .now) (a .ends .now) (a .early .now) (a .late .now) (a .marked .now) (a .listed .now) (a .lengths .now) (c .before .before .before .before .before .before .before .before .before .graph-sizes .result) (a .nodes .now) (a .endpoint .now) (a .from .now) (a .to .now) (a .via .now) (sym (c .before .before .before .before .before .before .before .before .graph-tests .ensures) ∙ c .before .before .before .before .before .before .enum-told .given .1)))
 
 same-length : tie.Need-same-length
 same-length c = search needs
@@ -56,10 +54,10 @@ same-length-6 c = search needs
 
 returns-2 : tie.Need-returns-2
 returns-2 c =
-    let r = c .before .before .before .before .before .before .before .before .before .before .before .before in
-    let w = r .before .before .before .before .before .before .before .before .before in
-    let a = start w .args in
-    graph-removed (a .n) (a .starts .now) (a .ends .now) (a .early .now) (a .late .now) (a .marked .now) (a .listed .now) (a .lengths .now) (a .nodes .now) (a .endpoint .now) (a .from .now) (a .to .now) (a .via .now) (a .room-nodes .now) (a .room-endpoint .now) (a .room-from .now) (a .room-to .now) (a .room-via .now) (a .scratch .now) (tested w ∙ r .before .before .before .before .before .before .before .enum-told .given .1) (r .remove .result) (r .remove .last .1 .1 .1 .1 .1 .1 .1 .1 .0) (r .remove .last .1 .1 .1 .1 .1 .1 .1 .1 .1 .0) (r .remove .last .1 .1 .1 .1 .1 .1 .1 .1 .1 .1 .0) (r .remove .last .1 .1 .1 .1 .1 .1 .1 .1 .1 .1 .1 .0) (r .remove .last .1 .1 .1 .1 .1 .1 .1 .1 .1 .1 .1 .1 .0) (r .remove .last .1 .1 .1 .1 .1 .1 .1 .1 .1 .1 .1 .1 .1 .0) (r .remove .ensures)
+    let a = c .before .before .before .before .before .before .before .before .before .before .before .before .before .before .before .before .before .before .before .before .before .before .before .before .before .before .before .before .before .before .before .before .before .before .before .before .before .before .before .args in
+    let r = c .before .before .before .before .before .before .before .before .before .before .before .before .remove in
+    graph-passed (a .n) (a .starts .now) (a .ends .now) (a .early .now) (a .late .now) (a .marked .now) (a .listed .now) (a .lengths .now) (c .before .before .before .before .before .before .before .before .before .before .before .before .before .before .before .before .before .before .before .before .before .before .graph-sizes .result) (a .nodes .now) (a .endpoint .now) (a .from .now) (a .to .now) (a .via .now) (roomOf (graphSlices (a .room-nodes .now) (a .room-endpoint .now) (a .room-from .now) (a .room-to .now) (a .room-via .now))) (c .before .before .before .before .before .before .before .before .before .before .before .before .before .before .before .before .before .before .before .before .before .before .graph-sizes .ensures) (length (a .scratch .now)) (λ (o : Outcome Graph). Stated o (r .result) (a .room-nodes .now) (a .room-endpoint .now) (a .room-from .now) (a .room-to .now) (a .room-via .now) (a .scratch .now) (r .last .1 .1 .1 .1 .1 .1 .1 .1 .0) (r .last .1 .1 .1 .1 .1 .1 .1 .1 .1 .0) (r .last .1 .1 .1 .1 .1 .1 .1 .1 .1 .1 .0) (r .last .1 .1 .1 .1 .1 .1 .1 .1 .1 .1 .1 .0) (r .last .1 .1 .1 .1 .1 .1 .1 .1 .1 .1 .1 .1 .0) (r .last .1 .1 .1 .1 .1 .1 .1 .1 .1 .1 .1 .1 .1 .0)) (sym (c .before .before .before .before .before .before .before .before .before .before .before .before .before .before .before .before .before .before .before .before .before .graph-tests .ensures) ∙ c .before .before .before .before .before .before .before .before .before .before .before .before .before .before .before .before .before .before .before .enum-told .given .1)
+    (stated-removed (removalOutcome (design (a .n) (a .starts .now) (a .ends .now) (a .early .now) (a .late .now) (a .marked .now)) (pathList (a .listed .now) (a .lengths .now)) (graphOf (graphSlices (a .nodes .now) (a .endpoint .now) (a .from .now) (a .to .now) (a .via .now))) (roomOf (graphSlices (a .room-nodes .now) (a .room-endpoint .now) (a .room-from .now) (a .room-to .now) (a .room-via .now))) (length (a .scratch .now))) (r .result) (a .room-nodes .now) (a .room-endpoint .now) (a .room-from .now) (a .room-to .now) (a .room-via .now) (a .scratch .now) (r .last .1 .1 .1 .1 .1 .1 .1 .1 .0) (r .last .1 .1 .1 .1 .1 .1 .1 .1 .1 .0) (r .last .1 .1 .1 .1 .1 .1 .1 .1 .1 .1 .0) (r .last .1 .1 .1 .1 .1 .1 .1 .1 .1 .1 .1 .0) (r .last .1 .1 .1 .1 .1 .1 .1 .1 .1 .1 .1 .1 .0) (r .last .1 .1 .1 .1 .1 .1 .1 .1 .1 .1 .1 .1 .1 .0) (graph-removed (a .n) (a .starts .now) (a .ends .now) (a .early .now) (a .late .now) (a .marked .now) (a .listed .now) (a .lengths .now) (c .before .before .before .before .before .before .before .before .before .before .before .before .before .before .before .before .before .before .before .before .before .before .graph-sizes .result) (a .nodes .now) (a .endpoint .now) (a .from .now) (a .to .now) (a .via .now) (sym (c .before .before .before .before .before .before .before .before .before .before .before .before .before .before .before .before .before .before .before .before .before .graph-tests .ensures) ∙ c .before .before .before .before .before .before .before .before .before .before .before .before .before .before .before .before .before .before .before .enum-told .given .1) (r .result) (a .room-nodes .now) (a .room-endpoint .now) (a .room-from .now) (a .room-to .now) (a .room-via .now) (a .scratch .now) (r .last .1 .1 .1 .1 .1 .1 .1 .1 .0) (r .last .1 .1 .1 .1 .1 .1 .1 .1 .1 .0) (r .last .1 .1 .1 .1 .1 .1 .1 .1 .1 .1 .0) (r .last .1 .1 .1 .1 .1 .1 .1 .1 .1 .1 .1 .0) (r .last .1 .1 .1 .1 .1 .1 .1 .1 .1 .1 .1 .1 .0) (r .last .1 .1 .1 .1 .1 .1 .1 .1 .1 .1 .1 .1 .1 .0) (r .ensures)))
 
 pub remove-from-graph-spec : {M : Type 1} → statement M
 remove-from-graph-spec =

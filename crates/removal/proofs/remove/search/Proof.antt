@@ -1,47 +1,56 @@
--- Each pass meets what the next one asks, and together they are what is found.
-use Rattle.removal.proofs.Whole.RemoveLaws.{buildable, built-ready, built-zero, reached-ready, found}
+-- 31 is tested with the count of candidates; where it passes, the scratch is enough.
+use Prim.Native.Nat.{ℕ}
+use mathlib.Core.Path.{refl, sym, ap, _∙_}
+use lib.ListN.{length}
+use Rattle.timing.specs.Tests.{wordsTest}
+use Rattle.removal.proofs.Whole.AnswerLaws.{work-countable, work-in}
 use borrow.Author.Needs.{needs}
 use Rattle.removal.proofs.remove.search.Statement.{statement}
 use Rattle.removal.proofs.remove.search.Tie as tie
 
-build-requires : tie.Need-build-requires
-build-requires c κs =
-    let st = c .before .before .before .before .before .before .before .before .before .before in
+count-candidates-requires : tie.Need-count-candidates-requires
+count-candidates-requires c κs =
+    let st = c .before .before .before .before .before .before .before .before .before in
     let a = st .args in
-    buildable (a .starts .now) (a .listed .now) (a .lengths .now) (a .nodes .now) (a .endpoint .now) (a .from .now) (a .to .now) (a .via .now) (a .scratch .now) (st .pre)
+    work-countable (a .starts .now) (a .listed .now) (a .lengths .now) (a .nodes .now) (a .endpoint .now) (a .from .now) (a .to .now) (a .via .now) (st .pre)
 
-reach-all-requires : tie.Need-reach-all-requires
-reach-all-requires c κs =
-    let y = c .before .before .before in
-    let st = y .before .before .before .before .before .before .before .before .before .before .before in
-    let a = st .args in (
-      built-ready (a .starts .now) (a .listed .now) (a .lengths .now) (a .nodes .now) (a .endpoint .now) (a .from .now) (a .to .now) (a .via .now) (a .scratch .now) (y .build .last .1 .1 .1 .1 .1 .1 .1 .0) (y .build .result) (st .pre) (y .build .ensures),
-      built-zero (a .starts .now) (a .listed .now) (a .lengths .now) (a .nodes .now) (a .endpoint .now) (a .from .now) (a .to .now) (a .via .now) (a .scratch .now) (y .build .last .1 .1 .1 .1 .1 .1 .1 .0) (y .build .result) (st .pre) (y .build .ensures),
-    )
+scratch-test-requires : tie.Need-scratch-test-requires
+scratch-test-requires c κs = search needs
 
-show-all-requires : tie.Need-show-all-requires
-show-all-requires c κs =
-    let z = c .before .before .before in
-    let y = z .before .before .before .before in
-    let st = y .before .before .before .before .before .before .before .before .before .before .before in
+enum-known-verdict : tie.Need-enum-known-verdict
+enum-known-verdict c = search needs
+
+returns : tie.Need-returns
+returns c =
+    let a = c .before .before .before .before .before .before .before .before .before .before .before .before .before .before .args in
+    (sym (ap (λ (k : ℕ). wordsTest k (length (a .listed .now)) (length (a .from .now)) (length (a .scratch .now))) (c .before .before .before .before .count-candidates .ensures)) ∙ sym (c .before .before .before .scratch-test .ensures) ∙ c .before .verdict .given .1, refl)
+
+enum-told : tie.Need-enum-told
+enum-told c = search needs
+
+find-requires : tie.Need-find-requires
+find-requires c κs =
+    let st = c .before .before .before .before .before .before .before .before .before .before .before .before .before .before in
     let a = st .args in
-    reached-ready (a .starts .now) (a .listed .now) (a .lengths .now) (a .nodes .now) (a .endpoint .now) (a .from .now) (a .to .now) (a .via .now) (a .scratch .now) (y .build .last .1 .1 .1 .1 .1 .1 .1 .0) (y .build .result) (st .pre) (y .build .ensures)
-    (z .reach-all .last .1 .1 .1 .1 .1 .1 .0) (z .reach-all .ensures)
+    work-in (a .starts .now) (a .listed .now) (a .lengths .now) (a .nodes .now) (a .endpoint .now) (a .from .now) (a .to .now) (a .via .now) (a .scratch .now) (st .pre) (sym (ap (λ (k : ℕ). wordsTest k (length (a .listed .now)) (length (a .from .now)) (length (a .scratch .now))) (c .before .before .before .before .count-candidates .ensures)) ∙ sym (c .before .before .before .scratch-test .ensures) ∙ c .before .enum-told .given .1)
 
 same-length : tie.Need-same-length
 same-length c = search needs
 
-returns : tie.Need-returns
-returns c =
-    let w = c .before .before in
-    let z = w .before .before .before .before in
-    let y = z .before .before .before .before in
-    let st = y .before .before .before .before .before .before .before .before .before .before .before in
-    let a = st .args in
-    found (a .starts .now) (a .listed .now) (a .lengths .now) (a .nodes .now) (a .endpoint .now) (a .from .now) (a .to .now) (a .via .now) (a .scratch .now) (y .build .last .1 .1 .1 .1 .1 .1 .1 .0) (y .build .result) (st .pre) (y .build .ensures)
-    (z .reach-all .last .1 .1 .1 .1 .1 .1 .0) (z .reach-all .ensures)
-    (w .show-all .last .1 .1 .1 .1 .1 .0) (w .show-all .result .copies) (w .show-all .result .edges) (w .show-all .ensures)
+returns-2 : tie.Need-returns-2
+returns-2 c =
+    let a = c .before .before .before .before .before .before .before .before .before .before .before .before .before .before .before .before .before .args in
+    (sym (ap (λ (k : ℕ). wordsTest k (length (a .listed .now)) (length (a .from .now)) (length (a .scratch .now))) (c .before .before .before .before .before .before .before .count-candidates .ensures)) ∙ sym (c .before .before .before .before .before .before .scratch-test .ensures) ∙ c .before .before .before .before .enum-told .given .1, c .before .before .find .ensures)
 
 pub search-spec : {M : Type 1} → statement M
 search-spec =
-    tie.close (tie.spec build-requires reach-all-requires show-all-requires same-length returns)
+    tie.close
+    (tie.spec
+    count-candidates-requires
+    scratch-test-requires
+    enum-known-verdict
+    returns
+    enum-told
+    find-requires
+    same-length
+    returns-2)
