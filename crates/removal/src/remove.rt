@@ -10,11 +10,10 @@ use crate::rows::reach_all;
 use crate::show::Counts;
 use crate::show::show_all;
 use entries::zero;
+use sizes::largest_answer;
 use sizes::room_answer;
 use sizes::scratch_test;
 use timing::GraphMade;
-use timing::MAX_COPIES;
-use timing::MAX_COPY_EDGES;
 use timing::Refusal;
 use timing::Verdict;
 
@@ -239,12 +238,7 @@ pub(crate) fn size(
     match searched {
         Searched::Found(finding) => {
             zero(scratch);
-            room_answer(
-                finding.counts.copies,
-                finding.counts.edges,
-                MAX_COPIES,
-                MAX_COPY_EDGES,
-            )
+            largest_answer(finding.counts.copies, finding.counts.edges)
         }
         Searched::Refused(r) => GraphMade::Refused(r),
     }

@@ -7,7 +7,7 @@ ghost use Rattle.timing.specs.Refusals.{_then_};
 ghost use Rattle.timing.specs.Graphs.{design};
 ghost use Rattle.timing.specs.Marks.{pathList};
 ghost use Rattle.timing.specs.Tests.{edgeSizes, designSizes, timeSizes, listSizes, wordsTest, countTests};
-ghost use Rattle.timing.specs.Calls.{countsAnswer};
+ghost use Rattle.timing.specs.Calls.{largestRoom, countsAnswer};
 use entries::least;
 use timing::GraphMade;
 use timing::MAX_COPIES;
@@ -108,4 +108,11 @@ pub fn room_answer(copies: usize, edges: usize, node_room: usize, edge_room: usi
         Verdict::Passed => GraphMade::Counts { copies, edges },
         Verdict::Refused(r) => GraphMade::Refused(r),
     }
+}
+
+// The same in the largest room, where none is lent: a size that is told.
+pub fn largest_answer(copies: usize, edges: usize) -> GraphMade
+    ensures { λ r. ⌜ r ≡ countsAnswer (countTests copies edges (largestRoom .nodes) (largestRoom .starts)) copies edges ⌝ }
+{
+    room_answer(copies, edges, MAX_COPIES, MAX_COPY_EDGES)
 }

@@ -128,7 +128,7 @@ removeFromGraph D S r =
     (trueGraph G (pathsOf (r .list)))
 
 -- "One call tells how many copies and edges the result has" (02, request 8): what it answers, and leaves in the scratch, is what removal does in
--- the largest room, so that 33 or 34 come "only where the result passes 16,384 copies or 65,536 edges". It is lent no room; ℕ is the scratch.
+-- the largest room, so that 33 or 34 come "only where the result passes 16,384 copies or 65,536 edges". It is lent no room; ℕ is the words of its scratch.
 abbrev pub largestRoom : Room
 largestRoom = record { nodes = 16384; endpoints = 16384; starts = 65536; ends = 65536; names = 65536 }
 

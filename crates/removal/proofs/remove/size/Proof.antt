@@ -15,8 +15,8 @@ enum-known-searched c = search needs
 zero-requires : tie.Need-zero-requires
 zero-requires c κs = search needs
 
-room-answer-requires : tie.Need-room-answer-requires
-room-answer-requires c κs = search needs
+largest-answer-requires : tie.Need-largest-answer-requires
+largest-answer-requires c κs = search needs
 
 enum-known-searched-2 : tie.Need-enum-known-searched-2
 enum-known-searched-2 c = search needs
@@ -32,7 +32,7 @@ returns c =
     let found = subst (AllSearched (a .starts .now) (a .listed .now) (a .lengths .now) (a .nodes .now) (a .endpoint .now) (a .from .now) (a .to .now) (a .via .now) (a .scratch .now) (s .last .1 .1 .1 .1 .1 .1 .1 .1 .0)) (v .1) (s .ensures) in
     let z = c .before .before .before .zero in
     sized-made (a .starts .now) (a .listed .now) (a .lengths .now) (a .nodes .now) (a .endpoint .now) (a .from .now) (a .to .now) (a .via .now) (a .scratch .now) (s .last .1 .1 .1 .1 .1 .1 .1 .1 .0) (z .last .0) (v .0 .0 .layout) (v .0 .0 .counts .copies) (v .0 .0 .counts .edges)
-    (found .0) (found .1) (z .ensures) (c .room-answer .result) (c .room-answer .ensures)
+    (found .0) (found .1) (z .ensures) (c .largest-answer .result) (c .largest-answer .ensures)
 
 same-length-2 : tie.Need-same-length-2
 same-length-2 c = search needs
@@ -52,7 +52,7 @@ size-spec =
     search-requires
     enum-known-searched
     zero-requires
-    room-answer-requires
+    largest-answer-requires
     enum-known-searched-2
     same-length
     returns
