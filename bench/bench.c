@@ -6,7 +6,8 @@
  * rounds, and the best round counts; time is the processor's, so that other processes disturb less. Both are lent rooms and scratch of
  * the same size, the scratch of just the size that test 31 asks for, and both clear it. The two results are compared before any time is
  * taken. Two tables double the list and say how the cost grows. One has each removal told and then filled, and says how telling compares
- * with filling, of the C program and of the library. Exit status 1 where results differ. */
+ * with filling, of the C program and of the library; one does the same for whether a graph is late and all its times. Exit status 1 where
+ * results differ. */
 #define _POSIX_C_SOURCE 199309L
 #include "inputs.h"
 #include "reference.h"
@@ -28,13 +29,14 @@ typedef struct {
     __typeof__(jaqhweni_size_from_design) *size_from_design;
     __typeof__(jaqhweni_size_from_graph) *size_from_graph;
     __typeof__(jaqhweni_times) *times;
+    __typeof__(jaqhweni_late) *late;
     __typeof__(jaqhweni_write_graph) *write_graph;
 } calls;
 
 static const calls LIBRARY = {jaqhweni_true_graph, jaqhweni_remove_from_design, jaqhweni_remove_from_graph, jaqhweni_size_from_design,
-                              jaqhweni_size_from_graph, jaqhweni_times, jaqhweni_write_graph};
+                              jaqhweni_size_from_graph, jaqhweni_times, jaqhweni_late, jaqhweni_write_graph};
 static const calls REFERENCE = {reference_true_graph, reference_remove_from_design, reference_remove_from_graph, reference_size_from_design,
-                                reference_size_from_graph, reference_times, reference_write_graph};
+                                reference_size_from_graph, reference_times, reference_late, reference_write_graph};
 
 /* ---- Work ---------------------------------------------------------------------------------------------------------------------- */
 
@@ -46,6 +48,7 @@ static uint32_t *scratch;
 static uint8_t deck[JAQHWENI_MAX_DECK_BYTES], packed[2][ROOM_BYTES];
 static size_t deck_length;
 static int64_t times[2][4][ROOM_COPIES];
+static uint32_t allowed = 1000000;
 
 static int64_t remove_list(const calls *by, const path_list *l, const graph *old, graph *room, size_t scratch_length)
 {
@@ -113,9 +116,17 @@ static int64_t do_times(int which)
 {
     int64_t (*t)[ROOM_COPIES] = times[which];
     return (which ? LIBRARY : REFERENCE).times(d.n, d.starts, d.m, d.ends, d.m, d.early, d.m, d.late, d.m, d.marked, d.marked_nodes,
-                                               1000000, earlier.nodes, earlier.copies, earlier.endpoint, earlier.copies, earlier.from,
+                                               allowed, earlier.nodes, earlier.copies, earlier.endpoint, earlier.copies, earlier.from,
                                                earlier.edges, earlier.to, earlier.edges, earlier.via, earlier.edges, t[0], earlier.copies,
                                                t[1], earlier.copies, t[2], earlier.copies, t[3], earlier.copies);
+}
+
+static int64_t do_late(int which)
+{
+    return (which ? LIBRARY : REFERENCE).late(d.n, d.starts, d.m, d.ends, d.m, d.early, d.m, d.late, d.m, d.marked, d.marked_nodes,
+                                              allowed, earlier.nodes, earlier.copies, earlier.endpoint, earlier.copies, earlier.from,
+                                              earlier.edges, earlier.to, earlier.edges, earlier.via, earlier.edges, times[which][0],
+                                              earlier.copies);
 }
 
 static int64_t do_write(int which)
@@ -142,7 +153,7 @@ static double time_of(work w, int which, size_t repeats)
     return (now() - begin) / (double)repeats;
 }
 
-static double worst_ratio, slowest, worst_telling;
+static double worst_ratio, slowest, worst_telling, worst_late;
 static double best[2];                              /* of the last line: the reference's time, the library's, */
 static int64_t answers[2];                          /* and their answers */
 static int differ;
@@ -171,6 +182,8 @@ static double measure(const char *name, work w)
     if (answers[0] < 0) snprintf(made, sizeof made, "refused %d", (int)(-answers[0] % 256));
     else if (w == do_deck || w == do_write) snprintf(made, sizeof made, "%d bytes", (int)answers[0]);
     else if (w == do_times) snprintf(made, sizeof made, "%zu copies", earlier.copies);
+    else if (w == do_late && answers[0] == 0) snprintf(made, sizeof made, "on time");
+    else if (w == do_late) snprintf(made, sizeof made, "late at copy %d", (int)answers[0] - 1);
     else snprintf(made, sizeof made, "%d copies, %d edges", (int)(uint32_t)answers[0], (int)(answers[0] >> 32));
     if (answers[0] != answers[1] || !same_results()) {
         printf("%-44s %-28s RESULTS DIFFER\n", name, made);
@@ -432,6 +445,36 @@ static void telling(void)
     told_and_filled("16,384 copies, 1,024 paths of 8 (33)", &earlier);
 }
 
+/* Whether the earlier graph is late at such an allowed time, and all its times. */
+static void late_and_times(const char *name, uint32_t allowed_time)
+{
+    char line[80];
+    double asked[2];
+    allowed = allowed_time;
+    snprintf(line, sizeof line, "late: %zu copies, %s", earlier.copies, name);
+    measure(line, do_late);
+    memcpy(asked, best, sizeof asked);
+    measure("all times", do_times);
+    if (differ) return;
+    printf("%-44s %-28s %11.2f %11.2f\n", "", "late / all times", asked[0] / best[0], asked[1] / best[1]);
+    if (asked[1] / best[1] > worst_late) worst_late = asked[1] / best[1];
+}
+
+/* Delays are below 0 as often as above, so that at 0 one of the first marked nodes is late. Without marked nodes there is one endpoint, the
+ * last copy. */
+static void late_or_not(void)
+{
+    printf("\nA graph is late or not, and has times:\n");
+    random_design(&d, 4096, 16384, 64);
+    random_paths(&list, &d, 1024, 8);
+    make_earlier(&list);
+    late_and_times("never", 1000000000);
+    mark_every(&d, 8);
+    make_earlier(&list);
+    late_and_times("marked, never", 1000000000);
+    late_and_times("marked, early", 0);
+}
+
 static void packing(void)
 {
     full_graph(&d, &earlier);
@@ -453,7 +496,9 @@ int main(void)
     growth();
     packing();
     telling();
+    late_or_not();
     printf("\ntelling takes at most %.2f of filling, by the library, where something is filled", worst_telling);
+    printf("\nlate or not takes at most %.2f of all times, by the library", worst_late);
     printf("\nlargest ratio %.2f (* marks those above 1.25); slowest call %.1f ms\n", worst_ratio, 1e3 * slowest);
     free(scratch);
     return differ;

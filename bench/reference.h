@@ -11,6 +11,7 @@ extern __typeof__(jaqhweni_remove_from_graph) reference_remove_from_graph;
 extern __typeof__(jaqhweni_size_from_design) reference_size_from_design;
 extern __typeof__(jaqhweni_size_from_graph) reference_size_from_graph;
 extern __typeof__(jaqhweni_times) reference_times;
+extern __typeof__(jaqhweni_late) reference_late;
 extern __typeof__(jaqhweni_write_graph) reference_write_graph;
 
 /* Their parameters, for whoever defines one of either name; the compiler holds these to jaqhweni.h. */
@@ -26,9 +27,10 @@ extern __typeof__(jaqhweni_write_graph) reference_write_graph;
     uint32_t *room_nodes, size_t room_nodes_length, uint32_t *room_endpoint, size_t room_endpoint_length, uint32_t *room_from,  \
         size_t room_from_length, uint32_t *room_to, size_t room_to_length, uint32_t *room_via, size_t room_via_length,          \
         SCRATCH_PARAMETERS
+#define ARRIVAL_PARAMETERS int64_t *arrivals, size_t arrivals_length
 #define TIME_PARAMETERS                                                                                                         \
-    int64_t *arrivals, size_t arrivals_length, int64_t *requireds, size_t requireds_length, int64_t *slacks,                    \
-        size_t slacks_length, int64_t *earliests, size_t earliests_length
+    ARRIVAL_PARAMETERS, int64_t *requireds, size_t requireds_length, int64_t *slacks, size_t slacks_length, int64_t *earliests, \
+        size_t earliests_length
 
 /* The same as arguments. */
 #define EDGE_SLICES n, starts, starts_length, ends, ends_length, early, early_length, late, late_length
@@ -39,8 +41,8 @@ extern __typeof__(jaqhweni_write_graph) reference_write_graph;
 #define ROOM_SLICES                                                                                                           \
     room_nodes, room_nodes_length, room_endpoint, room_endpoint_length, room_from, room_from_length, room_to, room_to_length, \
         room_via, room_via_length, SCRATCH_SLICE
-#define TIME_SLICES                                                                                                           \
-    arrivals, arrivals_length, requireds, requireds_length, slacks, slacks_length, earliests, earliests_length
+#define ARRIVAL_SLICE arrivals, arrivals_length
+#define TIME_SLICES ARRIVAL_SLICE, requireds, requireds_length, slacks, slacks_length, earliests, earliests_length
 
 /* For the stand-in (stand_in.c): what the sizes are told from, the counts of a result of any size or a refusal up to 31; and these with 33
  * and 34 for the limits. */

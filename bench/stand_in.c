@@ -172,7 +172,7 @@ int64_t jaqhweni_size_from_graph(DESIGN_PARAMETERS, LIST_PARAMETERS, GRAPH_PARAM
     if (FAULT == 50) return jaqhweni_size_from_design(DESIGN_SLICES, LIST_SLICES, SCRATCH_SLICE);       /* tells of the design */
     int64_t made = reference_count_from_graph(DESIGN_SLICES, LIST_SLICES, GRAPH_SLICES, SCRATCH_SLICE);
     if (FAULT == 51 && made == -32) return (int64_t)nodes_length + ((int64_t)from_length << 32);        /* does not look at the graph */
-    if (FAULT == 52 && made == -30 && nodes_length != endpoint_length) return -32;
+    if (FAULT == 52 && made == -30 && nodes_length != endpoint_length) return -32;                      /* 32 where 30 is due */
     if (FAULT == 53 && made > 0 && nodes_length > 0) ((uint32_t *)(uintptr_t)endpoint)[0] ^= 1;         /* writes what is lent to read */
     return tell(made, nodes_length + listed_length - lengths_length, SCRATCH_SLICE);
 }
@@ -201,6 +201,75 @@ int64_t jaqhweni_times(DESIGN_PARAMETERS, uint32_t allowed, GRAPH_PARAMETERS, TI
     }
     if ((FAULT == 26 || FAULT == 27) && made == 0) require_otherwise(allowed, late, GRAPH_SLICES, arrivals, requireds, slacks);
     if (FAULT == 31 && made == -30 && nodes_length != endpoint_length) return -32;
+    return made;
+}
+
+static int64_t unseen[JAQHWENI_MAX_COPIES];        /* arrivals that are not the caller's */
+
+/* Late or not with an error put in, of what has passed the tests: from the times of all copies. */
+static int64_t late_otherwise(DESIGN_PARAMETERS, uint32_t allowed, GRAPH_PARAMETERS, int64_t *arrivals)
+{
+    static int64_t all[4][JAQHWENI_MAX_COPIES];
+    static uint8_t goes_on[JAQHWENI_MAX_COPIES];
+    size_t copies = nodes_length, stop = copies;
+    if (FAULT == 61) late = early;                                                          /* by early delays */
+    reference_times(DESIGN_SLICES, allowed, GRAPH_SLICES, all[0], copies, all[1], copies, all[2], copies, all[3], copies);
+    memset(goes_on, 0, copies);
+    for (size_t e = 0; e < from_length; e++) goes_on[from[e]] = 1;
+    for (size_t c = 0; c < copies; c++) {
+        if (FAULT == 62 && all[0][c] < 0) all[0][c] = 0;                                    /* the largest arrival starts from 0 */
+        int end = endpoint[c] == 1, above = all[0][c] > allowed;
+        if (FAULT == 54) above = all[0][c] >= allowed;                                      /* late at T itself */
+        if (FAULT == 55) end = 1;                                                           /* every copy is taken for an end */
+        if (FAULT == 63) end = !goes_on[c];                                                 /* no copy with an edge out is */
+        if (FAULT == 64) above = (int32_t)all[0][c] > (int32_t)allowed;                     /* arrivals of 32 bits */
+        if (FAULT == 65) end = 1, above = all[2][c] < 0;                                    /* the first slack below 0 */
+        if (end && above && (stop == copies || FAULT == 57)) stop = c;                      /* 57: the last late end */
+    }
+    for (size_t c = 0; c < copies && (c <= stop || FAULT == 56); c++)                       /* 56: writes places after the copy */
+        if (!(FAULT == 59 && !endpoint[c]) && !(FAULT == 66 && c == stop))                  /* 59: writes only where paths end */
+            arrivals[c] = all[0][c];                                                        /* 66: not at the copy itself */
+    if (FAULT == 67 && stop < copies) return 1 + (int64_t)nodes[stop];                      /* the node */
+    return stop == copies ? 0 : (int64_t)stop + (FAULT != 58);                              /* 58: the copy's number, and not 1 more */
+}
+
+/* What is refused, with a test left out, or made before another. */
+static int64_t refuse_otherwise(int64_t made, DESIGN_PARAMETERS, uint32_t allowed, GRAPH_PARAMETERS, ARRIVAL_PARAMETERS)
+{
+    int number = (int)(-made % 256);
+    if (FAULT == 60 && arrivals_length > 0) arrivals[0] = 0;                                /* writes on a refusal */
+    if (FAULT == 68 && number == 30 && arrivals_length > nodes_length)                      /* a longer slice is taken */
+        return reference_late(DESIGN_SLICES, allowed, GRAPH_SLICES, arrivals, nodes_length);
+    if (FAULT == 69 && number == 30 && arrivals_length < nodes_length) {                    /* a shorter one, and filled */
+        made = reference_late(DESIGN_SLICES, allowed, GRAPH_SLICES, unseen, nodes_length);
+        if (made >= 0) memcpy(arrivals, unseen, arrivals_length * sizeof *unseen);
+    }
+    if (FAULT == 70 && number == 30 && nodes_length != endpoint_length) return -32;         /* 32 where 30 is due */
+    if (FAULT == 71 && number == 30 && n > JAQHWENI_MAX_NODES) return -10;                  /* 10 before 30 */
+    if (FAULT == 72 && number == 15) {                                                      /* without 15 */
+        early = late;
+        return reference_late(DESIGN_SLICES, allowed, GRAPH_SLICES, ARRIVAL_SLICE);
+    }
+    if (FAULT == 73 && number == 16)                                                        /* without 16 */
+        return reference_late(EDGE_SLICES, marked, 0, allowed, GRAPH_SLICES, ARRIVAL_SLICE);
+    if (FAULT == 74 && number < 17 && allowed > 1000000000) return -25;                     /* 25 before 10 to 16 */
+    if (FAULT == 75 && number == 25)                                                        /* without 25 */
+        return reference_late(DESIGN_SLICES, 1000000000, GRAPH_SLICES, ARRIVAL_SLICE);
+    if (FAULT == 76 && number == 25 && reference_late(DESIGN_SLICES, 0, GRAPH_SLICES, unseen, arrivals_length) == -32)
+        return -32;                                                                         /* 32 before 25 */
+    if (FAULT == 77 && number == 32) return 0;                                              /* without 32 */
+    if (FAULT == 78) return -number;                                                        /* loses the place */
+    return made;
+}
+
+int64_t jaqhweni_late(DESIGN_PARAMETERS, uint32_t allowed, GRAPH_PARAMETERS, ARRIVAL_PARAMETERS)
+{
+    if (FAULT < 54) return reference_late(DESIGN_SLICES, allowed, GRAPH_SLICES, ARRIVAL_SLICE);
+    int64_t made = reference_late(DESIGN_SLICES, allowed, GRAPH_SLICES, unseen, arrivals_length);
+    if (made < 0) return refuse_otherwise(made, DESIGN_SLICES, allowed, GRAPH_SLICES, ARRIVAL_SLICE);
+    made = late_otherwise(DESIGN_SLICES, allowed, GRAPH_SLICES, arrivals);
+    if (FAULT == 79 && nodes_length > 0) ((uint32_t *)(uintptr_t)endpoint)[0] ^= 1;         /* writes what is lent to read */
+    if (FAULT == 80) arrivals[arrivals_length] = 0;                                         /* one place past the slice */
     return made;
 }
 

@@ -1,7 +1,8 @@
 /* A design and a false path, packed, given to jaqhweni_true_graph, and the true graph that comes back, unpacked and printed. Then the same
  * from plain arrays: jaqhweni_size_from_design tells how many copies and edges there will be, just so much is allocated, and
  * jaqhweni_remove_from_design fills it; jaqhweni_write_graph packs it: the same bytes. Then a further list on that graph, told and filled
- * in the same way; a hold check, by jaqhweni_times; and last the slack at an observed pin, with and without the logic behind it.
+ * in the same way; a hold check, by jaqhweni_times; the slack at an observed pin, with and without the logic behind it; and last, by
+ * jaqhweni_late, whether any path takes too long.
  *
  *     cc -std=c11 -Wall -Wextra -Werror -I include examples/true_graph.c target/staticlib/libjaqhweni.a -o true_graph && ./true_graph
  *
@@ -13,7 +14,10 @@
  * 1, 2 and 1, 2, 4 are, at nodes 2 and 4.
  *
  * The signal is at the pin at 5, and may be there at 10. The logic behind the pin wants it at 9, which leaves a slack of 4. If that logic
- * is never exercised (edges 2 and 3 are listed), the slack is 5; were it not marked, no path would then lead to the pin. */
+ * is never exercised (edges 2 and 3 are listed), the slack is 5; were it not marked, no path would then lead to the pin.
+ *
+ * No path takes longer than 10. None takes longer than 6 either, as the path 1, 2, 3, which would take 7, is false. With 4 allowed, the
+ * pin is the first endpoint that is late. */
 #include "jaqhweni.h"
 
 #include <stdio.h>
@@ -230,6 +234,20 @@ static void print_slack_at_pin(const char *when, const path_list *l, size_t mark
     free_graph(&g);
 }
 
+/* Late or not needs one slice of arrivals alone. The answer is 0, or 1 + the copy where it stopped; what is behind that copy was not
+ * written. */
+static void print_late(const graph *g, uint32_t allowed_time)
+{
+    int64_t *arrivals = allocated(g->copies, sizeof *arrivals);
+    size_t answer = or_stop(jaqhweni_late(
+        NODES, starts, EDGES, ends, EDGES, early, EDGES, late, EDGES, marked, 1, allowed_time,
+        g->nodes, g->copies, g->endpoint, g->copies, g->from, g->edges, g->to, g->edges, g->via, g->edges, arrivals, g->copies));
+    if (answer == 0) printf("%u allowed: nothing is late\n", allowed_time);
+    else printf("%u allowed: late at copy %zu node %u, arrival %d\n",
+                allowed_time, answer - 1, g->nodes[answer - 1], (int)arrivals[answer - 1]);
+    free(arrivals);
+}
+
 int main(void)
 {
     packed made = from_deck(&false_path);
@@ -254,6 +272,9 @@ int main(void)
     print_slack_at_pin("with the logic behind it", &false_path, 1);
     print_slack_at_pin("without that logic", &behind_the_pin, 1);
     print_slack_at_pin("without that logic, not marked", &behind_the_pin, 0);
+    print_late(&g, ALLOWED_TIME);
+    print_late(&g, 6);
+    print_late(&g, 4);
     free_graph(&g);
     free_graph(&further);
     return same && place == made.length ? 0 : 1;

@@ -9,6 +9,10 @@
  * edges between copies, and says of each copy whether paths end at it. Its paths run from a source copy (a copy without an edge in) to a
  * copy where paths end, and are the design's paths that contain no listed path, each once, with both delays unchanged.
  *
+ * jaqhweni_true_graph makes the graph of a packed deck. From plain arrays jaqhweni_remove_from_design and jaqhweni_remove_from_graph make
+ * one, and jaqhweni_size_from_design and jaqhweni_size_from_graph tell how large it will be. Of a graph jaqhweni_times gives the times,
+ * jaqhweni_late says whether any path takes too long, and jaqhweni_write_graph packs it.
+ *
  * Link with libjaqhweni.a. No function allocates, keeps anything between calls or reads anything but its arguments, so calls on separate
  * buffers may run on separate threads. How much stack a call takes is said below. A slice is a pointer and its count of elements (not
  * bytes). The pointer must be valid for that many elements, and not null even where the count is 0. Slices that a call writes must
@@ -38,7 +42,8 @@
  *         23  path          a listed path names an edge that is not below m
  *         24  path          a listed path has an edge that does not start where the one before ends
  *         25  0             the allowed time is above 1,000,000,000
- *         30  0             slices that belong together differ in length, or the lengths of the paths do not add up to the listed edges
+ *         30  0             slices that belong together (of a design's edges; of a graph's or a room's copies, with the times of these; of
+ *                           a graph's or a room's edges) differ in length, or the lengths of the paths do not add up to the listed edges
  *         31  0             the scratch is too short
  *         32  0             the graph given is not a well-formed true graph of the design (below)
  *         33  0             the result has more copies than the room, or than 16,384
@@ -81,13 +86,14 @@ extern "C" {
 #define JAQHWENI_WORDS_PER_UNIT 8
 
 /* The most stack that a call takes, in bytes, whatever it is given: as measured at the limits (tests/stack.c), rounded up. Telling a
- * size is held to the removal's promise. */
+ * size is held to the removal's promise, and late or not to that of times. */
 #define JAQHWENI_STACK_TRUE_GRAPH 393216
 #define JAQHWENI_STACK_REMOVE_FROM_DESIGN 278528
 #define JAQHWENI_STACK_REMOVE_FROM_GRAPH 196608
 #define JAQHWENI_STACK_SIZE_FROM_DESIGN JAQHWENI_STACK_REMOVE_FROM_DESIGN
 #define JAQHWENI_STACK_SIZE_FROM_GRAPH JAQHWENI_STACK_REMOVE_FROM_GRAPH
 #define JAQHWENI_STACK_TIMES 49152
+#define JAQHWENI_STACK_LATE JAQHWENI_STACK_TIMES
 #define JAQHWENI_STACK_WRITE_GRAPH 4096
 
 /* From a packed deck to its packed true graph.
@@ -243,6 +249,32 @@ int64_t jaqhweni_times(
     int64_t *requireds, size_t requireds_length,
     int64_t *slacks, size_t slacks_length,
     int64_t *earliests, size_t earliests_length);
+
+/* Late or not: whether any path of a true graph takes longer than the allowed time, by late delays, as a sizing loop asks after each
+ * change. Of a graph that removals made from the design, these are the design's paths that contain no listed path; of one from elsewhere,
+ * its own. The slices are those of jaqhweni_times with `arrivals` alone to be written, which has one place for each copy.
+ *
+ * Arrivals are found copy by copy, from the first on, up to the first copy with endpoint number 1 whose arrival is above the allowed time.
+ * An arrival of just the allowed time is not late, and neither is one above it where no path ends, since delays below zero may follow.
+ * The answer is late if and only if jaqhweni_times gives a slack below zero somewhere. All tests come first, so that stopping early saves
+ * part of the pass alone.
+ *
+ * Returns 0 where nothing is late; `arrivals` then holds the arrival of every copy. Else returns 1 + the number of that copy; `arrivals`
+ * then holds the arrivals of the copies up to it, and places after these are unchanged. */
+int64_t jaqhweni_late(
+    uint32_t n,
+    const uint32_t *starts, size_t starts_length,
+    const uint32_t *ends, size_t ends_length,
+    const int32_t *early, size_t early_length,
+    const int32_t *late, size_t late_length,
+    const uint32_t *marked, size_t marked_length,
+    uint32_t allowed,
+    const uint32_t *nodes, size_t nodes_length,
+    const uint32_t *endpoint, size_t endpoint_length,
+    const uint32_t *from, size_t from_length,
+    const uint32_t *to, size_t to_length,
+    const uint32_t *via, size_t via_length,
+    int64_t *arrivals, size_t arrivals_length);
 
 /* A true graph as jaqhweni_true_graph packs it. Tested are 30, 32 for the counts (16,384 copies, 65,536 edges) and for endpoint numbers
  * above 1, and 35: other numbers of any size are packed. A well-formed graph takes at most 3 bytes for each copy, 6 for each edge and 6

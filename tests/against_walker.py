@@ -41,11 +41,11 @@ BUILT = HERE / "target" / "against_walker"
 LIBRARY = HERE / "target" / "staticlib" / "libjaqhweni.a"
 PROGRAM = HERE / "target" / "bin" / "deck_program"
 (TRUE_GRAPH, REMOVE_FROM_DESIGN, REMOVE_FROM_GRAPH, TIMES, WRITE_GRAPH, SIZE_FROM_DESIGN, SIZE_FROM_GRAPH, FILL_FROM_DESIGN,
- FILL_FROM_GRAPH) = range(9)
+ FILL_FROM_GRAPH, LATE) = range(10)
 PARTS = ["decks", "fixed", "random"]
 LEAST_DECKS = 2000          # random cases end when the time is over, but not before so many decks
 LEAST = {"decks": {"decks printed": LEAST_DECKS}, "random": {"decks": LEAST_DECKS, "random series": LEAST_DECKS // 4}}
-FAULTS = range(1, 54)       # bench/stand_in.c and bench/reference_deck.c
+FAULTS = range(1, 81)       # bench/stand_in.c and bench/reference_deck.c
 VALGRIND = ["valgrind", "--quiet", "--error-exitcode=9", "--main-stacksize=33554432", "--max-stackframe=16777216"]
 BATCH, BATCH_BYTES = 400, 1 << 24       # requests to the runner at a time
 
@@ -101,12 +101,21 @@ def write_call(name, graph, room, refusal, result):
     return bytes_request(name, WRITE_GRAPH, graph_bytes(graph), room, answer, result)
 
 
-def times_call(name, design, graph, allowed_time, lengths, refusal, times):
-    """`lengths` are those of the four slices for times, `times` what they hold where nothing is refused."""
+def timed_request(name, call, design, graph, allowed_time, lengths, refusal, answer, times):
+    """A call that writes times. `lengths` are those of the slices for them, `times` what stands in front of these where it is not refused."""
     before = [[-1_000_000_000_000 * (which + 1) - place for place in range(length)] for which, length in enumerate(lengths)]
-    sent = words([TIMES]) + design_bytes(design) + words([allowed_time]) + graph_bytes(graph) + words(lengths)
-    after = (array.array("q", part).tobytes() for part in (before if refusal else times))
-    return Request(name, sent, refusal_answer(refusal) if refusal else 0, *after)
+    sent = words([call]) + design_bytes(design) + words([allowed_time]) + graph_bytes(graph) + words(lengths)
+    after = before if refusal else map(walker.lent_after, before, times)
+    return Request(name, sent, refusal_answer(refusal) if refusal else answer, *(array.array("q", part).tobytes() for part in after))
+
+
+def times_call(name, design, graph, allowed_time, lengths, refusal, times):
+    return timed_request(name, TIMES, design, graph, allowed_time, lengths, refusal, 0, times)
+
+
+def late_call(name, design, graph, allowed_time, length, refusal, copy, arrivals):
+    """`copy` is where it is late, or None; the answer is 1 more than that, or 0."""
+    return timed_request(name, LATE, design, graph, allowed_time, [length], refusal, 0 if copy is None else 1 + copy, [arrivals])
 
 
 def list_request(name, calls, design, path_list, earlier, lengths, refusal, counts, *after):
@@ -161,6 +170,11 @@ def write_request(name, graph, room):
 def times_request(name, design, graph, allowed_time, lengths):
     refusal, found = outcome((), walker.times, design, graph, allowed_time, lengths)
     return times_call(name, design, graph, allowed_time, lengths, refusal, [[at_copy[part] for at_copy in found] for part in range(4)])
+
+
+def late_request(name, design, graph, allowed_time, length):
+    refusal, (copy, arrivals) = outcome((None, ()), walker.late, design, graph, allowed_time, length)
+    return late_call(name, design, graph, allowed_time, length, refusal, copy, arrivals)
 
 
 class Recorded(Series):
@@ -241,7 +255,7 @@ def of_removal_cases():
 
 
 def random_series(rng):
-    """One random series, then the times of what is held at its end."""
+    """One random series, then the times of what is held at its end, and whether it is late."""
     plain, removal_cases.Series = removal_cases.Series, Recorded
     try:
         series = next(removal_cases.random_cases(rng, 1))
@@ -252,12 +266,22 @@ def random_series(rng):
     if series.held is not None:
         yield from of_graph("what is held", series.held, (rng.choice((-1, 9)), 0))
         allowed = rng.choice((0, 7, 1_000_000_000, 1_000_000_001))
-        yield "further calls of these", times_request("times", series.design, series.held, allowed, [len(series.held.copy_nodes)] * 4)
+        if rng.random() < 0.5 and walker.refusal_of(walker.times, series.design, series.held, 0, ()) is None:
+            allowed = times_cases.near_arrivals(rng, series.design, series.held)
+        yield from of_times("further calls of these", series.design, series.held, allowed)
+
+
+def of_times(kind, design, graph, allowed_time):
+    """The times of a graph, and whether it is late."""
+    copies = len(graph.copy_nodes)
+    yield kind, times_request("times", design, graph, allowed_time, [copies] * 4)
+    yield kind, late_request("late", design, graph, allowed_time, copies)
 
 
 def of_unfit_graphs():
     for given in times_cases.cases():
         yield "graphs", times_request("times", given.design(), given.graph(), given.allowed, given.rooms)
+        yield "graphs", late_request("late", given.design(), given.graph(), given.allowed, given.lent)
         yield from of_graph("a graph of times_cases", given.graph(), (0,))
 
 
@@ -311,6 +335,15 @@ def full_graph():
     return design, earlier, decks.path_list_of([[one[1], b, c] for b in two[:8] for c in three[:8]])
 
 
+def one_too_many(design, graph):
+    """The graph of full_graph(), with one more node by itself, and with one more edge beside its last: well formed but for the counts."""
+    yield (design._replace(nodes=design.nodes + 1),
+           graph._replace(copy_nodes=[*graph.copy_nodes, design.nodes], endpoints=[*graph.endpoints, 1]))
+    beside = {part: [*getattr(design, part), getattr(design, part)[-1]] for part in ("starts", "ends", "early", "late")}
+    yield (design._replace(**beside),
+           Graph(*graph[:2], [*graph.starts, graph.starts[-1]], [*graph.ends, graph.ends[-1]], [*graph.design_edges, len(design.starts)]))
+
+
 def at_the_limits():
     """Full limits, on designs whose paths can still be walked."""
     def done(series):
@@ -341,18 +374,31 @@ def at_the_limits():
     series = Recorded(design, "from a graph at its limits")
     thresholds(series, GIVEN, path_list, earlier)
     yield from done(series)
+    for allowed_time, is_late in ((18, False), (17, True)):                     # the slowest paths take 18
+        assert (walker.late(design, earlier, allowed_time, 16384)[0] is not None) == is_late
+        yield from of_times("limits", design, earlier, allowed_time)
+    for design, graph in one_too_many(design, earlier):
+        assert walker.refusal_of(walker.times, design, graph, 18, ()) == (32, 0)
+        with mock.patch.multiple(walker, MOST_COPIES=16385, MOST_GRAPH_EDGES=65537):
+            assert walker.is_well_formed(design, graph)
+        yield from of_times("limits", design, graph, 18)
+    # 11, before 25
+    design = design_of(2, [(0, 1, 0)] * 16385)
+    assert walker.refusal_of(walker.times, design, Graph([], [], [], [], []), 1_000_000_001, ()) == (11, 0)
+    yield from of_times("limits", design, Graph([], [], [], [], []), 1_000_000_001)
     series = Recorded(design_of(2, [(0, 1, -k % 9, 9) for k in range(16384)]), "16,384 parallel edges")
     thresholds(series, DESIGN, decks.path_list_of([[16 * k] for k in range(1024)]))
     thresholds(series, HELD, decks.path_list_of([[16 * k + 1] for k in range(1024)]))
     yield from done(series)
-    yield "limits", times_request("times", series.design, series.held, 9, [2] * 4)
+    for allowed_time in (9, 8):                                                 # every edge takes up to 9
+        yield from of_times("limits", series.design, series.held, allowed_time)
     # the design at its limits, with marked nodes: each third node of a row, so that paths end in the middle and at the end of listed ones
     design, path_list, further = full_design()
     series = Recorded(design._replace(marked=[node for node in range(4096) if node % 9 in (2, 5, 8)]), "a design at its limits, with marked nodes")
     thresholds(series, DESIGN, path_list)
     thresholds(series, HELD, further)
     yield from done(series)
-    yield "limits", times_request("times", series.design, series.held, 9, [len(series.held.copy_nodes)] * 4)
+    yield from of_times("limits", series.design, series.held, 9)
     # 1,024 paths and 8,192 listed edges on a chain with two edges doubled
     chain = decks.braid(4095, (0, 2000), [])
     paths = [[k] + list(range(k + 1, k + 8)) for k in range(0, 4088, 4)]
@@ -362,7 +408,7 @@ def at_the_limits():
         chain.design, decks.path_list_of([list(range(0, 60)), list(range(1990, 2050))]), None))
     thresholds(series, HELD, decks.path_list_of([list(range(1970, 2040))]))
     yield from done(series)
-    yield "limits", times_request("times", series.design, series.held, 1_000_000_000, [len(series.held.copy_nodes)] * 4)
+    yield from of_times("limits", series.design, series.held, 1_000_000_000)
     # 1,024 listed pairs and more of them: 8,192 listed edges in 1,024 paths through eight edges in a row, many of them doubled at the end
     row = decks.deck_of(9, [(k, k + 1, k) for k in range(7)] + [(7, 8, k) for k in range(1025)] + [(0, 1, 9), (0, 4, 9)], [], 0).design
     paths = decks.path_list_of([list(range(7)) + [7 + k] for k in range(1024)])

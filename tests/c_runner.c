@@ -4,9 +4,9 @@
  *
  * A request is 32-bit words, lowest byte first: which call, and its arguments in order. A number is a word; a slice that is only read is
  * its length and its elements (bytes are padded to a whole word); a slice to be written is its length. Calls: 0 true_graph, 1
- * remove_from_design, 2 remove_from_graph, 3 times, 4 write_graph, 5 size_from_design, 6 size_from_graph. 7 and 8 are 5 and 6 and then,
- * with the same scratch, the removal into a room of just the told lengths: the removal's answer, or, where telling is refused, that
- * refusal.
+ * remove_from_design, 2 remove_from_graph, 3 times, 4 write_graph, 5 size_from_design, 6 size_from_graph, 9 late. 7 and 8 are 5 and 6 and
+ * then, with the same scratch, the removal into a room of just the told lengths: the removal's answer, or, where telling is refused,
+ * that refusal.
  *
  * Before the call, a slice to be written is set to a pattern: byte k is 37 k + 11; word k of the j-th such slice is 3,000,000,000 +
  * 100,000,000 j + k mod 65,536; time k of the j-th is -1,000,000,000,000 (j + 1) - k. The answer is the 64-bit number that was returned,
@@ -186,12 +186,16 @@ static int64_t call(void)
                                           SLICE(room_nodes), SLICE(room_endpoint), SLICE(room_from), SLICE(room_to), SLICE(room_via),
                                           SLICE(scratch));
     }
-    case 3: {
+    case 3: case 9: {
         uint32_t n = word();
         lent *starts = read_slice(4), *ends = read_slice(4), *early = read_slice(4), *late = read_slice(4), *marked = read_slice(4);
         uint32_t allowed = word();
         lent *nodes = read_slice(4), *endpoint = read_slice(4), *from = read_slice(4), *to = read_slice(4), *via = read_slice(4);
-        lent *arrivals = time_room(), *requireds = time_room(), *slacks = time_room(), *earliests = time_room();
+        lent *arrivals = time_room();
+        if (which == 9)
+            return jaqhweni_late(n, SLICE(starts), SLICE(ends), SLICE(early), SLICE(late), SLICE(marked), allowed, SLICE(nodes),
+                                 SLICE(endpoint), SLICE(from), SLICE(to), SLICE(via), SLICE(arrivals));
+        lent *requireds = time_room(), *slacks = time_room(), *earliests = time_room();
         return jaqhweni_times(n, SLICE(starts), SLICE(ends), SLICE(early), SLICE(late), SLICE(marked), allowed, SLICE(nodes),
                               SLICE(endpoint), SLICE(from), SLICE(to), SLICE(via), SLICE(arrivals), SLICE(requireds), SLICE(slacks),
                               SLICE(earliests));

@@ -53,6 +53,9 @@ AMPLE = w.PROGRAM_ROOM
 GRAPH_A = w.run_series(A, [w.Call(LIST_A, AMPLE, 16384)])[1]
 OBSERVED = design(5, *A_EDGES, marked=[2])
 OBSERVED_BACK = design(5, *A_BACK_EDGES, marked=[2])
+QUICK = design(3, (0, 1, -9, 8), (1, 2, -3, -3))
+BACK = OBSERVED_BACK._replace(marked=[])
+BACK_GRAPH = w.run_series(BACK, [w.Call(listed((2,)), AMPLE, 16384)])[1]
 OBSERVED_GRAPH = w.run_series(OBSERVED, [w.Call(LIST_A, AMPLE, 16384)])[1]
 OBSERVED_ALONE = w.run_series(OBSERVED, [w.Call(listed((2,), (3,)), AMPLE, 16384)])[1]
 OBSERVED_SOURCE = CHAIN._replace(marked=[0])
@@ -92,6 +95,9 @@ NAMES = [
     ("observedBack", OBSERVED_BACK, None),
     ("observedAlone", OBSERVED_ALONE, None),
     ("observedSource", OBSERVED_SOURCE, "chain with its source marked"),
+    ("back", BACK, "observedBack with nothing marked, and its true graph without edge 2"),
+    ("backGraph", BACK_GRAPH, None),
+    ("quick", QUICK, "an early delay far below the late one"),
 ]
 
 
@@ -234,6 +240,19 @@ ROWS = [
      [("size", FALLING._replace(early=[]), NONE, 96), ("size", A, w.PathList([1], [1, 2]), 999),
       ("size again", OBSERVED, observed_but(endpoints=[0, 0, 1, 0, 1]), NONE, 999), ("size", FALLING, listed((0, 0)), 96),
       ("size again", FORKED, OUT_OF_ORDER, listed((1, 0)), 0), ("size again", FORKED, OUT_OF_ORDER, listed((0, 1)), 0)]),
+    # 02, request 10
+    ("Deck A: nothing late with T 10, nor with T 6, an arrival of just T; late at its last copy with T 5; at copy 4, and copy 5 is unchanged, with T 4",
+     [("late", A, GRAPH_A, t, 6) for t in (10, 6, 5, 4)]),
+    ("Late at copy 2, of a marked node with edges out, before copies 4 and 5; where no path ends at it, an arrival above T there is not late; late where one does",
+     [("late", OBSERVED, OBSERVED_GRAPH, 4, 6), ("late", BACK, BACK_GRAPH, 4, 4),
+      ("late", OBSERVED_BACK, BACK_GRAPH._replace(endpoints=[0, 0, 1, 1]), 4, 4)]),
+    ("T 0: an arrival below 0; one of just 0, at a source where paths end; no copies",
+     [("late", d, w.design_as_graph(d), 0, d.nodes) for d in (M9, ONE_NODE, NO_NODES)]),
+    ("By late delays: late with T 4, and on time with T 5; by early ones both would be on time",
+     [("late", QUICK, w.design_as_graph(QUICK), t, 3) for t in (4, 5)]),
+    ("Late or not is refused as times are, and then no place changes: 30 for a place more and for one less, before 13; 13 before 25; 25 before 32; 32",
+     [("late", A, GRAPH_A, 10, 7), ("late", A, GRAPH_A, 10, 5), ("late", FALLING, GRAPH_A, 10, 7), ("late", FALLING, GRAPH_A, 1_000_000_001, 6), ("late", FORKED, OUT_OF_ORDER, 1_000_000_001, 6),
+      ("late", FORKED, OUT_OF_ORDER, 0, 6)]),
 ]
 
 
@@ -313,6 +332,23 @@ def counts_text(call):
         return applied("NotMade", refusal_text(r.refusal))
 
 
+def lateness_text(call):
+    try:
+        copy = call()[0]
+        return "OnTime" if copy is None else applied("Late", str(copy))
+    except w.Refused as r:
+        return applied("NotTimed", refusal_text(r.refusal))
+
+
+def arrivals_after(call, length):
+    """What the slice holds afterwards that was lent with 77 everywhere."""
+    try:
+        written = call()[1]
+    except w.Refused:
+        written = []
+    return written + [77] * (length - len(written))
+
+
 def after(d, lists):
     refusals, held = w.run_series(d, [w.Call(l, AMPLE, 16384) for l in lists])
     assert refusals == [None] * len(lists)
@@ -375,6 +411,10 @@ def fact(kind, *given):
     if kind == "size again":
         d, g, l, words = given
         return "sizeAgainIs", named(d), named(g), named(l), str(words), counts_text(lambda: w.size(d, l, g, words))
+    if kind == "late":
+        d, g, t, length = given
+        call = lambda: w.late(d, g, t, length)
+        return "lateIs", named(d), named(g), str(t), str(length), lateness_text(call), items(map(integer, arrivals_after(call, length)))
     if kind in ("reader", "bytes"):
         data, lent = (deck_bytes(*given[:3]), given[3]) if kind == "reader" else given
         return "readerAnswers", named(data), numbers(lent), verdict_text(lambda: w.read_deck(data, w.Tables(*lent)))
@@ -438,20 +478,22 @@ use Rattle.timing.specs.declared.NodeTimes.{NodeTimes}
 use Rattle.timing.specs.declared.NodeTimes.the-variants.{Times, None}
 use Rattle.timing.specs.declared.GraphMade.{GraphMade}
 use Rattle.timing.specs.declared.GraphMade.the-variants.{Counts, Refused as NotMade}
+use Rattle.timing.specs.declared.Lateness.{Lateness}
+use Rattle.timing.specs.declared.Lateness.the-variants.{Late, OnTime, Refused as NotTimed}
 use Rattle.timing.specs.Lists.{upto}
 use Rattle.timing.specs.Graphs.{Design, design, edge, Graph, graph, designGraph, edgesIn, edgesOut}
 use Rattle.timing.specs.Graphs.{runsTo, runsFrom, completeRuns}
 use Rattle.timing.specs.Marks.{PathList, pathList, pathsOf, permitted, tails, mark}
 use Rattle.timing.specs.TrueGraphs.{permittedRuns, copies, pathEnds, joins, trueGraph}
 use Rattle.timing.specs.WellFormed.{wellFormed}
-use Rattle.timing.specs.Times.{arrivalAt, requiredAt, slackAt, earliestAt, nodeTimes}
+use Rattle.timing.specs.Times.{arrivalAt, requiredAt, slackAt, earliestAt, lateCopies, nodeTimes}
 use Rattle.timing.specs.Numbers.{packedIn, packed, groupsIn, readNumber, writeAnswer, writtenRoom}
 use Rattle.timing.specs.Decks.{Deck, deckNumbers, packedDeck, readDeck}
 use Rattle.timing.specs.GraphBytes.{graphNumbers, packedGraph, readGraph}
 use Rattle.timing.specs.Refusals.{refusal, refusalWithin}
 use Rattle.timing.specs.Tests.{Room, designTests, listTests, candidates, scratchTest, roomTests}
 use Rattle.timing.specs.Calls.{GraphSlices, graphSlices, slicesOf, Outcome, made, refused, Removal, removal, testDeck}
-use Rattle.timing.specs.Calls.{testTimes, arrivalsAfter, requiredsAfter, slacksAfter, earliestsAfter, testRecords, deckRead}
+use Rattle.timing.specs.Calls.{testTimes, arrivalsAfter, requiredsAfter, slacksAfter, earliestsAfter, testLate, lateOrNot, arrivalsAfterLate, testRecords, deckRead}
 use Rattle.timing.specs.Calls.{removeFromDesign, removeFromGraph, programRemoval, program, cCall, cRoom}
 use Rattle.timing.specs.Calls.{deckWriteTests, graphWriteTests, graphRead, sizeFromDesign, sizeFromGraph, graphAnswer}
 
@@ -480,6 +522,7 @@ pub data Fact : Type 0 where
   graphWriterAnswers : GraphSlices → Verdict → Fact
   sizeIs : Design → PathList → ℕ → GraphMade → Fact
   sizeAgainIs : Design → Graph → PathList → ℕ → GraphMade → Fact
+  lateIs : Design → Graph → ℕ → ℕ → Lateness → List ℤ → Fact
 
 abbrev pub zeros : ℕ → List ℕ
 zeros n = map (λ i. 0) (upto n 0)
@@ -541,6 +584,10 @@ Holds (graphReadIs s R o) = graphRead s R ≡ o
 Holds (graphWriterAnswers S v) = graphWriteTests S ≡ v
 Holds (sizeIs D L words a) = graphAnswer (sizeFromDesign D L words) ≡ a
 Holds (sizeAgainIs D G L words a) = graphAnswer (sizeFromGraph D (slicesOf G) L words) ≡ a
+Holds (lateIs D G T n a ts) =
+    let S = slicesOf G in
+    let answer = lateOrNot D S T n in
+    _≡_ {A = (x : Lateness) × List ℤ} (answer, arrivalsAfterLate D S T answer (map (λ i. pos 77) (upto n 0))) (a, ts)
 
 infixr 4 _also_
 pub data All : List Fact → Type 0 where
@@ -556,8 +603,8 @@ UNFOLDING = [
     "pathEnds joins trueGraph wellFormed arrivalAt requiredAt slackAt earliestAt nodeTimes arrivalsAfter requiredsAfter",
     "slacksAfter earliestsAfter packedIn groupsIn readNumber writeAnswer writtenRoom readDeck graphNumbers packedGraph",
     "designTests listTests candidates scratchTest roomTests testDeck removeFromDesign removeFromGraph programRemoval",
-    "program cCall cRoom deckRead testTimes testRecords deckNumbers packedDeck deckWriteTests readGraph graphRead",
-    "graphWriteTests sizeFromDesign sizeFromGraph",
+    "program cCall cRoom deckRead testTimes testLate lateCopies lateOrNot arrivalsAfterLate testRecords deckNumbers",
+    "packedDeck deckWriteTests readGraph graphRead graphWriteTests sizeFromDesign sizeFromGraph",
 ]
 
 TYPES = {w.Design: "Design", w.PathList: "PathList", w.Graph: "Graph", w.Room: "Room", bytes: "List ℕ"}

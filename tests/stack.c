@@ -70,6 +70,14 @@ static int64_t of_times(void)
                           times[3], earlier.copies);
 }
 
+/* Nothing is late, so that the pass goes over all copies. */
+static int64_t of_late(void)
+{
+    return jaqhweni_late(d.n, d.starts, d.m, d.ends, d.m, d.early, d.m, d.late, d.m, d.marked, d.marked_nodes, 1000000000, earlier.nodes,
+                         earlier.copies, earlier.endpoint, earlier.copies, earlier.from, earlier.edges, earlier.to, earlier.edges,
+                         earlier.via, earlier.edges, times[0], earlier.copies);
+}
+
 static int64_t of_writing(void)
 {
     return jaqhweni_write_graph(earlier.nodes, earlier.copies, earlier.endpoint, earlier.copies, earlier.from, earlier.edges, earlier.to,
@@ -88,6 +96,7 @@ static const call REMOVE_FROM_GRAPH = {"remove_from_graph", from_graph, JAQHWENI
 static const call SIZE_FROM_DESIGN = {"size_from_design", size_of_design, JAQHWENI_STACK_SIZE_FROM_DESIGN};
 static const call SIZE_FROM_GRAPH = {"size_from_graph", size_of_graph, JAQHWENI_STACK_SIZE_FROM_GRAPH};
 static const call TIMES = {"times", of_times, JAQHWENI_STACK_TIMES};
+static const call LATE = {"late", of_late, JAQHWENI_STACK_LATE};
 static const call WRITE_GRAPH = {"write_graph", of_writing, JAQHWENI_STACK_WRITE_GRAPH};
 
 /* ---- Stack ------------------------------------------------------------------------------------------------------------------- */
@@ -213,6 +222,10 @@ int main(int count, char **arguments)
     decks();
     removals();
     measure(&TIMES, "16,384 copies, 65,536 edges", 0);
+    if (measure(&LATE, "16,384 copies, 65,536 edges", 0) != 0) {
+        printf("late answered something other than 0  FAILED\n");
+        over++;
+    }
     measure(&WRITE_GRAPH, "16,384 copies, 65,536 edges", 0);
     free(scratch);
     return over > 0;

@@ -557,6 +557,112 @@ class Sizes(unittest.TestCase):
         self.assertTrue({None, 12, 13, 14, 15, 16, 22, 23, 24, 30, 31, 32} <= seen, seen)
 
 
+class Late(unittest.TestCase):
+    """Document 02, request 10: late or not."""
+    def late(self, design, graph, allowed_time, more=0):
+        """The copy or None, and the arrivals written; or the refusal. `more`: by how much the slice is longer than there are copies."""
+        try:
+            return w.late(design, graph, allowed_time, len(graph.copy_nodes) + more)
+        except w.Refused as refused:
+            return refused.refusal
+
+    def check(self, design, graph, allowed_time, delays):
+        """Late just where a copy has a negative slack, and where one of the delays, which are those of all paths, is above T; at the lowest
+        copy, with the arrivals up to it. Returns the copy or None, all arrivals, and the copies where paths end late."""
+        copy, written = w.late(design, graph, allowed_time, len(graph.copy_nodes))
+        at_copies = times_by_edges(design, graph, allowed_time)
+        self.assertEqual(w.times(design, graph, allowed_time, [len(graph.copy_nodes)] * 4), at_copies)
+        self.assertEqual(copy is not None, any(times.slack < 0 for times in at_copies))
+        self.assertEqual(copy is not None, any(delay > allowed_time for delay in delays))
+        arrivals = [times.arrival for times in at_copies]
+        late_ends = [c for c, number in enumerate(graph.endpoints) if number and arrivals[c] > allowed_time]
+        self.assertEqual((copy, written), (late_ends[0], arrivals[:late_ends[0] + 1]) if late_ends else (None, arrivals))
+        return copy, arrivals, late_ends
+
+    def times_near(self, rng, delays):
+        """0, and T around the delays of two paths, the slowest and any: one below it, exactly it, one above."""
+        near = {delay + more for delay in (max(delays), rng.choice(delays)) for more in (-1, 0, 1)} if delays else set()
+        return [0] + [allowed_time for allowed_time in sorted(near) if allowed_time > 0]
+
+    def test_by_hand(self):
+        deck_a, arrivals = MARKED["M1"], [0, 0, 5, 3, 5, 6]
+        for marked, allowed_time, copy in [
+                ([], 10, None), ([], 6, None), ([], 5, 5), ([], 4, 4), ([], 0, 4),           # paths end at copies 4 and 5, at 5 and 6
+                ([2], 6, None), ([2], 5, 5), ([2], 4, 2), ([2], 0, 2),                       # and at copy 2, at 5, where they go on too
+                ([0, 1, 2], 0, 2), ([0, 1, 3, 4], 4, 4)]:                                    # and at sources, at 0, which is never above T
+            design = deck_a.design._replace(marked=marked)
+            graph = w.true_graph(design, deck_a.path_list)
+            written = arrivals if copy is None else arrivals[:copy + 1]
+            self.assertEqual(self.late(design, graph, allowed_time), (copy, written), (marked, allowed_time))
+        for name, found in (("M2", (None, [])), ("M3", (None, [0])), ("M7", (None, [])), ("M9", (None, [0, -4]))):
+            self.assertEqual(self.late(MARKED[name].design, graph_of(MARKED[name]), 0), found, name)
+        self.assertEqual(w.lent_after([7] * 6, self.late(deck_a.design, graph_of(deck_a), 4)[1]), [0, 0, 5, 3, 5, 7])
+
+    def test_delays_below_0(self):
+        """A copy where no path ends may have an arrival above T, and nothing is late: what is lost comes back behind it."""
+        edges = [(0, 1, 8), (1, 2, -3), (2, 3, 1)]
+        for marked, allowed_time, found in [
+                ([], 6, (None, [0, 8, 5, 6])), ([], 5, (3, [0, 8, 5, 6])), ([1], 8, (None, [0, 8, 5, 6])), ([1], 7, (1, [0, 8])),
+                ([2], 6, (None, [0, 8, 5, 6])), ([2], 5, (3, [0, 8, 5, 6])), ([2], 4, (2, [0, 8, 5]))]:
+            design = design_of(4, edges, marked)
+            self.assertEqual(self.late(design, w.design_as_graph(design), allowed_time), found, (marked, allowed_time))
+        # by late delays, and by the largest of them
+        design = design_of(3, [(0, 2, -9, 1), (1, 2, -5, -4), (0, 2, -1, 0)])
+        self.assertEqual([self.late(design, w.design_as_graph(design), allowed_time) for allowed_time in (0, 1)],
+                         [(2, [0, 0, 1]), (None, [0, 0, 1])])
+
+    def test_refusals_and_their_order(self):
+        design, graph = MARKED["M1"].design, graph_of(MARKED["M1"])
+        bad_graph = w.Graph([9], [0], [], [], [])
+        for more in (-1, 1):                                                                 # 30 before 25 and before 10, and all else is right
+            self.assertEqual(self.late(design, graph, 2 ** 31, more), (30, 0))
+            self.assertEqual(self.late(design._replace(nodes=4097), graph, 5, more), (30, 0))
+        for part in ("starts", "ends", "early", "late"):
+            self.assertEqual(self.late(design._replace(nodes=4097, **{part: [0] * 5}), graph, 5), (30, 0))
+        for part in w.Graph._fields:
+            self.assertEqual(self.late(design, graph._replace(**{part: [*getattr(graph, part), 0]}), 5), (30, 0))
+        self.assertEqual(self.late(design_of(4097, []), bad_graph, 2 ** 31), (10, 0))
+        self.assertEqual(self.late(design_of(2, [(0, 1, 0)] * 16385), bad_graph, 2 ** 31), (11, 0))
+        for edge, number in (((0, 9, 2_000_000, 0), 12), ((3, 1, 2_000_000, 0), 13), ((0, 2, 2_000_000, 0), 14), ((0, 2, 1, 0), 15)):
+            self.assertEqual(self.late(design_of(5, [*A_EDGES, edge], [2, 2]), bad_graph, 2 ** 31), (number, 4))
+        self.assertEqual(self.late(design_of(5, A_EDGES, [2, 2]), bad_graph, 2 ** 31), (16, 1))
+        self.assertEqual(self.late(design, bad_graph, 1_000_000_001), (25, 0))
+        self.assertEqual(self.late(design, bad_graph, 1_000_000_000), (32, 0))
+        self.assertEqual(self.late(design, graph._replace(endpoints=[0, 0, 1, 0, 1, 1]), 0), (32, 0))       # node 2 is not marked
+
+    def test_late_if_and_only_if_a_slack_is_negative(self):
+        """"The answer must be late if and only if the full times show a negative slack somewhere", at a copy or at a node; and "does any
+        permitted path take longer than T?", of the design's paths without those that contain a listed one."""
+        rng, seen = random.Random(SEED + 10), dict.fromkeys("late on_time equal above_inside several goes_on stops_before_the_last".split(), 0)
+        for _ in range(600):
+            deck = decks.random_deck(rng)
+            design, graph = deck.design, graph_of(deck)
+            delays = [sum(design.late[edge] for edge in run) for _, run in permitted(design, w.design_as_graph(design), deck.path_list)]
+            for allowed_time in self.times_near(rng, delays):
+                copy, arrivals, late_ends = self.check(design, graph, allowed_time, delays)
+                is_late = copy is not None
+                self.assertEqual(is_late, any(record and record.slack < 0 for record in records(deck._replace(allowed_time=allowed_time), graph)))
+                seen["late" if is_late else "on_time"] += 1
+                seen["equal"] += not is_late and allowed_time in delays
+                seen["above_inside"] += not is_late and max(arrivals, default=0) > allowed_time
+                seen["several"] += len(late_ends) > 1
+                seen["goes_on"] += is_late and copy in graph.starts
+                seen["stops_before_the_last"] += is_late and copy + 1 < len(arrivals)
+        self.assertGreater(min(seen.values()), 30, seen)
+
+    def test_graphs_from_elsewhere(self):
+        """The same of their own paths, however the copies were chosen."""
+        rng, seen = random.Random(SEED + 11), {True: 0, False: 0}
+        for _ in range(300):
+            design = decks.random_design(rng)
+            graph = decks.random_foreign_graph(rng, design)
+            delays = [sum(design.late[edge] for edge in run) for _, run in taken_back(design, graph)]
+            for allowed_time in self.times_near(rng, delays):
+                copy, _, _ = self.check(design, graph, allowed_time, delays)
+                seen[copy is not None] += 1
+        self.assertGreater(min(seen.values()), 100, seen)
+
+
 class Packing(unittest.TestCase):
     def test_numbers(self):
         edges = {0, 2 ** 32 - 1} | {2 ** (7 * k) + d for k in range(1, 5) for d in (-1, 0, 1)}

@@ -12,11 +12,13 @@ import random
 
 import expected
 import walker
-from decks import A_BACK_EDGES, A_EDGES, HOLD, HOLD_EDGES, MARKED, deck_of, decks_with_marked, random_design, random_foreign_graph, random_paths
+from decks import (A_BACK_EDGES, A_EDGES, HOLD, HOLD_EDGES, MARKED, deck_of, decks_with_marked, design_of, random_design,
+                   random_foreign_graph, random_paths)
 
 TABLE = 4200                # the program's
 BLOCKS = 3                  # the program's
 NUMBERS = (30, 10, 12, 13, 14, 15, 16, 25, 32)     # 11 takes longer slices: unfit_cases has it
+LENT = 77                   # what stands in the program's slice of arrivals before it asks whether a graph is late
 DELAYS = ("early", "late")
 GRAPH_EDGES = ("copy_starts", "copy_ends", "names")
 SLICES = ("starts", "ends", *DELAYS, "marked", "copy_nodes", "endpoints", *GRAPH_EDGES)
@@ -39,15 +41,19 @@ def packed_slice(numbers):
 
 
 class Given:
-    """n, T, a node, a design's slices, a graph's, and the lengths of the slices for times and for records."""
+    """n, T, a node, a design's slices, a graph's, and the lengths of the slices for times, for arrivals alone and for records."""
 
     def __init__(self, design, graph, allowed, node):
         self.nodes, self.allowed, self.node = design.nodes, allowed, node
         self.starts, self.ends, self.early, self.late, self.marked = (list(part) for part in design[1:])
         self.copy_nodes, self.endpoints, self.names = list(graph.copy_nodes), list(graph.endpoints), list(graph.design_edges)
         self.copy_starts, self.copy_ends = list(graph.starts), list(graph.ends)
-        self.rooms = [len(self.copy_nodes)] * 4
         self.places = [self.nodes] * 5
+        self.lend_for_copies()
+
+    def lend_for_copies(self):
+        """A place for each copy: four slices for times, and one for the arrivals of `late`."""
+        self.rooms, self.lent = [len(self.copy_nodes)] * 4, len(self.copy_nodes)
 
     def design(self):
         return walker.Design(self.nodes, self.starts, self.ends, self.early, self.late, self.marked)
@@ -56,7 +62,7 @@ class Given:
         return walker.Graph(self.copy_nodes, self.endpoints, self.copy_starts, self.copy_ends, self.names)
 
     def packed(self):
-        numbers = [self.nodes, self.allowed, self.node, *self.rooms, *self.places]
+        numbers = [self.nodes, self.allowed, self.node, *self.rooms, self.lent, *self.places]
         for name in SLICES:
             part = getattr(self, name)
             assert len(part) <= TABLE
@@ -82,6 +88,9 @@ class Seen:
         self.passed = self.none = self.past = self.own_slack = self.large = 0
         self.not_by_late = self.below_zero = self.not_first = self.not_last = 0     # earliest arrivals
         self.by_T = self.from_further_on = 0                                        # required where paths end and go on
+        self.late, self.late_alone = set(), 0                                       # refusals of `late`, and how many are its own
+        self.is_late = self.on_time = self.equal = self.above_inside = self.goes_on = self.several = self.unchanged = 0
+        self.at_copy_1 = self.at_the_last = self.below_T_0 = 0
 
 
 def see_earliests(seen, design, graph, found):
@@ -108,9 +117,41 @@ def see_requireds(seen, design, graph, found, allowed):
             seen.from_further_on += further < allowed
 
 
+def see_late(seen, graph, found, copy, allowed):
+    """Whether a wrong answer would show: late at T itself, late where no path ends, on time where paths go on, the last late end, a place
+    written too many, the lowest copy that can be late or the last one left out, an arrival that stops at 0."""
+    late_ends = [c for c, number in enumerate(graph.endpoints) if number == 1 and found[c].arrival > allowed]
+    seen.is_late += copy is not None
+    seen.on_time += copy is None
+    seen.equal += copy is None and any(number == 1 and times.arrival == allowed for number, times in zip(graph.endpoints, found))
+    seen.above_inside += copy is None and any(times.arrival > allowed for times in found)
+    seen.goes_on += copy is not None and copy in graph.starts
+    seen.several += len(late_ends) > 1
+    seen.unchanged += copy is not None and copy + 1 < len(found)
+    seen.at_copy_1 += copy == 1
+    seen.at_the_last += copy == len(found) - 1
+    seen.below_T_0 += allowed == 0 and any(times.arrival < 0 for times in found)
+
+
+def late_lines(given, found, seen):
+    """The answer, and the arrivals, which a refusal leaves as they were lent. `found` are the times, or None where these are refused."""
+    graph, written = given.graph(), []
+    try:
+        copy, written = walker.late(given.design(), graph, given.allowed, given.lent)
+        text = "on time\n" if copy is None else "late %d\n" % copy
+        if found is not None:
+            see_late(seen, graph, found, copy, given.allowed)
+    except walker.Refused as refused:
+        text = refused_line(refused.refusal)
+        seen.late.add(refused.refusal[0])
+        seen.late_alone += found is not None
+    arrivals = walker.lent_after([LENT] * given.lent, written)
+    return text + "arrivals" + "".join(" %d" % arrival for copy, arrival in enumerate(arrivals) if printed(copy)) + "\n"
+
+
 def lines(given, seen):
     """What the program prints of a case, by the separate program."""
-    design, graph = given.design(), given.graph()
+    design, graph, found = given.design(), given.graph(), None
     columns = [[0] * length for length in given.rooms]      # what the program lends, and a refusal leaves
     try:
         found = walker.times(design, graph, given.allowed, given.rooms)
@@ -139,7 +180,7 @@ def lines(given, seen):
     except walker.Refused as refused:
         text += refused_line(refused.refusal)
         seen.records.add(refused.refusal[0])
-    return text
+    return text + late_lines(given, found, seen)
 
 
 # ---- Cases ---------------------------------------------------------------------------------
@@ -174,6 +215,54 @@ def fixed():
         yield chain(early, late, allowed, node)
     yield chain(-1_000_000, -1_000_000, 5, 2000, [2000])
     yield from with_marked()
+    yield from late_or_not()
+
+
+def late_or_not():
+    """Document 02, request 10: T around each arrival where paths end, delays that bring an arrival above T back, chains, and the one slice."""
+    for marked in ([], [2], [0, 1, 2, 3, 4]):
+        for allowed in range(8):
+            yield of_deck(deck_of(5, A_EDGES, [[1, 2]], allowed, marked), 2)
+    # copy 0 is a source's, with arrival 0: the lowest that can be late is copy 1
+    for delay, allowed in ((1, 0), (1, 1), (0, 0), (-1, 0), (1_000_000, 999_999), (1_000_000, 1_000_000)):
+        yield of_deck(deck_of(2, [(0, 1, delay)], [], allowed), 1)
+    for edges in ([(0, 1, 8), (1, 2, -3), (2, 3, 1)], [(0, 1, -9, 8), (1, 2, -9), (2, 3, 1)], [(0, 1, -2), (1, 2, -1, 2), (2, 3, 1)]):
+        for marked in ([], [1], [2], [1, 2]):
+            for allowed in (0, 1, 4, 5, 6, 7, 8):
+                yield of_deck(deck_of(4, edges, [], allowed, marked), 2)
+    # late at the last copy; there at T exactly
+    yield chain(-1, 1, 4094, 4095)
+    yield chain(-1, 1, 4095, 4095)
+    # at copy 1,000 at T exactly, then late at 1,023, which is printed, or at 1,022, so that 1,023 is printed as it was lent
+    yield chain(-1, 1_000_000, 1_000_000_000, 4095, [1000, 1023])
+    yield chain(-1, 1_000_000, 1_000_000_000, 4095, [1000, 1022, 1023])
+    # above T at every copy but the first and the last, and there at T exactly
+    comes_back = chain(-1_000_000, -1, 995_906, 4095)
+    comes_back.late[0] = 1_000_000
+    yield comes_back
+    for lent in (4095, 4097):
+        yield with_lent(chain(1, 1, 5, 4095), lent)
+    for lent in (0, 5, 7, 12):
+        for allowed in (4, 1_000_000_001):
+            yield with_lent(of_deck(deck_of(5, A_EDGES, [[1, 2]], allowed), 2), lent)
+    yield from refused_in_order()
+
+
+def refused_in_order():
+    """Each refusal of `late` where all later tests would refuse, too; an edge at fault for 12 stands behind one for 13, and so on."""
+    faulty, unfit, over = [(0, 2, 1, 0), (0, 2, 0, 2_000_000), (3, 1, 0), (0, 5000, 0)], walker.Graph([9], [0], [], [], []), 1_000_000_001
+    for number, nodes, edges, marked, allowed, lent in (
+            (30, 4097, faulty, [2, 2], over, 0), (30, 4097, faulty, [2, 2], over, 2), (10, 4097, faulty, [2, 2], over, 1),
+            *((15 - last, 5, faulty[:last + 1], [2, 2], over, 1) for last in (3, 2, 1, 0)),
+            (16, 5, [], [2, 2], over, 1), (25, 5, [], [], over, 1), (32, 5, [], [], over - 1, 1)):
+        given = with_lent(Given(design_of(nodes, edges, marked), unfit, allowed, 2), lent)
+        assert walker.refusal_of(walker.late, given.design(), unfit, allowed, lent)[0] == number
+        yield given
+
+
+def with_lent(given, lent):
+    given.lent = lent
+    return given
 
 
 def with_marked():
@@ -218,14 +307,14 @@ def swap_or_repeat_an_edge(given, chance):
 def one_more_copy(given, chance):
     given.copy_nodes.append(chance.choice((given.nodes - 1 if given.nodes else 0, given.nodes)))
     given.endpoints.append(chance.choice((0, 1)))
-    given.rooms = [len(given.copy_nodes)] * 4
+    given.lend_for_copies()
 
 
 def one_copy_less(given, chance):
     if given.copy_nodes and given.endpoints:
         given.copy_nodes.pop()
         given.endpoints.pop()
-        given.rooms = [len(given.copy_nodes)] * 4
+        given.lend_for_copies()
 
 
 def change_an_end(given, chance):
@@ -250,6 +339,10 @@ def other_sizes(given, chance):
         given.rooms[chance.randrange(4)] += chance.choice((1, 2))
     else:
         getattr(given, chance.choice(("endpoints", *GRAPH_EDGES))).append(0)
+
+
+def other_lent(given, chance):
+    given.lent = max(0, given.lent + chance.choice((-1, 1, 2)))
 
 
 def other_places(given, chance):
@@ -279,18 +372,34 @@ def damage_the_design(given, chance):
 
 
 DAMAGES = (change_a_number, change_a_number, drop_an_edge, swap_or_repeat_an_edge, one_more_copy, one_copy_less, change_an_end,
-           change_an_end, other_marked, other_sizes, other_places, damage_the_design)
+           change_an_end, other_marked, other_sizes, other_lent, other_places, damage_the_design)
+
+
+def near_arrivals(chance, design, graph):
+    """T about the arrival at a copy where paths end: below it, exactly it or above it."""
+    arrivals = [times.arrival for times, number in zip(walker.copy_times(design, graph, 0), graph.endpoints) if number == 1]
+    return max(0, chance.choice(arrivals) + chance.choice((-1, -1, 0, 0, 1))) if arrivals else 0
+
+
+def with_quick_ends(design):
+    """Edges into sinks take less, so that what arrives before them above T may come back."""
+    early, late = ([delay if end in design.starts else max(-1_000_000, delay - 200) for delay, end in zip(delays, design.ends)]
+                   for delays in (design.early, design.late))
+    return design._replace(early=early, late=late)
 
 
 def random_given(chance):
     """A graph of a design: the true graph of some listed paths, or one from elsewhere."""
     design = random_design(chance, most_nodes=7, most_edges=10)
+    if chance.random() < 0.4:
+        design = with_quick_ends(design)
     paths = random_paths(chance, design, 4) if design.starts else []
     if chance.random() < 0.25:
         graph = random_foreign_graph(chance, design)
     else:
         graph = walker.true_graph(design, walker.PathList([len(path) for path in paths], [edge for path in paths for edge in path]))
-    return Given(design, graph, chance.choice((0, 10, 1_000_000_000)), chance.randrange(design.nodes + 2))
+    allowed = near_arrivals(chance, design, graph) if chance.random() < 0.7 else chance.choice((0, 10, 1_000_000_000))
+    return Given(design, graph, allowed, chance.randrange(design.nodes + 2))
 
 
 def cases():
@@ -312,8 +421,11 @@ def main():
     assert set(NUMBERS) <= seen.times and {30, 10} <= seen.record and {30, 10} <= seen.records
     assert min(seen.none, seen.past, seen.own_slack, seen.large) > 0
     assert min(seen.not_by_late, seen.below_zero, seen.not_first, seen.not_last, seen.by_T, seen.from_further_on) > 0
+    assert set(NUMBERS) <= seen.late and seen.late_alone > 0
+    assert min(seen.is_late, seen.on_time, seen.equal, seen.above_inside, seen.goes_on, seen.several, seen.unchanged) > 20
+    assert min(seen.at_copy_1, seen.at_the_last, seen.below_T_0) > 0
     expected.keep("times_cases", expected.in_blocks([given.packed() for given in all_cases], BLOCKS), text.encode())
-    print("times_cases: %d graphs, %d of them pass" % (len(all_cases), seen.passed))
+    print("times_cases: %d graphs, %d of them pass; %d are late" % (len(all_cases), seen.passed, seen.is_late))
 
 
 if __name__ == "__main__":

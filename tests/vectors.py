@@ -7,7 +7,7 @@ FOLDER has decks with what the deck program must print (NAME.deck, NAME.out), ca
 (ccall.tsv) and calls over slices (slices.jsonl); the README.md there says how they are written. All of it is asked of the walker.
 - With --program (target/bin/deck_program) the decks are asked of that deck program.
 - With --library (target/staticlib/libjaqhweni.a) the calls are asked of that library, by way of tests/c_runner.c: ccall.tsv and, of
-  slices.jsonl, removals, the steps of series, sizes, times and written graphs, with all that was lent.
+  slices.jsonl, removals, the steps of series, sizes, times, late or not and written graphs, with all that was lent.
 - With --cases (target/bin/bytes_cases) the readers and writers are asked of that program; but for the graph's writer they have no C call
   yet. Its lines must be those that tests/bytes_cases.py makes of the walker's answer, which is itself compared with the vector.
 - With --removals (target/bin/removal_cases) removals, series and sizes are asked of that program, in the same way, by tests/removal_cases.py.
@@ -27,7 +27,7 @@ import bytes_cases
 import expected
 import removal_cases
 import walker
-from against_walker import deck_call, removal_call, size_call, times_call, write_call
+from against_walker import deck_call, late_call, removal_call, size_call, times_call, write_call
 from decks import room_of
 from walker import Deck, Design, Graph, PathList, Room, Tables
 
@@ -104,6 +104,11 @@ def times(vector):
     return {"times": {name: [at_copy[part] for at_copy in found] for part, name in enumerate(TIMES)}}
 
 
+def late(vector):
+    copy, arrivals = walker.late(design_in(vector), graph_in(vector["graph"]), vector["T"], vector["arrival_length"])
+    return {"late": copy, "arrival": arrivals}
+
+
 def size(vector):
     return {"size": list(walker.size(design_in(vector), list_in(vector), graph_in(vector["graph"]), vector["scratch"]))}
 
@@ -112,6 +117,7 @@ KINDS = {
     "size": size,
     "remove": lambda v: {"graph": graph_out(removed(v, graph_in(v["graph"])))},
     "times": times,
+    "late": late,
     "read_graph": lambda v: {"graph": graph_out(walker.read_graph(bytes.fromhex(v["bytes"]), room_in(v)))},
     "write_graph": lambda v: {"bytes": walker.write_graph(graph_in(v["graph"]), v["room"]).hex()},
     "read_deck": lambda v: {"deck": deck_out(walker.read_deck(bytes.fromhex(v["bytes"]), tables_in(v)))},
@@ -163,6 +169,9 @@ def requests_of(vector, name):
     elif kind == "times":
         times = [want["times"][part] for part in TIMES] if "times" in want else None
         yield times_call(name, design_in(vector), graph_in(vector["graph"]), vector["T"], vector["time_lengths"], refusal, times)
+    elif kind == "late":
+        yield late_call(name, design_in(vector), graph_in(vector["graph"]), vector["T"], vector["arrival_length"], refusal, want.get("late"),
+                        want.get("arrival"))
     elif kind == "write_graph":
         yield write_call(name, graph_in(vector["graph"]), vector["room"], refusal, bytes.fromhex(want.get("bytes", "")))
 

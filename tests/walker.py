@@ -1,7 +1,7 @@
 #!/usr/bin/env python3
 """Reference program: true timing graphs by walking all paths.
 
-Written from document 01, the specification, with requests 1, 4, 6, 8 and 9 of document 02, and from no code
+Written from document 01, the specification, with requests 1, 4, 6, 8, 9 and 10 of document 02, and from no code
 or definition of this repository; points that they leave open are read as docs/DECISIONS.md
 says ("How document 01 is read"). Naive on purpose: every complete path is written out, the false ones are struck
 out, and copies, edges and times are read off the paths that remain. Text in double quotes in
@@ -423,13 +423,24 @@ def copy_times(design, graph, allowed_time):
     return [Times(max(into), min(left), min(left) - max(into), min(soon)) for into, left, soon in zip(reached, to_go, soonest)]
 
 def times(design, graph, allowed_time, times_lengths):
-    """The call for the times at copies; times_lengths are those of its four result slices: "times, one place for each copy"."""
+    """The call for the times at copies; times_lengths are those of its result slices, four, or the one of `late`: "times, one place for
+    each copy"."""
     refuse(slices_refusal([design_slices(design), *graph_groups(graph),
                            (len(graph.copy_nodes),) + tuple(times_lengths)]))
     refuse(design_refusal(design))
     refuse(allowed_time_refusal(allowed_time))
     refuse(graph_refusal(design, graph))
     return copy_times(design, graph, allowed_time)
+
+def late(design, graph, allowed_time, length):
+    """The call that stops "at the lowest copy where paths end with an arrival above T": "that copy's number", or None, "that nothing is
+    late"; and the arrivals that it writes in front of "a lent slice with a place for each copy", which has that length: "places after
+    the returned copy are unchanged" (lent_after). "30, 10 to 16, 25 and 32 as for times". """
+    arrivals = [at_copy.arrival for at_copy in times(design, graph, allowed_time, [length])]
+    for copy, arrival in enumerate(arrivals):
+        if graph.endpoints[copy] == 1 and arrival > allowed_time:
+            return copy, arrivals[:copy + 1]
+    return None, arrivals
 
 def node_record(nodes, copy_nodes, arrivals, requireds, slacks, earliests, node):
     """"the largest arrival, the smallest required and the smallest slack of its copies", and of the

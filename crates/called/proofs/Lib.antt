@@ -5,5 +5,7 @@ pub mod Scratch
 pub mod Told
 pub mod Demand2
 pub mod Times
+pub mod Late
 pub mod Example
 pub mod TimesExample
+pub mod LateExample

@@ -25,7 +25,7 @@ use Rattle.called.specs.Times.{TimesCall, timedDesign, timedGraph, arriv
 use Rattle.called.proofs.Times.{earliest-below, series-record}
 use Rattle.called.proofs.Example.{lent, example}
 
-abbrev timesOn : Design → ℕ → GraphSlices → List ℤ → List ℤ → List ℤ → List ℤ → TimesCall
+abbrev pub timesOn : Design → ℕ → GraphSlices → List ℤ → List ℤ → List ℤ → List ℤ → TimesCall
 timesOn D T S ats rts sts ets =
     let v : Verdict = testTimes D S T (length ats) (length rts) (length sts) (length ets) in
     record {
@@ -49,19 +49,19 @@ record-on : (t : TimesCall) (v : ℕ) → RecordAfter t (recordOn t v)
 record-on t v = record { nodes = refl; copies = refl; arrivals = refl; requireds = refl; slacks = refl; earliests = refl }
 
 -- what the example series holds
-abbrev held : GraphSlices
+abbrev pub held : GraphSlices
 held = graphSlices (0 ∷ 1 ∷ 2 ∷ 2 ∷ 3 ∷ 4 ∷ []) (0 ∷ 0 ∷ 0 ∷ 0 ∷ 1 ∷ 1 ∷ []) (1 ∷ 0 ∷ 3 ∷ 2 ∷ []) (2 ∷ 3 ∷ 4 ∷ 5 ∷ []) (1 ∷ 0 ∷ 2 ∷ 3 ∷ [])
 
-is-held : lastHeld none (map calledOf (example .0)) ≡ some held
+pub is-held : lastHeld none (map calledOf (example .0)) ≡ some held
 is-held = ap (λ (cs : List Called). lastHeld none cs) (example .2)
 
-abbrev six : List ℤ
+abbrev pub six : List ℤ
 six = pos 0 ∷ pos 0 ∷ pos 0 ∷ pos 0 ∷ pos 0 ∷ pos 0 ∷ []
 
-abbrev timed : TimesCall
+abbrev pub timed : TimesCall
 timed = timesOn deckA 10 held six six six six
 
-timed-passed : timed .answer ≡ Passed
+pub timed-passed : timed .answer ≡ Passed
 unfolding designGraph edgesIn edgesOut wellFormed designTests testTimes
 timed-passed = refl
 

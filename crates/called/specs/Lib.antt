@@ -1,5 +1,7 @@
--- Calls as a caller has them: of the two removals, of the two that tell their sizes, of `times`, and of the tests of a list and a deck.
+-- Calls as a caller has them: of the two removals, of the two that tell their sizes, of `times` and the records of nodes, of `late_or_not`, and of
+-- the tests of a list and a deck.
 pub mod Removals
 pub mod Sizes
 pub mod Times
+pub mod Late
 pub mod Tests

@@ -1,4 +1,4 @@
--- Calls of `times` and `node_record` as a caller has them, with the `ensures` of their contracts as the toolchain takes these from
+-- Calls of `times`, `node_record` and `node_records` as a caller has them, with the `ensures` of their contracts as the toolchain takes these from
 -- the source.
 use Prim.Native.Nat.{ℕ}
 use mathlib.Core.Path.{_≡_}
@@ -13,8 +13,10 @@ use Rattle.timing.specs.Calls.{GraphSlices, graphSlices}
 use Rattle.timing.specs.Demands.{PathBest}
 use Rattle.times.proofs.times.{signature as timesSignature, ended as timesEnded}
 use Rattle.times.proofs.times.Reads.{Learnt as TimesLearnt}
-use Rattle.times.proofs.node_record.{signature as recordSignature, ended as recordEnded}
-use Rattle.times.proofs.node_record.Reads.{Learnt as RecordLearnt}
+use Rattle.records.proofs.node_record.{signature as recordSignature, ended as recordEnded}
+use Rattle.records.proofs.node_record.Reads.{Learnt as RecordLearnt}
+use Rattle.records.proofs.node_records.{signature as recordsSignature, ended as recordsEnded}
+use Rattle.records.proofs.node_records.Reads.{Learnt as RecordsLearnt}
 
 -- a call of `times`
 pub record TimesCall : Type 0 where
@@ -77,11 +79,32 @@ pub record RecordCall : Type 0 where
 abbrev pub askedNode : RecordCall → ℕ
 askedNode c = c .passed .1 .1 .1 .1 .1 .1 .0
 
--- it is lent n, the nodes of the copies, and the times that a call of `times` left
-pub record RecordAfter (t : TimesCall) (c : RecordCall) : Type 0 where
-  pub nodes : c .passed .0 ≡ timedDesign t .nodes
-  pub copies : c .passed .1 .0 .now ≡ timedGraph t .nodes
-  pub arrivals : c .passed .1 .1 .0 .now ≡ arrivalsLeft t
-  pub requireds : c .passed .1 .1 .1 .0 .now ≡ requiredsLeft t
-  pub slacks : c .passed .1 .1 .1 .1 .0 .now ≡ slacksLeft t
-  pub earliests : c .passed .1 .1 .1 .1 .1 .0 .now ≡ earliestsLeft t
+-- a call of `node_records`
+pub record RecordsCall : Type 0 where
+  pub lifetimes : Lfts 10
+  pub passed : ArgsD recordsSignature lifetimes
+  pub answer : ResD recordsSignature lifetimes
+  pub left : AtExit recordsEnded lifetimes
+  pub learnt : RecordsLearnt lifetimes passed answer left
+
+-- the slack of each node, as it was lent and as it is left
+abbrev pub nodeSlacksLent : RecordsCall → List ℤ
+nodeSlacksLent c = c .passed .1 .1 .1 .1 .1 .1 .1 .1 .1 .0 .now
+
+abbrev pub nodeSlacksLeft : RecordsCall → List ℤ
+nodeSlacksLeft c = c .left .1 .1 .1 .1 .1 .1 .1 .1 .1 .0 .now
+
+-- either is lent n, the nodes of the copies, and the times that a call of `times` left
+pub record LentTimes (t : TimesCall) (n : ℕ) (vs : List ℕ) (ats rts sts ets : List ℤ) : Type 0 where
+  pub nodes : n ≡ timedDesign t .nodes
+  pub copies : vs ≡ timedGraph t .nodes
+  pub arrivals : ats ≡ arrivalsLeft t
+  pub requireds : rts ≡ requiredsLeft t
+  pub slacks : sts ≡ slacksLeft t
+  pub earliests : ets ≡ earliestsLeft t
+
+abbrev pub RecordAfter : TimesCall → RecordCall → Type 0
+RecordAfter t c = let a = c .passed in LentTimes t (a .0) (a .1 .0 .now) (a .1 .1 .0 .now) (a .1 .1 .1 .0 .now) (a .1 .1 .1 .1 .0 .now) (a .1 .1 .1 .1 .1 .0 .now)
+
+abbrev pub RecordsAfter : TimesCall → RecordsCall → Type 0
+RecordsAfter t c = let a = c .passed in LentTimes t (a .0) (a .1 .0 .now) (a .1 .1 .0 .now) (a .1 .1 .1 .0 .now) (a .1 .1 .1 .1 .0 .now) (a .1 .1 .1 .1 .1 .0 .now)

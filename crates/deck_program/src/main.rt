@@ -50,7 +50,7 @@ fn say_records(
     ns: &mut [i64],
     ne: &mut [i64],
 ) -> usize {
-    let v = times::node_records(
+    let v = records::node_records(
         n,
         nodes,
         arrivals,

@@ -1,6 +1,6 @@
 // Slices read for all indices and counts: what is not there is 0, and a front ends where the slice ends. An
 // index that comes out of a table then needs no proof. Beside them: a slice
-// zeroed, the smaller of two counts, and a number as a count.
+// zeroed, one filled, the smaller of two counts, and a number as a count.
 ghost use Prim.Native.Nat.{_≤_, min};
 ghost use mathlib.Core.Path.{_≡_};
 ghost use lib.IntN.{pos};
@@ -55,6 +55,17 @@ pub fn zero(t: &mut [u32])
     while k < t.len() {
         t[k] = 0;
         k += 1;
+    }
+}
+
+// Fills a whole slice of times with one time.
+pub fn fill(times: &mut [i64], t: i64)
+    ensures { λ r. ⌜ now (times .exit) ≡ replicate (length (now (times .entry))) t ⌝ }
+{
+    let mut i = 0;
+    while i < times.len() {
+        times[i] = t;
+        i += 1;
     }
 }
 

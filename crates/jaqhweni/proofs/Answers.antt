@@ -8,9 +8,10 @@ use mir.Val.{hbits, toZ, ofZ}
 use Rattle.timing.specs.declared.Verdict.{Verdict}
 use Rattle.timing.specs.declared.Written.{Written}
 use Rattle.timing.specs.declared.GraphMade.{GraphMade}
-use Rattle.timing.specs.Calls.{graphNumber, verdictNumber, cNumber}
-use Rattle.times.proofs.Elements.{read-back}
-use Rattle.true_graph.specs.Small.{SmallGraph, Small, SmallWritten}
+use Rattle.timing.specs.declared.Lateness.{Lateness}
+use Rattle.timing.specs.Calls.{graphNumber, verdictNumber, latenessNumber, cNumber}
+use Rattle.timing.proofs.Ints.{read-back}
+use Rattle.true_graph.specs.Small.{SmallGraph, Small, SmallLateness, SmallWritten}
 
 module _ {g x : GraphMade} (e : x ≡ g) where
   pub made-small : SmallGraph g → SmallGraph x
@@ -25,6 +26,13 @@ module _ {v x : Verdict} (e : x ≡ v) where
 
   pub found-number : (z : ℤ) → mag z < 2 ^ hbits w64 → z ≡ verdictNumber x → toZ w64 (ofZ w64 z) ≡ verdictNumber v
   found-number z h q = read-back z h ∙ q ∙ ap verdictNumber e
+
+module _ {l x : Lateness} (e : x ≡ l) where
+  pub lateness-small : SmallLateness l → SmallLateness x
+  lateness-small s = subst SmallLateness (sym e) s
+
+  pub lateness-number : (z : ℤ) → mag z < 2 ^ hbits w64 → z ≡ latenessNumber x → toZ w64 (ofZ w64 z) ≡ latenessNumber l
+  lateness-number z h q = read-back z h ∙ q ∙ ap latenessNumber e
 
 module _ {w x : Written} (e : x ≡ w) where
   pub written-small : SmallWritten w → SmallWritten x

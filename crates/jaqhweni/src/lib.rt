@@ -11,10 +11,12 @@ ghost use Rattle.timing.specs.Calls.{graphSlices, graphOf, lentRemoval, removeF
 ghost use Rattle.timing.specs.Calls.{nodesAfter, endpointsAfter, startsAfter, endsAfter, namesAfter, scratchAfter};
 ghost use Rattle.timing.specs.Calls.{sizeFromDesign, sizeFromGraph};
 ghost use Rattle.timing.specs.Calls.{testTimes, arrivalsAfter, requiredsAfter, slacksAfter, earliestsAfter};
+ghost use Rattle.timing.specs.Calls.{lateOrNot, arrivalsAfterLate};
 ghost use Rattle.timing.specs.Calls.{graphWriteTests, writing, roomAfterWriting};
-ghost use Rattle.timing.specs.Calls.{refusalNumber, graphNumber, verdictNumber, cNumber, cCall, cRoom};
-ghost use Rattle.true_graph.specs.Small.{SmallRefusal, SmallGraph, SmallWritten, Small};
+ghost use Rattle.timing.specs.Calls.{refusalNumber, graphNumber, verdictNumber, latenessNumber, cNumber, cCall, cRoom};
+ghost use Rattle.true_graph.specs.Small.{SmallRefusal, SmallGraph, SmallLateness, SmallWritten, Small};
 use timing::GraphMade;
+use timing::Lateness;
 use timing::Refusal;
 use timing::Verdict;
 use timing::Written;
@@ -57,6 +59,17 @@ fn verdict_number(v: Verdict) -> i64
     match v {
         Verdict::Passed => 0,
         Verdict::Refused(r) => refusal_number(r),
+    }
+}
+
+fn lateness_number(l: Lateness) -> i64
+    requires { ⌜ SmallLateness l ⌝ }
+    ensures { λ x. ⌜ x ≡ latenessNumber l ⌝ }
+{
+    match l {
+        Lateness::Late { copy } => positive(1 + copy),
+        Lateness::OnTime => 0,
+        Lateness::Refused(r) => refusal_number(r),
     }
 }
 
@@ -329,6 +342,50 @@ pub extern "C" fn jaqhweni_times(
         earliests,
     );
     verdict_number(verdict)
+}
+
+// The lowest copy of a true graph where paths end with an arrival above T, or that nothing is late.
+#[no_mangle]
+pub extern "C" fn jaqhweni_late(
+    n: u32,
+    starts: &[u32],
+    ends: &[u32],
+    early: &[i32],
+    late: &[i32],
+    marked: &[u32],
+    allowed: u32,
+    nodes: &[u32],
+    endpoint: &[u32],
+    from: &[u32],
+    to: &[u32],
+    via: &[u32],
+    arrivals: &mut [i64],
+) -> i64
+    ensures { λ r.
+        let D = design n (now (starts .entry)) (now (ends .entry)) (now (early .entry)) (now (late .entry))
+        (now (marked .entry)) in
+        let S = graphSlices (now (nodes .entry)) (now (endpoint .entry))
+        (now (from .entry)) (now (to .entry)) (now (via .entry)) in
+        let answer = lateOrNot D S allowed (length (now (arrivals .entry))) in
+        ⌜ (r ≡ latenessNumber answer)
+        × (now (arrivals .exit) ≡ arrivalsAfterLate D S allowed answer (now (arrivals .entry))) ⌝ }
+{
+    let answer = late::late_or_not(
+        n,
+        starts,
+        ends,
+        early,
+        late,
+        marked,
+        allowed,
+        nodes,
+        endpoint,
+        from,
+        to,
+        via,
+        arrivals,
+    );
+    lateness_number(answer)
 }
 
 // A true graph in packed form, into the room.

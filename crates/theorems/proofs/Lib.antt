@@ -30,10 +30,14 @@ pub mod Times
 pub mod Nodes
 pub mod Demand2Times
 pub mod Records
+pub mod Late
 -- demand 3 of a series of calls, calls that differ in their scratch, and what a told size foretells
 pub mod Called
 pub mod Scratch
 pub mod Told
+-- slices that loops fill, and what a test keeps of a list that is split, for the crates above
+pub mod Elements
+pub mod Splits
 -- the hypotheses can be met
 pub mod Examples
 pub mod CalledExample

@@ -26,7 +26,7 @@ at-copy z f zero i c h = absurd (omega arith)
 at-copy z f (suc n) i zero h = ap f (omega arith)
 at-copy z f (suc n) i (suc c) h = at-copy z f n (suc i) c (omega arith) ∙ ap f (omega arith)
 
-map-on : {A B : Type 0} (f g : A → B) (l : List A) → ((x : A) → List·Memᴰ x l → f x ≡ g x) → map f l ≡ map g l
+pub map-on : {A B : Type 0} (f g : A → B) (l : List A) → ((x : A) → List·Memᴰ x l → f x ≡ g x) → map f l ≡ map g l
 map-on f g [] e = refl
 map-on f g (x ∷ l) e = ap₂ _∷_ (e x (List·Memᴰ·head refl)) (map-on f g l (λ y m. e y (List·Memᴰ·tail m)))
 

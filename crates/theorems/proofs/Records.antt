@@ -32,7 +32,7 @@ use Rattle.theorems.proofs.Lists.{holds, and-intro, length-upto, getD-m
 use Rattle.timing.proofs.Verdicts.{then-passed, unless-passed}
 use Rattle.theorems.proofs.Runs.{Rising}
 use Rattle.theorems.proofs.Stands.{Stands, true-stands, true-label}
-use Rattle.theorems.proofs.Tested.{design-fits, tests-count, formed}
+use Rattle.theorems.proofs.Tested.{fit-passed, design-fits, tests-count, formed, Timed, timing-passed, timing-passes}
 use Rattle.theorems.proofs.Legal.{Legal, fits-legal, design-legal, wellFormed-legal}
 use Rattle.theorems.proofs.Kept.{true-formed}
 use Rattle.theorems.proofs.Extremes.{AtMost, order}
@@ -65,12 +65,7 @@ front-made H room same =
         ap (λ (k : ℕ). take k (placed (map f (H .edges)) room)) (sym (length-map (H .edges) f))
         ∙ take-append-seam (map f (H .edges)) (drop (length (map f (H .edges))) room)
 
--- a test that passes, by its condition
-fit-passed : (number : ℕ) (b : Bool) → T b → unless number b ≡ Passed
-fit-passed number true h = refl
-fit-passed number false h = absurd h
-
-same-sizes : (n a b : ℕ) → a ≡ n → b ≡ n → sameSizes n a b ≡ Passed
+pub same-sizes : (n a b : ℕ) → a ≡ n → b ≡ n → sameSizes n a b ≡ Passed
 same-sizes n a b p q = rw (p, q) (fit-passed 30 (eqb n n && eqb n n) (and-intro (eqb n n) (eqb n n) (eqb-refl n) (eqb-refl n)))
 
 time-sizes : (n a r s e : ℕ) → a ≡ n → r ≡ n → s ≡ n → e ≡ n → timeSizes n a r s e ≡ Passed
@@ -79,11 +74,7 @@ time-sizes n a r s e p q o l = rw (same-sizes n a r p q) (same-sizes n s e o l)
 -- the tests of `node_record` pass on slices that `times` filled
 times-count : (D : Design) (S : GraphSlices) (t a r s e : ℕ) → testTimes D S t a r s e ≡ Passed → nodeCount (D .nodes) ≡ Passed
 unfolding testTimes
-times-count D S t a r s e p =
-    let p₁ = then-passed (designSizes D) _ p in
-    let p₂ = then-passed (graphSizes S) _ (p₁ .1) in
-    let p₃ = then-passed (timeSizes (length (S .nodes)) a r s e) _ (p₂ .1) in
-    tests-count D (then-passed (designTests D) _ (p₃ .1) .0)
+times-count D S t a r s e p = tests-count D (timing-passed D S t (timeSizes (length (S .nodes)) a r s e) p .tests)
 
 record-passed : (n : ℕ) (nodes : List ℕ) (ats rts sts ets : List ℤ) (v : ℕ) → timeSizes (length nodes) (length ats) (length rts) (length sts) (length ets) ≡ Passed
     → nodeCount n ≡ Passed → recordOf n nodes ats rts sts ets v ≡ Record (nodeRecord n nodes ats rts sts ets v)
@@ -155,28 +146,34 @@ series-demand2 D rs H e =
     let h = series-held D rs H e in
     (h .0, h .1, stands-demand2 D (designGraph D) H (h .0) (fits-legal D (h .2 .fit) .rising) (h .2 .stands) (h .2 .legal))
 
--- `times` refuses such a result only for T and for the lengths of its slices
+-- the tests that come before times refuse a well-formed graph only for T and for the lengths of the lent slices
+pub formed-timed : (D : Design) (H : Graph) (t : ℕ) (lent : Verdict) → designSizes D ≡ Passed → designTests D ≡ Passed → length (H .endpoints) ≡ length (H .nodes)
+    → T (wellFormed D H) → t ≤ 1000000000 → lent ≡ Passed → Timed D (slicesOf H) t lent
+formed-timed D H t lent s d n w h p = record {
+  sizes = s;
+  slices = slices-sizes H n;
+  places = p;
+  tests = d;
+  allowed = h;
+  well = subst (λ (F : Graph). T (wellFormed D F)) (sym (graph-slices H)) w;
+}
+
+-- so `times` refuses what a removal made only for these
 pub removed-times : (D : Design) (G : Graph) (L : List (List ℕ)) (H : Graph) (t a r s e : ℕ) → Removed D G L H → t ≤ 1000000000
     → a ≡ length (H .nodes) → r ≡ length (H .nodes) → s ≡ length (H .nodes) → e ≡ length (H .nodes) → testTimes D (slicesOf H) t a r s e ≡ Passed
 unfolding testTimes
 removed-times D G L H t a r s e m h p q o l =
-    rw (m .sizes, slices-sizes H (m .stands .sizes), time-sizes (length (H .nodes)) a r s e p q o l, m .tests, fit-passed 25 (leb t 1000000000) (le→leb t 1000000000 h))
-    (ap (graphTest D) (graph-slices H) ∙ fit-passed 32 (wellFormed D H) (m .formed))
+    timing-passes D (slicesOf H) t _ (formed-timed D H t _ (m .sizes) (m .tests) (m .stands .sizes) (m .formed) h (time-sizes (length (H .nodes)) a r s e p q o l))
 
 -- Whatever true graph `times` passes, it leaves at no copy an earliest arrival above the arrival.
 pub earliest-left : (D : Design) (S : GraphSlices) (t : ℕ) (ats ets : List ℤ) (a r s e : ℕ) → testTimes D S t a r s e ≡ Passed
     → (h : ℕ) → h < length (S .nodes) → getD (earliestsAfter D S Passed ets) h (pos 0) ≤ℤ getD (arrivalsAfter D S t Passed ats) h (pos 0)
 unfolding testTimes arrivalsAfter earliestsAfter
 earliest-left D S t ats ets a r s e p h k =
-    let p₁ = then-passed (designSizes D) _ p in
-    let p₂ = then-passed (graphSizes S) _ (p₁ .1) in
-    let p₃ = then-passed (timeSizes (length (S .nodes)) a r s e) _ (p₂ .1) in
-    let p₄ = then-passed (designTests D) _ (p₃ .1) in
-    let p₅ = then-passed (allowedTest t) _ (p₄ .1) in
-    let w = holds (wellFormed D (graphOf S)) (unless-passed 32 (wellFormed D (graphOf S)) (p₅ .1)) in
-    let up = wellFormed-legal D (graphOf S) (p₁ .0) (p₄ .0) w .rising in
-    let named : (x : Edge) → List·Memᴰ x (graphOf S .edges) → AtMost (edgeEarly D (x .name)) (edgeLate D (x .name)) =
-    λ x m. design-fits D (p₁ .0) (p₄ .0) .ordered (x .name) (formed D (graphOf S) w .fits x m .named) in
+    let x = timing-passed D S t (timeSizes (length (S .nodes)) a r s e) p in
+    let up = wellFormed-legal D (graphOf S) (x .sizes) (x .tests) (x .well) .rising in
+    let named : (f : Edge) → List·Memᴰ f (graphOf S .edges) → AtMost (edgeEarly D (f .name)) (edgeLate D (f .name)) =
+    λ f m. design-fits D (x .sizes) (x .tests) .ordered (f .name) (formed D (graphOf S) (x .well) .fits f m .named) in
     rw (left (earliestAt (edgeEarly D) (graphOf S)), left (arrivalAt (edgeLate D) (pos t) (graphOf S)))
     (order _ _ (earliest-below (edgeEarly D) (edgeLate D) (pos t) (graphOf S) up named h k))
   where

@@ -2,10 +2,10 @@
 -- paths, 32 of a graph.
 use Prim.Native.Nat.{ℕ, suc, _≤_, _<_}
 use mathlib.Core.Path.{_≡_, refl}
-use mathlib.Core.Bool.{Bool, false, _&&_}
+use mathlib.Core.Bool.{Bool, true, false, _&&_}
 use mathlib.Core.List.{List, [], List·Memᴰ}
 use native.Mathlib.Omega.{arith}
-use lib.Dec.{T, eqb, ltb, leb, eqb→eq, eqb-refl, leb→le, ltb→lt, lt→ltb}
+use lib.Dec.{T, eqb, ltb, leb, eqb→eq, eqb-refl, leb→le, le→leb, ltb→lt, lt→ltb}
 use lib.IntN.{ℤ, natAbs}
 use lib.ListN.{length, getD}
 use Rattle.timing.specs.declared.Verdict.{Verdict}
@@ -15,7 +15,8 @@ use Rattle.timing.specs.Graphs.{Design, design, edgeStart, edgeEnd, edgeEarly, 
 use Rattle.timing.specs.Marks.{PathList, pathsOf}
 use Rattle.timing.specs.WellFormed.{fewEnough, nodesFit, edgeFits, edgeRises, zeroOrOne, oneEndpoint, copyFits, wellFormed}
 use Rattle.timing.specs.Refusals.{unless, firstBad, firstFault, _then_}
-use Rattle.timing.specs.Tests.{designSizes, listSizes, nodeCount, designCounts, strays, falls, outOfRange, earlyAboveLate, wrongMarked, designTests, listCounts, meets, emptyAt, firstUnknown, firstBreak, listTests, graphTest}
+use Rattle.timing.specs.Tests.{designSizes, listSizes, nodeCount, designCounts, strays, falls, outOfRange, earlyAboveLate, wrongMarked, designTests, listCounts, meets, emptyAt, firstUnknown, firstBreak, listTests, allowedTest, graphTest}
+use Rattle.timing.specs.Calls.{GraphSlices, graphOf, graphSizes, timingTests}
 use Rattle.timing.proofs.Ints.{ltZ-false}
 use Rattle.theorems.proofs.Extremes.{AtMost}
 use Rattle.theorems.proofs.Lists.{and-intro, and-left, and-right, holds, not-false, mem-upto, of-upto, allOf-elim, allOf-intro}
@@ -23,6 +24,11 @@ use Rattle.timing.proofs.Verdicts.{then-passed, unless-passed, edges-passed}
 use Rattle.theorems.proofs.Refusals.{firstBad-passed}
 use Rattle.theorems.proofs.Tests.{marked-right}
 use Rattle.theorems.proofs.Faults.{has-edge, all-known, all-join, firstFault-passed}
+
+-- a test that passes, by its condition
+pub fit-passed : (number : ℕ) (b : Bool) → T b → unless number b ≡ Passed
+fit-passed number true h = refl
+fit-passed number false h = absurd h
 
 -- what tests 30 and 10 to 16 say of a design
 pub record DesignFits (D : Design) : Type 0 where
@@ -266,3 +272,34 @@ formed-passes D G w =
     (w .flags))
     (allOf-intro (oneEndpoint G) (upto (D .nodes) 0) (λ v m. w .one-end v (omega (arith, of-upto (D .nodes) 0 v m .1)))))
     (allOf-intro (copyFits D G) (upto (length (G .nodes)) 0) (λ c m. w .copies c (omega (arith, of-upto (length (G .nodes)) 0 c m .1))))
+
+-- what the tests say of a design, a true graph and T, with the lent slices tested by `lent`; and the other way round
+pub record Timed (D : Design) (S : GraphSlices) (t : ℕ) (lent : Verdict) : Type 0 where
+  pub sizes : designSizes D ≡ Passed
+  pub slices : graphSizes S ≡ Passed
+  pub places : lent ≡ Passed
+  pub tests : designTests D ≡ Passed
+  pub allowed : t ≤ 1000000000
+  pub well : T (wellFormed D (graphOf S))
+
+module _ (D : Design) (S : GraphSlices) (t : ℕ) (lent : Verdict) where
+  pub timing-passed : timingTests D S t lent ≡ Passed → Timed D S t lent
+  timing-passed p =
+      let p₁ = then-passed (designSizes D) _ p in
+      let p₂ = then-passed (graphSizes S) _ (p₁ .1) in
+      let p₃ = then-passed lent _ (p₂ .1) in
+      let p₄ = then-passed (designTests D) _ (p₃ .1) in
+      let p₅ = then-passed (allowedTest t) _ (p₄ .1) in
+      record {
+        sizes = p₁ .0;
+        slices = p₂ .0;
+        places = p₃ .0;
+        tests = p₄ .0;
+        allowed = leb→le t 1000000000 (holds (leb t 1000000000) (unless-passed 25 (leb t 1000000000) (p₅ .0)));
+        well = holds (wellFormed D (graphOf S)) (unless-passed 32 (wellFormed D (graphOf S)) (p₅ .1));
+      }
+
+  pub timing-passes : Timed D S t lent → timingTests D S t lent ≡ Passed
+  timing-passes p =
+      rw (p .sizes, p .slices, p .places, p .tests, fit-passed 25 (leb t 1000000000) (le→leb t 1000000000 (p .allowed)))
+      (fit-passed 32 (wellFormed D (graphOf S)) (p .well))

@@ -1,6 +1,3 @@
 -- Laws that the proofs cite.
-pub mod Elements
-pub mod Lists
 pub mod Passes
-pub mod Records
 pub mod Passed

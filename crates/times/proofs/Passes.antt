@@ -26,8 +26,8 @@ use Rattle.theorems.proofs.Runs.{Rising, Onward, mem-out, runs-to-ends}
 use Rattle.theorems.proofs.Extremes.{AtMost, AtLeast, Picks, Some, nil-or-some, larges, smalls}
 use Rattle.theorems.proofs.Times.{Levels, copy-levels, arrival-size, required-size, earliest-size, arrival-source, arrival-edges, required-end, required-edges, earliest-source, earliest-edges}
 use Rattle.times.specs.Passes.{noArrival, noRequired, noEarliest, timeOr, firstRequired, Step, stepped, lowered, delayOf, edgeAt, Fit, Small}
-use Rattle.times.proofs.Elements.{size-each, at-each, set-each, each-same}
-use Rattle.times.proofs.Lists.{keep-front, keep-back, keep-yes, keep-no, later, earlier, length-edges, getD-edges, best-snoc, best-cons, best-low, best-high}
+use Rattle.theorems.proofs.Elements.{size-each, at-each, set-each, each-same}
+use Rattle.theorems.proofs.Splits.{keep-front, keep-back, keep-yes, keep-no, later, earlier, length-edges, getD-edges, best-snoc, best-cons, best-low, best-high}
 
 -- a time that is there
 or-there : (none first z : ℤ) → (z ≡ none → ⊥) → timeOr none first z ≡ z
@@ -77,7 +77,7 @@ small-each f n h = record { bound = λ c. go c (decLt c n) }
         rw (List·getD-eq-default (map f (upto n 0)) (pos 0) past) (omega arith)
 
 -- the order of edges
-abbrev noLater : Edge → Edge → Bool
+abbrev pub noLater : Edge → Edge → Bool
 noLater e f = leb (e .end) (f .end)
 
 -- what an edge gives its end, where `at` is a time of each copy, and its start for required time
@@ -112,13 +112,13 @@ module _ (delays : List ℤ) (S : GraphSlices) (F : Fit delays S) where
   abbrev n : ℕ
   n = length (S .nodes)
 
-  rising : Rising (graphOf S)
+  pub rising : Rising (graphOf S)
   rising = record { up = F .up; inside = F .inside }
 
-  levels : Levels d (graphOf S) 1000000 (λ c. c) (n - 1)
+  pub levels : Levels d (graphOf S) 1000000 (λ c. c) (n - 1)
   levels = copy-levels d (graphOf S) 1000000 rising (F .range)
 
-  sorted : Sorted noLater (graphOf S .edges)
+  pub sorted : Sorted noLater (graphOf S .edges)
   sorted = next-sorted noLater (λ x y z p q. le→leb (x .end) (z .end) (omega (arith, leb→le (x .end) (y .end) p, leb→le (y .end) (z .end) q))) (graphOf S .edges) (F .order)
 
   pub edges-size : length (graphOf S .edges) ≡ length (S .starts)
@@ -126,13 +126,13 @@ module _ (delays : List ℤ) (S : GraphSlices) (F : Fit delays S) where
 
   -- edge k
   module _ (k : ℕ) (h : k < length (S .starts)) where
-    edge-is : getD (graphOf S .edges) k (edge 0 0 0) ≡ edgeAt S k
+    pub edge-is : getD (graphOf S .edges) k (edge 0 0 0) ≡ edgeAt S k
     edge-is = getD-edges (S .starts) (S .ends) (S .names) k (edge 0 0 0) (F .ends) (F .names) h
 
     inner : k < length (graphOf S .edges)
     inner = omega (arith, edges-size)
 
-    edge-in : List·Memᴰ (edgeAt S k) (graphOf S .edges)
+    pub edge-in : List·Memᴰ (edgeAt S k) (graphOf S .edges)
     edge-in = subst (λ (e : Edge). List·Memᴰ e (graphOf S .edges)) edge-is (getD-mem (graphOf S .edges) k (edge 0 0 0) inner)
 
     pub end-in : getD (S .ends) k 0 < n

@@ -1,4 +1,4 @@
-// Slices with a place for each copy or node, filled and settled.
+// Slices with a place for each copy, settled.
 //
 // A copy that no edge has given a time yet holds the number that is furthest from every time: no
 // scratch has to say which copies have one.
@@ -18,16 +18,6 @@ pub(crate) fn time_or(t: i64, none: i64, first: i64) -> i64
         return t;
     }
     if none < t { t } else { first }
-}
-
-pub(crate) fn fill(times: &mut [i64], t: i64)
-    ensures { λ r. ⌜ now (times .exit) ≡ map (λ (c : ℕ). t) (upto (length (now (times .entry))) 0) ⌝ }
-{
-    let mut i = 0;
-    while i < times.len() {
-        times[i] = t;
-        i += 1;
-    }
 }
 
 // Gives `first` to every copy that has no time yet.

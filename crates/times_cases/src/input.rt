@@ -13,7 +13,8 @@ pub(crate) fn fill_delays(s: &[u8], at: usize, delays: &mut [i32]) -> Slice {
     c
 }
 
-// What a case asks besides its slices. The lengths are those of the slices for the times of copies.
+// What a case asks besides its slices. The lengths are those of the slices for the times of copies; `lent` is
+// that of the slice of arrivals for late or not.
 pub(crate) struct Question {
     pub n: u32,
     pub allowed: u32,
@@ -22,6 +23,7 @@ pub(crate) struct Question {
     pub requireds: usize,
     pub slacks: usize,
     pub earliests: usize,
+    pub lent: usize,
     pub next: usize,
 }
 
@@ -33,6 +35,7 @@ pub(crate) fn read_question(s: &[u8], at: usize) -> Question {
     let r = take_number(s, a.next);
     let k = take_number(s, r.next);
     let e = take_number(s, k.next);
+    let l = take_number(s, e.next);
     Question {
         n: n.value,
         allowed: allowed.value,
@@ -41,7 +44,8 @@ pub(crate) fn read_question(s: &[u8], at: usize) -> Question {
         requireds: r.value as usize,
         slacks: k.value as usize,
         earliests: e.value as usize,
-        next: e.next,
+        lent: l.value as usize,
+        next: l.next,
     }
 }
 

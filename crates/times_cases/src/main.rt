@@ -1,8 +1,8 @@
-// Finds the times of the graphs on standard input, and the records of their nodes, and prints them.
-// The input is up to three blocks of 65,536 bytes, each of packed numbers: a count of cases, and for each n, T, a
-// node, the lengths of the four slices for times and of the five for records, and then ten slices:
-// starts, ends, early and late delays, marked nodes, the nodes and the endpoint numbers of the copies,
-// start copies, end copies, design edges.
+// Finds the times of the graphs on standard input, the records of their nodes, and whether they are late, and
+// prints them. The input is up to three blocks of 65,536 bytes, each of packed numbers: a count of cases, and for
+// each n, T, a node, the lengths of the four slices for times, of the one for late or not and of the five for
+// records, and then ten slices: starts, ends, early and late delays, marked nodes, the nodes and the endpoint
+// numbers of the copies, start copies, end copies, design edges.
 // Crate `cases` says how a slice is packed; here each has a rise, so that a chain takes few bytes.
 mod input;
 mod say;
@@ -19,7 +19,9 @@ use input::read_question;
 use libc::STDIN_FILENO;
 use packed_lists::take_number;
 use say::say_answer;
+use say::say_arrivals;
 use say::say_found;
+use say::say_lateness;
 use say::say_records;
 use timing::Verdict;
 
@@ -37,7 +39,7 @@ fn records(
     ns: &mut [i64],
     ne: &mut [i64],
 ) {
-    let v = times::node_records(
+    let v = records::node_records(
         n,
         nodes,
         arrivals,
@@ -100,7 +102,7 @@ fn say_all(
     earliests: &[i64],
 ) {
     say_found(v, arrivals, requireds, slacks, earliests);
-    say_answer(times::node_record(q.n, nodes, arrivals, requireds, slacks, earliests, q.node));
+    say_answer(records::node_record(q.n, nodes, arrivals, requireds, slacks, earliests, q.node));
     ask_records(q.n, p, nodes, arrivals, requireds, slacks, earliests);
 }
 
@@ -187,6 +189,125 @@ fn ask(
     );
 }
 
+// Asks whether a graph is late, and says it and what the lent slice holds then.
+fn late(
+    n: u32,
+    allowed: u32,
+    starts: &[u32],
+    ends: &[u32],
+    early: &[i32],
+    late: &[i32],
+    marked: &[u32],
+    nodes: &[u32],
+    endpoint: &[u32],
+    from: &[u32],
+    to: &[u32],
+    via: &[u32],
+    arrivals: &mut [i64],
+) {
+    let answer = late::late_or_not(
+        n,
+        starts,
+        ends,
+        early,
+        late,
+        marked,
+        allowed,
+        nodes,
+        endpoint,
+        from,
+        to,
+        via,
+        arrivals,
+    );
+    say_lateness(answer);
+    say_arrivals(arrivals);
+}
+
+// The same, with a slice as long as the case says, which holds 77 at every place.
+fn ask_late(
+    n: u32,
+    allowed: u32,
+    lent: usize,
+    starts: &[u32],
+    ends: &[u32],
+    early: &[i32],
+    late_delays: &[i32],
+    marked: &[u32],
+    nodes: &[u32],
+    endpoint: &[u32],
+    from: &[u32],
+    to: &[u32],
+    via: &[u32],
+) {
+    let mut arrivals = [77i64; 4200];
+    let a = least(lent, 4200);
+    late(
+        n,
+        allowed,
+        starts,
+        ends,
+        early,
+        late_delays,
+        marked,
+        nodes,
+        endpoint,
+        from,
+        to,
+        via,
+        &mut arrivals[..a],
+    );
+}
+
+// Asks all that is asked about a graph.
+fn ask_all(
+    q: Question,
+    p: Places,
+    starts: &[u32],
+    ends: &[u32],
+    early: &[i32],
+    late: &[i32],
+    marked: &[u32],
+    nodes: &[u32],
+    endpoint: &[u32],
+    from: &[u32],
+    to: &[u32],
+    via: &[u32],
+) {
+    let n = q.n;
+    let allowed = q.allowed;
+    let lent = q.lent;
+    ask(
+        q,
+        p,
+        starts,
+        ends,
+        early,
+        late,
+        marked,
+        nodes,
+        endpoint,
+        from,
+        to,
+        via,
+    );
+    ask_late(
+        n,
+        allowed,
+        lent,
+        starts,
+        ends,
+        early,
+        late,
+        marked,
+        nodes,
+        endpoint,
+        from,
+        to,
+        via,
+    );
+}
+
 // Asks about the graph at a place, and answers the place behind it.
 fn graph_of(
     s: &[u8],
@@ -209,7 +330,7 @@ fn graph_of(
     let c = fill_rising(s, b.next, &mut from);
     let d = fill_rising(s, c.next, &mut to);
     let e = fill_rising(s, d.next, &mut via);
-    ask(
+    ask_all(
         q,
         p,
         starts,

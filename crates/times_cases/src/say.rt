@@ -3,6 +3,7 @@ use entries::number_at;
 use entries::time_at;
 use print::refused;
 use print::text;
+use timing::Lateness;
 use timing::NodeAnswer;
 use timing::NodeTimes;
 use timing::Refusal;
@@ -129,4 +130,39 @@ pub(crate) fn say_records(
         Verdict::Passed => say_nodes(known, na, nr, ns, ne),
         Verdict::Refused(r) => say_refused(r),
     }
+}
+
+// The answer of `late_or_not`.
+pub(crate) fn say_lateness(answer: Lateness) {
+    match answer {
+        Lateness::Late { copy } => {
+            text(b"late ");
+            print::number(copy as u64);
+            text(b"\n");
+        }
+        Lateness::OnTime => text(b"on time\n"),
+        Lateness::Refused(r) => say_refused(r),
+    }
+}
+
+fn say_arrival(c: usize, arrival: i64) {
+    if printed(c) {
+        text(b" ");
+        print::time(arrival);
+    }
+}
+
+fn say_places(arrivals: &[i64]) {
+    let mut c = 0;
+    while c < arrivals.len() {
+        say_arrival(c, time_at(arrivals, c));
+        c += 1;
+    }
+}
+
+// All places, also those that were not written.
+pub(crate) fn say_arrivals(arrivals: &[i64]) {
+    text(b"arrivals");
+    say_places(arrivals);
+    text(b"\n");
 }

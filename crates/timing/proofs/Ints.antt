@@ -6,7 +6,7 @@ use mathlib.Core.Path.{_≡_, refl, sym, ap, subst}
 use mathlib.Core.Bool.{Bool, true, false, cond}
 use lib.Dec.{T, ltb}
 use lib.IntN.{ℤ, pos, negsuc, negℤ, natAbs, subℕ, _+ℤ_, _-ℤ_}
-use lib.Signed.{ltZ, nonNeg}
+use lib.Signed.{mag, ltZ, nonNeg}
 use borrow.Author.Tests.{ltb-true, ltb-false}
 use mir.Syntax.{Width, w32, w64}
 use mir.Val.{SFits, hbits, toZ, ofZ}
@@ -96,6 +96,10 @@ sfits-parts w (pos n) h = record { sfits = omega arith }
 sfits-parts w (negsuc n) h = record { sfits = omega arith }
 
 -- what the machine reads back is the number, at its own width and at a wider one
+-- a time that the machine reads back
+pub read-back : (z : ℤ) → mag z < 2 ^ hbits w64 → toZ w64 (ofZ w64 z) ≡ z
+read-back z h = toZ-ofZ {w = w64} {z = z} (record { sfits = h })
+
 pub back64 : {d : ℤ} → SFits w32 d → toZ w64 (ofZ w64 (toZ w32 (ofZ w32 d))) ≡ d
 back64 f = rw (toZ-ofZ f, toZ-ofZ (sfits-widen {w = w32} {w′ = w64} tt f))
 

@@ -15,20 +15,22 @@ use Rattle.timing.specs.declared.NodeTimes.{NodeTimes}
 use Rattle.timing.specs.declared.NodeTimes.the-variants.{Times, None}
 use Rattle.timing.specs.declared.GraphMade.{GraphMade}
 use Rattle.timing.specs.declared.GraphMade.the-variants.{Counts, Refused as NotMade}
+use Rattle.timing.specs.declared.Lateness.{Lateness}
+use Rattle.timing.specs.declared.Lateness.the-variants.{Late, OnTime, Refused as NotTimed}
 use Rattle.timing.specs.Lists.{upto}
 use Rattle.timing.specs.Graphs.{Design, design, edge, Graph, graph, designGraph, edgesIn, edgesOut}
 use Rattle.timing.specs.Graphs.{runsTo, runsFrom, completeRuns}
 use Rattle.timing.specs.Marks.{PathList, pathList, pathsOf, permitted, tails, mark}
 use Rattle.timing.specs.TrueGraphs.{permittedRuns, copies, pathEnds, joins, trueGraph}
 use Rattle.timing.specs.WellFormed.{wellFormed}
-use Rattle.timing.specs.Times.{arrivalAt, requiredAt, slackAt, earliestAt, nodeTimes}
+use Rattle.timing.specs.Times.{arrivalAt, requiredAt, slackAt, earliestAt, lateCopies, nodeTimes}
 use Rattle.timing.specs.Numbers.{packedIn, packed, groupsIn, readNumber, writeAnswer, writtenRoom}
 use Rattle.timing.specs.Decks.{Deck, deckNumbers, packedDeck, readDeck}
 use Rattle.timing.specs.GraphBytes.{graphNumbers, packedGraph, readGraph}
 use Rattle.timing.specs.Refusals.{refusal, refusalWithin}
 use Rattle.timing.specs.Tests.{Room, designTests, listTests, candidates, scratchTest, roomTests}
 use Rattle.timing.specs.Calls.{GraphSlices, graphSlices, slicesOf, Outcome, made, refused, Removal, removal, testDeck}
-use Rattle.timing.specs.Calls.{testTimes, arrivalsAfter, requiredsAfter, slacksAfter, earliestsAfter, testRecords, deckRead}
+use Rattle.timing.specs.Calls.{testTimes, arrivalsAfter, requiredsAfter, slacksAfter, earliestsAfter, testLate, lateOrNot, arrivalsAfterLate, testRecords, deckRead}
 use Rattle.timing.specs.Calls.{removeFromDesign, removeFromGraph, programRemoval, program, cCall, cRoom}
 use Rattle.timing.specs.Calls.{deckWriteTests, graphWriteTests, graphRead, sizeFromDesign, sizeFromGraph, graphAnswer}
 
@@ -57,6 +59,7 @@ pub data Fact : Type 0 where
   graphWriterAnswers : GraphSlices → Verdict → Fact
   sizeIs : Design → PathList → ℕ → GraphMade → Fact
   sizeAgainIs : Design → Graph → PathList → ℕ → GraphMade → Fact
+  lateIs : Design → Graph → ℕ → ℕ → Lateness → List ℤ → Fact
 
 abbrev pub zeros : ℕ → List ℕ
 zeros n = map (λ i. 0) (upto n 0)
@@ -118,6 +121,10 @@ Holds (graphReadIs s R o) = graphRead s R ≡ o
 Holds (graphWriterAnswers S v) = graphWriteTests S ≡ v
 Holds (sizeIs D L words a) = graphAnswer (sizeFromDesign D L words) ≡ a
 Holds (sizeAgainIs D G L words a) = graphAnswer (sizeFromGraph D (slicesOf G) L words) ≡ a
+Holds (lateIs D G T n a ts) =
+    let S = slicesOf G in
+    let answer = lateOrNot D S T n in
+    _≡_ {A = (x : Lateness) × List ℤ} (answer, arrivalsAfterLate D S T answer (map (λ i. pos 77) (upto n 0))) (a, ts)
 
 infixr 4 _also_
 pub data All : List Fact → Type 0 where
@@ -260,6 +267,19 @@ observedAlone = graph (0 ∷ 1 ∷ 2 ∷ []) (0 ∷ 0 ∷ 1 ∷ []) (edge 0 2 0 
 abbrev pub observedSource : Design
 observedSource = design 3 (0 ∷ 1 ∷ []) (1 ∷ 2 ∷ []) (pos 1 ∷ pos 1 ∷ []) (pos 1 ∷ pos 1 ∷ []) (0 ∷ [])
 
+-- observedBack with nothing marked, and its true graph without edge 2
+abbrev pub back : Design
+back =
+    design 5 (0 ∷ 1 ∷ 2 ∷ 2 ∷ []) (2 ∷ 2 ∷ 3 ∷ 4 ∷ []) (pos 3 ∷ pos 5 ∷ pos 2 ∷ negsuc 0 ∷ [])
+    (pos 3 ∷ pos 5 ∷ pos 2 ∷ negsuc 0 ∷ []) []
+
+abbrev pub backGraph : Graph
+backGraph = graph (0 ∷ 1 ∷ 2 ∷ 4 ∷ []) (0 ∷ 0 ∷ 0 ∷ 1 ∷ []) (edge 0 2 0 ∷ edge 1 2 1 ∷ edge 2 3 3 ∷ [])
+
+-- an early delay far below the late one
+abbrev pub quick : Design
+quick = design 3 (0 ∷ 1 ∷ []) (1 ∷ 2 ∷ []) (negsuc 8 ∷ negsuc 2 ∷ []) (pos 8 ∷ negsuc 2 ∷ []) []
+
 abbrev pub marked : List Fact
 marked =
     -- M1: deck A
@@ -283,14 +303,12 @@ marked =
     ∷ graphIs oneNode (noPaths ∷ []) (graph (0 ∷ []) (1 ∷ []) [])
     ∷ timesAre oneNode 7 (noPaths ∷ []) (Times (pos 0) (pos 7) (pos 7) (pos 0) ∷ [])
     -- M4: A with only path 2; a graph handed back uncut does not meet it
-    ∷ graphIs deckA (pathList (2 ∷ []) (1 ∷ []) ∷ [])
-    (graph (0 ∷ 1 ∷ 2 ∷ 4 ∷ []) (0 ∷ 0 ∷ 0 ∷ 1 ∷ []) (edge 0 2 0 ∷ edge 1 2 1 ∷ edge 2 3 3 ∷ []))
+    ∷ graphIs deckA (pathList (2 ∷ []) (1 ∷ []) ∷ []) backGraph
     ∷ nodesAre deckA 10 (pathList (2 ∷ []) (1 ∷ []) ∷ [])
     (Times (pos 0) (pos 6) (pos 6) (pos 0) ∷ Times (pos 0) (pos 4) (pos 4) (pos 0) ∷
     Times (pos 5) (pos 9) (pos 4) (pos 3) ∷ None ∷ Times (pos 6) (pos 10) (pos 4) (pos 4) ∷ None ∷ [])
     -- M5: A with 0,2 and 1,2: the graph of M4
-    ∷ graphIs deckA (pathList (0 ∷ 2 ∷ 1 ∷ 2 ∷ []) (2 ∷ 2 ∷ []) ∷ [])
-    (graph (0 ∷ 1 ∷ 2 ∷ 4 ∷ []) (0 ∷ 0 ∷ 0 ∷ 1 ∷ []) (edge 0 2 0 ∷ edge 1 2 1 ∷ edge 2 3 3 ∷ []))
+    ∷ graphIs deckA (pathList (0 ∷ 2 ∷ 1 ∷ 2 ∷ []) (2 ∷ 2 ∷ []) ∷ []) backGraph
     -- M6: A with 1,2 and 0,3; then by parts, which differs by a renumbering of node 2
     ∷ graphIs deckA (pathList (1 ∷ 2 ∷ 0 ∷ 3 ∷ []) (2 ∷ 2 ∷ []) ∷ [])
     (graph (0 ∷ 1 ∷ 2 ∷ 2 ∷ 3 ∷ 4 ∷ []) (0 ∷ 0 ∷ 0 ∷ 0 ∷ 1 ∷ 1 ∷ []) (edge 0 2 0 ∷ edge 1 3 1 ∷ edge 2 4 2 ∷
@@ -546,6 +564,37 @@ marked =
     ∷ sizeIs falling (pathList (0 ∷ 0 ∷ []) (2 ∷ [])) 96 (NotMade (refusal 13 0))
     ∷ sizeAgainIs forked outOfOrder (pathList (1 ∷ 0 ∷ []) (2 ∷ [])) 0 (NotMade (refusalWithin 24 0 1))
     ∷ sizeAgainIs forked outOfOrder (pathList (0 ∷ 1 ∷ []) (2 ∷ [])) 0 (NotMade (refusal 32 0))
+    -- Deck A: nothing late with T 10, nor with T 6, an arrival of just T; late at its last copy with T 5; at copy 4, and copy 5 is unchanged, with T 4
+    ∷ lateIs deckA graphA 10 6 OnTime (pos 0 ∷ pos 0 ∷ pos 5 ∷ pos 3 ∷ pos 5 ∷ pos 6 ∷ [])
+    ∷ lateIs deckA graphA 6 6 OnTime (pos 0 ∷ pos 0 ∷ pos 5 ∷ pos 3 ∷ pos 5 ∷ pos 6 ∷ [])
+    ∷ lateIs deckA graphA 5 6 (Late 5) (pos 0 ∷ pos 0 ∷ pos 5 ∷ pos 3 ∷ pos 5 ∷ pos 6 ∷ [])
+    ∷ lateIs deckA graphA 4 6 (Late 4) (pos 0 ∷ pos 0 ∷ pos 5 ∷ pos 3 ∷ pos 5 ∷ pos 77 ∷ [])
+    -- Late at copy 2, of a marked node with edges out, before copies 4 and 5; where no path ends at it, an arrival above T there is not late; late where one does
+    ∷ lateIs observed observedGraph 4 6 (Late 2) (pos 0 ∷ pos 0 ∷ pos 5 ∷ pos 77 ∷ pos 77 ∷ pos 77 ∷ [])
+    ∷ lateIs back backGraph 4 4 OnTime (pos 0 ∷ pos 0 ∷ pos 5 ∷ pos 4 ∷ [])
+    ∷ lateIs observedBack (graph (0 ∷ 1 ∷ 2 ∷ 4 ∷ []) (0 ∷ 0 ∷ 1 ∷ 1 ∷ []) (edge 0 2 0 ∷ edge 1 2 1 ∷ edge 2 3 3 ∷
+    [])) 4 4 (Late 2)
+    (pos 0 ∷ pos 0 ∷ pos 5 ∷ pos 77 ∷ [])
+    -- T 0: an arrival below 0; one of just 0, at a source where paths end; no copies
+    ∷ lateIs designM9 (graph (0 ∷ 1 ∷ []) (0 ∷ 1 ∷ []) (edge 0 1 0 ∷ [])) 0 2 OnTime (pos 0 ∷ negsuc 3 ∷ [])
+    ∷ lateIs oneNode (graph (0 ∷ []) (1 ∷ []) []) 0 1 OnTime (pos 0 ∷ [])
+    ∷ lateIs noNodes (graph [] [] []) 0 0 OnTime []
+    -- By late delays: late with T 4, and on time with T 5; by early ones both would be on time
+    ∷ lateIs quick (graph (0 ∷ 1 ∷ 2 ∷ []) (0 ∷ 0 ∷ 1 ∷ []) (edge 0 1 0 ∷ edge 1 2 1 ∷ [])) 4 3 (Late 2)
+    (pos 0 ∷ pos 8 ∷ pos 5 ∷ [])
+    ∷ lateIs quick (graph (0 ∷ 1 ∷ 2 ∷ []) (0 ∷ 0 ∷ 1 ∷ []) (edge 0 1 0 ∷ edge 1 2 1 ∷ [])) 5 3 OnTime
+    (pos 0 ∷ pos 8 ∷ pos 5 ∷ [])
+    -- Late or not is refused as times are, and then no place changes: 30 for a place more and for one less, before 13; 13 before 25; 25 before 32; 32
+    ∷ lateIs deckA graphA 10 7 (NotTimed (refusal 30 0))
+    (pos 77 ∷ pos 77 ∷ pos 77 ∷ pos 77 ∷ pos 77 ∷ pos 77 ∷ pos 77 ∷ [])
+    ∷ lateIs deckA graphA 10 5 (NotTimed (refusal 30 0)) (pos 77 ∷ pos 77 ∷ pos 77 ∷ pos 77 ∷ pos 77 ∷ [])
+    ∷ lateIs falling graphA 10 7 (NotTimed (refusal 30 0))
+    (pos 77 ∷ pos 77 ∷ pos 77 ∷ pos 77 ∷ pos 77 ∷ pos 77 ∷ pos 77 ∷ [])
+    ∷ lateIs falling graphA 1000000001 6 (NotTimed (refusal 13 0))
+    (pos 77 ∷ pos 77 ∷ pos 77 ∷ pos 77 ∷ pos 77 ∷ pos 77 ∷ [])
+    ∷ lateIs forked outOfOrder 1000000001 6 (NotTimed (refusal 25 0))
+    (pos 77 ∷ pos 77 ∷ pos 77 ∷ pos 77 ∷ pos 77 ∷ pos 77 ∷ [])
+    ∷ lateIs forked outOfOrder 0 6 (NotTimed (refusal 32 0)) (pos 77 ∷ pos 77 ∷ pos 77 ∷ pos 77 ∷ pos 77 ∷ pos 77 ∷ [])
     ∷ []
 
 pub marked-hold : All marked
@@ -553,8 +602,8 @@ unfolding flatMap designGraph edgesIn edgesOut runsTo runsFrom completeRuns perm
     pathEnds joins trueGraph wellFormed arrivalAt requiredAt slackAt earliestAt nodeTimes arrivalsAfter requiredsAfter
     slacksAfter earliestsAfter packedIn groupsIn readNumber writeAnswer writtenRoom readDeck graphNumbers packedGraph
     designTests listTests candidates scratchTest roomTests testDeck removeFromDesign removeFromGraph programRemoval
-    program cCall cRoom deckRead testTimes testRecords deckNumbers packedDeck deckWriteTests readGraph graphRead
-    graphWriteTests sizeFromDesign sizeFromGraph
+    program cCall cRoom deckRead testTimes testLate lateCopies lateOrNot arrivalsAfterLate testRecords deckNumbers
+    packedDeck deckWriteTests readGraph graphRead graphWriteTests sizeFromDesign sizeFromGraph
 marked-hold =
     refl also refl also refl also refl also refl also refl also refl also refl also refl also refl also refl also
     refl also refl also refl also refl also refl also refl also refl also refl also refl also refl also refl also
@@ -569,4 +618,6 @@ marked-hold =
     refl also refl also refl also refl also refl also refl also refl also refl also refl also refl also refl also
     refl also refl also refl also refl also refl also refl also refl also refl also refl also refl also refl also
     refl also refl also refl also refl also refl also refl also refl also refl also refl also refl also refl also
-    refl also refl also refl also refl also refl also refl also refl also refl also refl also none
+    refl also refl also refl also refl also refl also refl also refl also refl also refl also refl also refl also
+    refl also refl also refl also refl also refl also refl also refl also refl also refl also refl also refl also
+    refl also refl also refl also refl also refl also none

@@ -127,3 +127,7 @@ module _ (P : Refusal → Type 0) where
       go : (f : Fault) → Every P (unlessFault k i f)
       go None = tt
       go (At d) = h i d (omega arith)
+
+-- what was made from one verdict is what an equal one makes
+pub after-told : (A : Type 0) (after : A) (f : Verdict → A) (u v : Verdict) → u ≡ v → after ≡ f u → after ≡ f v
+after-told A after f u v e h = h ∙ ap f e

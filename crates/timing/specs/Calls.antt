@@ -3,7 +3,7 @@
 -- what a call does not take." "A refusal changes no result buffer." "Result places past the result are unchanged."
 use Prim.Native.Nat.{ℕ, _+_, _*_}
 use mathlib.Core.Bool.{cond, _||_}
-use mathlib.Core.List.{List, map}
+use mathlib.Core.List.{List, [], _∷_, map}
 use lib.Dec.{eqb, leb}
 use lib.IntN.{ℤ, pos, negℤ}
 use lib.ListN.{length}
@@ -24,11 +24,14 @@ use Rattle.timing.specs.declared.NodeTimes.the-variants.{Times, None}
 use Rattle.timing.specs.declared.NodeAnswer.{NodeAnswer}
 use Rattle.timing.specs.declared.NodeAnswer.the-variants.{Record}
 use Rattle.timing.specs.declared.NodeAnswer.the-variants.{Refused as NoRecord}
+use Rattle.timing.specs.declared.Lateness.{Lateness}
+use Rattle.timing.specs.declared.Lateness.the-variants.{Late, OnTime}
+use Rattle.timing.specs.declared.Lateness.the-variants.{Refused as NotTimed}
 use Rattle.timing.specs.Lists.{placed, upto}
 use Rattle.timing.specs.Graphs.{Design, edgeEarly, edgeLate, Graph, graph, edgesOf, designGraph}
 use Rattle.timing.specs.Marks.{PathList, pathList, pathsOf}
 use Rattle.timing.specs.TrueGraphs.{trueGraph}
-use Rattle.timing.specs.Times.{arrivalAt, requiredAt, slackAt, earliestAt, nodeRecord}
+use Rattle.timing.specs.Times.{arrivalAt, requiredAt, slackAt, earliestAt, lateCopies, nodeRecord}
 use Rattle.timing.specs.Numbers.{writeAnswer, writtenRoom}
 use Rattle.timing.specs.Parsing.{Parsed, found, stopped}
 use Rattle.timing.specs.Decks.{Deck, Tables, readDeck}
@@ -168,11 +171,14 @@ abbrev pub scratchAfter : {A : Type 0} → Outcome A → List ℕ → List ℕ
 scratchAfter (made x) s = map (λ w. 0) s
 scratchAfter (refused r) s = cond (eqb (r .number) 33 || eqb (r .number) 34 || eqb (r .number) 35) (map (λ w. 0) s) s
 
+-- The tests of a design, a true graph and T, where `lent` is 30 for the slices that times go into.
+abbrev pub timingTests : Design → GraphSlices → ℕ → Verdict → Verdict
+timingTests D S T lent =
+    designSizes D then graphSizes S then lent then designTests D then allowedTest T then graphTest D (graphOf S)
+
 -- Times of a design, a true graph and T, into four lent slices.
 unfoldable pub testTimes : Design → GraphSlices → ℕ → ℕ → ℕ → ℕ → ℕ → Verdict
-testTimes D S T arrivals requireds slacks earliests =
-    designSizes D then graphSizes S then timeSizes (length (S .nodes)) arrivals requireds slacks earliests
-    then designTests D then allowedTest T then graphTest D (graphOf S)
+testTimes D S T arrivals requireds slacks earliests = timingTests D S T (timeSizes (length (S .nodes)) arrivals requireds slacks earliests)
 
 -- a slice with one place for each of n copies or nodes, afterwards: what f says of each
 abbrev pub eachAfter : {A : Type 0} → Verdict → (ℕ → A) → ℕ → List A → List A
@@ -190,6 +196,36 @@ slacksAfter D S T v ts = eachAfter v (slackAt (edgeLate D) (pos T) (graphOf S)) 
 
 unfoldable pub earliestsAfter : Design → GraphSlices → Verdict → List ℤ → List ℤ
 earliestsAfter D S v ts = eachAfter v (earliestAt (edgeEarly D) (graphOf S)) (length (S .nodes)) ts
+
+-- "Late or not" (02, request 10), of a design, a true graph and T, into one lent slice of arrivals "with a place for each copy": "30, 10 to 16, 25
+-- and 32 as for times"
+unfoldable pub testLate : Design → GraphSlices → ℕ → ℕ → Verdict
+testLate D S T arrivals = let copies = length (S .nodes) in timingTests D S T (sameSizes copies copies arrivals)
+
+-- "the lowest copy where paths end with an arrival above T", "or that nothing is late"
+abbrev pub lowestLate : Verdict → List ℕ → Lateness
+lowestLate Passed [] = OnTime
+lowestLate Passed (c ∷ cs) = Late c
+lowestLate (Refused r) cs = NotTimed r
+
+-- the answer, from what the tests answered; and from the length of the lent slice
+abbrev pub lateAnswer : Design → GraphSlices → ℕ → Verdict → Lateness
+lateAnswer D S T tested = lowestLate tested (lateCopies (edgeLate D) (pos T) (graphOf S))
+
+unfoldable pub lateOrNot : Design → GraphSlices → ℕ → ℕ → Lateness
+lateOrNot D S T arrivals = lateAnswer D S T (testLate D S T arrivals)
+
+-- how many arrivals it writes: those up to the late copy, since "places after the returned copy are unchanged"; all where nothing is late; none
+-- after a refusal
+abbrev pub arrivalsWritten : ℕ → Lateness → ℕ
+arrivalsWritten copies (Late c) = c + 1
+arrivalsWritten copies OnTime = copies
+arrivalsWritten copies (NotTimed r) = 0
+
+-- the lent slice afterwards
+unfoldable pub arrivalsAfterLate : Design → GraphSlices → ℕ → Lateness → List ℤ → List ℤ
+arrivalsAfterLate D S T answer ts =
+    placed (map (arrivalAt (edgeLate D) (pos T) (graphOf S)) (upto (arrivalsWritten (length (S .nodes)) answer) 0)) ts
 
 -- The record of a node, from n and what is known of each copy.
 abbrev pub recordAnswer : ℕ → List ℕ → List ℤ → List ℤ → List ℤ → List ℤ → ℕ → Verdict → NodeAnswer
@@ -323,6 +359,12 @@ graphNumber (NoGraph r) = refusalNumber r
 abbrev pub verdictNumber : Verdict → ℤ
 verdictNumber Passed = pos 0
 verdictNumber (Refused r) = refusalNumber r
+
+-- of late or not: 1 + the copy's number where it is late, and 0 where nothing is
+abbrev pub latenessNumber : Lateness → ℤ
+latenessNumber (Late c) = pos (1 + c)
+latenessNumber OnTime = pos 0
+latenessNumber (NotTimed r) = refusalNumber r
 
 unfoldable pub cCall : List ℕ → List ℕ → ℤ
 cCall s room = cNumber (cWritten (program s) room)

@@ -23,7 +23,8 @@ pub mod Calls
 pub mod Series
 pub mod Called
 pub mod Told
--- what the theorems say of these: demand 2, whose times the times are, and where a listed path is at fault
+-- what the theorems say of these: demand 2, whose times the times are, when a path is late, and where a listed path is at fault
 pub mod Paths
 pub mod Demands
+pub mod Late
 pub mod Faults

@@ -1,6 +1,6 @@
 -- Times at copies and at nodes.
 use Prim.Native.Nat.{ℕ}
-use mathlib.Core.Bool.{cond, _&&_, not}
+use mathlib.Core.Bool.{Bool, cond, _&&_, not}
 use mathlib.Core.List.{List, [], _∷_, map}
 use lib.Dec.{eqb, ltb}
 use lib.IntN.{ℤ, pos, _-ℤ_}
@@ -10,7 +10,7 @@ use Rattle.timing.specs.declared.NodeTimes.{NodeTimes}
 use Rattle.timing.specs.declared.NodeTimes.the-variants.{Times, None}
 use Rattle.timing.specs.declared.NodeRecord.{NodeRecord}
 use Rattle.timing.specs.Lists.{isNil, keep, upto}
-use Rattle.timing.specs.Graphs.{Graph, runsTo, runsFrom, delayAlong}
+use Rattle.timing.specs.Graphs.{Graph, endsAt, runsTo, runsFrom, delayAlong}
 
 abbrev pub larger : ℤ → ℤ → ℤ
 larger x y = cond (ltZ x y) y x
@@ -47,6 +47,13 @@ module _ (d : ℕ → ℤ) (T : ℤ) (G : Graph) where
   -- "slack is required less arrival"
   unfoldable pub slackAt : ℕ → ℤ
   slackAt c = requiredAt c -ℤ arrivalAt c
+
+  -- a copy "where paths end with an arrival above T" (02, request 10); and all of these, the lowest first
+  abbrev pub lateAt : ℕ → Bool
+  lateAt c = endsAt G c && ltZ T (arrivalAt c)
+
+  unfoldable pub lateCopies : List ℕ
+  lateCopies = keep lateAt (upto (length (G .nodes)) 0)
 
 -- "At a node: the largest arrival, the smallest required and the smallest slack of its copies", and of its earliest arrivals "the
 -- smallest over its copies", from the node and the four times of each copy; none "when it has no copy or is not below n"

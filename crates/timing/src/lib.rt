@@ -115,3 +115,10 @@ pub enum NodeAnswer {
     Record(NodeRecord),
     Refused(Refusal),
 }
+
+// Whether a path takes longer than T: the lowest copy where paths end with an arrival above T, or that nothing is late.
+pub enum Lateness {
+    Late { copy: usize },
+    OnTime,
+    Refused(Refusal),
+}

@@ -4,23 +4,27 @@ use Prim.Native.Nat.{ℕ, _≤_, min}
 use native.Mathlib.Omega.{arith}
 use mathlib.Core.Path.{_≡_, refl, subst}
 use mathlib.Core.Bool.{Bool, true, false, _&&_}
+use mathlib.Core.List.{List, [], _∷_, List·Memᴰ, List·Memᴰ·head}
 use lib.Dec.{eqb, leb, leb→le}
+use lib.IntN.{pos}
 use lib.ListN.{length}
 use Rattle.timing.specs.declared.Verdict.{Verdict}
 use Rattle.timing.specs.declared.Verdict.the-variants.{Passed, Refused}
-use Rattle.timing.specs.Lists.{sum}
-use Rattle.timing.specs.Graphs.{Design, Graph, designGraph}
+use Rattle.timing.specs.Lists.{keep, upto, sum}
+use Rattle.timing.specs.Graphs.{Design, edgeLate, Graph, designGraph}
 use Rattle.timing.specs.Marks.{PathList, pathsOf}
 use Rattle.timing.specs.TrueGraphs.{trueGraph}
+use Rattle.timing.specs.Times.{lateAt, lateCopies}
 use Rattle.timing.specs.WellFormed.{wellFormed}
 use Rattle.timing.specs.Refusals.{unless, _then_}
 use Rattle.timing.specs.Tests.{sameSizes, timeSizes, designSizes, listSizes, designTests, listTests, allowedTest, graphTest, candidates, scratchWords, scratchTest, Room, roomSizes, roomTests}
-use Rattle.timing.specs.Calls.{GraphSlices, graphOf, roomOf, graphSizes, outcome, Removal, removal, removeFromDesign, removeFromGraph, largestRoom, sizeFromDesign, sizeFromGraph, graphAnswer, testTimes}
-use Rattle.theorems.proofs.Lists.{holds}
+use Rattle.timing.specs.Calls.{GraphSlices, graphOf, roomOf, graphSizes, outcome, Removal, removal, removeFromDesign, removeFromGraph, largestRoom, sizeFromDesign, sizeFromGraph, graphAnswer, timingTests, testTimes, testLate, lowestLate, lateOrNot}
+use Rattle.theorems.proofs.Lists.{and-left, holds, of-keep, of-upto}
 use Rattle.timing.proofs.Verdicts.{every-then, every-unless}
 use Rattle.theorems.proofs.Tests.{every-design, every-list}
+use Rattle.theorems.proofs.Tested.{formed, timing-passed}
 use Rattle.path_list.proofs.Laws.{length-cut}
-use Rattle.true_graph.specs.Small.{SmallRefusal, SmallGraph, Small}
+use Rattle.true_graph.specs.Small.{SmallRefusal, SmallGraph, SmallLateness, Small}
 
 pub small-then : (v w : Verdict) → Small v → (v ≡ Passed → Small w) → Small (v then w)
 small-then v w a b = every-then SmallRefusal v w a b
@@ -132,12 +136,37 @@ pub small-size-graph : (D : Design) (S : GraphSlices) (L : PathList) (words : �
 unfolding sizeFromGraph
 small-size-graph D S L words = small-from-graph D S (removal L largestRoom words)
 
+small-timing : (D : Design) (S : GraphSlices) (T : ℕ) (lent : Verdict) → Small lent → Small (timingTests D S T lent)
+small-timing D S T lent s =
+    small-then (designSizes D) _ (small-design-sizes D)
+    (λ q. small-then (graphSizes S) _ (small-room-sizes (roomOf S))
+    (λ q. small-then lent _ s
+    (λ q. small-then (designTests D) _ (small-design D)
+    (λ q. small-then (allowedTest T) _ (small-unless 25 (omega arith) (leb T 1000000000)) (λ q. small-unless 32 (omega arith) (wellFormed D (graphOf S)))))))
+
 pub small-times : (D : Design) (S : GraphSlices) (T a r s e : ℕ) → Small (testTimes D S T a r s e)
 unfolding testTimes
 small-times D S T a r s e =
     let n = length (S .nodes) in
-    small-then (designSizes D) _ (small-design-sizes D)
-    (λ q. small-then (graphSizes S) _ (small-room-sizes (roomOf S))
-    (λ q. small-then (timeSizes n a r s e) _ (small-then (sameSizes n a r) (sameSizes n s e) (small-sizes n a r) (λ p. small-sizes n s e))
-    (λ q. small-then (designTests D) _ (small-design D)
-    (λ q. small-then (allowedTest T) _ (small-unless 25 (omega arith) (leb T 1000000000)) (λ q. small-unless 32 (omega arith) (wellFormed D (graphOf S)))))))
+    small-timing D S T (timeSizes n a r s e) (small-then (sameSizes n a r) (sameSizes n s e) (small-sizes n a r) (λ p. small-sizes n s e))
+
+-- a copy that is late is one of the graph's, which has passed 32
+pub small-late : (D : Design) (S : GraphSlices) (T a : ℕ) → SmallLateness (lateOrNot D S T a)
+unfolding lateOrNot testLate lateCopies
+small-late D S T a =
+    let n = length (S .nodes) in
+    go (timingTests D S T (sameSizes n n a)) refl (small-timing D S T (sameSizes n n a) (small-sizes n n a))
+  where
+    few : (p : ℕ → Bool) (cs : List ℕ) (n : ℕ) → cs ≡ keep p (upto n 0) → n ≤ 16384 → SmallLateness (lowestLate Passed cs)
+    few p [] n e h = tt
+    few p (c ∷ cs) n e h =
+        let m = of-keep p (upto n 0) (subst (λ (l : List ℕ). List·Memᴰ c l) e (List·Memᴰ·head refl)) in
+        omega (arith, of-upto n 0 c (m .0) .1, h)
+
+    go : (v : Verdict) → timingTests D S T (sameSizes (length (S .nodes)) (length (S .nodes)) a) ≡ v → Small v
+        → SmallLateness (lowestLate v (lateCopies (edgeLate D) (pos T) (graphOf S)))
+    go (Refused x) e s = s
+    go Passed e s =
+        let w = timing-passed D S T (sameSizes (length (S .nodes)) (length (S .nodes)) a) e .well in
+        few (lateAt (edgeLate D) (pos T) (graphOf S)) (lateCopies (edgeLate D) (pos T) (graphOf S)) (length (S .nodes)) refl
+        (leb→le (length (S .nodes)) 16384 (and-left (leb (length (S .nodes)) 16384) (leb (length (graphOf S .edges)) 65536) (formed D (graphOf S) w .few)))

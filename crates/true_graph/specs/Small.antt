@@ -8,6 +8,9 @@ use Rattle.timing.specs.declared.Written.the-variants.{Refused as NotWritten}
 use Rattle.timing.specs.declared.GraphMade.{GraphMade}
 use Rattle.timing.specs.declared.GraphMade.the-variants.{Counts}
 use Rattle.timing.specs.declared.GraphMade.the-variants.{Refused as NoGraph}
+use Rattle.timing.specs.declared.Lateness.{Lateness}
+use Rattle.timing.specs.declared.Lateness.the-variants.{Late, OnTime}
+use Rattle.timing.specs.declared.Lateness.the-variants.{Refused as NotTimed}
 use Rattle.timing.proofs.Verdicts.{Every}
 
 abbrev pub SmallRefusal : Refusal → Type 0
@@ -19,6 +22,11 @@ Small v = Every SmallRefusal v
 abbrev pub SmallGraph : GraphMade → Type 0
 SmallGraph (Counts copies edges) = (copies ≤ 16384) × (edges ≤ 65536)
 SmallGraph (NoGraph r) = SmallRefusal r
+
+abbrev pub SmallLateness : Lateness → Type 0
+SmallLateness (Late c) = c < 16384
+SmallLateness OnTime = Unit {0}
+SmallLateness (NotTimed r) = SmallRefusal r
 
 abbrev pub SmallWritten : Written → Type 0
 SmallWritten (End end) = end < 9223372036854775808

@@ -2,7 +2,7 @@
 use Prim.Native.Nat.{_≤_}
 use native.Mathlib.Omega.{arith}
 use mathlib.Core.Path.{_∙_, ap, sym, subst}
-use Rattle.times.proofs.Elements.{read-back}
+use Rattle.timing.proofs.Ints.{read-back}
 use Rattle.timing.specs.Calls.{graphNumber}
 use Rattle.true_graph.specs.Small.{SmallGraph}
 use borrow.Author.Needs.{needs}

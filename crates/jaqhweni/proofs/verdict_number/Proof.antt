@@ -1,6 +1,6 @@
 -- Case by case of the verdict.
 use mathlib.Core.Path.{_∙_, ap, sym, subst}
-use Rattle.times.proofs.Elements.{read-back}
+use Rattle.timing.proofs.Ints.{read-back}
 use Rattle.timing.specs.Calls.{verdictNumber}
 use Rattle.true_graph.specs.Small.{Small}
 use borrow.Author.Needs.{needs}

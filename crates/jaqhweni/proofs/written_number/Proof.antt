@@ -1,7 +1,7 @@
 -- Case by case of what was written.
 use mathlib.Core.Path.{_∙_, ap, sym, subst}
 use Rattle.timing.specs.Calls.{cNumber}
-use Rattle.times.proofs.Elements.{read-back}
+use Rattle.timing.proofs.Ints.{read-back}
 use Rattle.true_graph.specs.Small.{SmallWritten}
 use borrow.Author.Needs.{needs}
 use Rattle.jaqhweni.proofs.written_number.Statement.{statement}

@@ -17,6 +17,7 @@ use Rattle.timing.specs.Marks.{PathList, pathList, cut, pathsOf}
 use Rattle.timing.specs.Tests.{candidates}
 use Rattle.theorems.proofs.Lists.{and-intro, and-left, and-right, of-upto}
 use Rattle.theorems.proofs.Counting.{count-cons, count-append, count-le, nodup-upto}
+use Rattle.theorems.proofs.Splits.{upto-split}
 use Rattle.removal.specs.Positions.{headIn, headAt, startAt, Ordered}
 use Rattle.removal.specs.Slots.{Bounds, Bounded, slots, slotBase}
 use Rattle.removal.specs.Search.{ofStarts, ofNodes}
@@ -41,16 +42,6 @@ count-split p (x ∷ l) = omega (arith, count-cons p x l, count-cons (λ y. not 
 length-upto : (n i : ℕ) → length (upto n i) ≡ n
 length-upto zero i = refl
 length-upto (suc n) i = ap suc (length-upto n (suc i))
-
-upto-append : (a b i : ℕ) → upto (a + b) i ≡ upto a i ++ upto b (i + a)
-upto-append zero b i =
-    let e : 0 + b ≡ b = omega arith in
-    let f : i + 0 ≡ i = omega arith in
-    rw (e, f)
-upto-append (suc a) b i =
-    let e : suc a + b ≡ suc (a + b) = omega arith in
-    let f : i + suc a ≡ suc i + a = omega arith in
-    rw (e, f) (ap (λ (l : List ℕ). i ∷ l) (upto-append a b (suc i)))
 
 count-agree : (r g : ℕ → Bool) (n i : ℕ) → ((j : ℕ) → i ≤ j → j < i + n → r j ≡ g j) → countOf r (upto n i) ≡ countOf g (upto n i)
 count-agree r g zero i e = refl
@@ -132,7 +123,7 @@ inner-count q (k ∷ lengths) edges e =
     whole =
         let a : length edges ≡ k + length (drop k edges) = omega (arith, left, e) in
         let b : k + 0 ≡ 0 + k = omega arith in
-        ap (λ (n : ℕ). upto n 0) a ∙ rw b (upto-append k (length (drop k edges)) 0)
+        ap (λ (n : ℕ). upto n 0) a ∙ rw b (upto-split k (length (drop k edges)) 0)
 
     later : (j : ℕ) → r (k + j) ≡ (q (getD (drop k edges) j 0) && eqb (headIn lengths j) 0)
     later j =

@@ -8,16 +8,11 @@ use lib.ListN.{length, length-append, length-map}
 use Rattle.timing.specs.Lists.{oneIf, keep, countOf, upto}
 use Rattle.theorems.proofs.Lists.{of-upto}
 use Rattle.theorems.proofs.Counting.{count-cons, count-append}
+use Rattle.theorems.proofs.Splits.{upto-next}
 use Rattle.removal.specs.Slots.{Bounds, slots}
 use Rattle.removal.proofs.Showing.ResultLaws.{Slot, slotAt, shownIn, shownBelow, numberOf}
 
 -- one element more
-pub upto-last : (n i : ℕ) → upto (suc n) i ≡ upto n i ++ ((i + n) ∷ [])
-upto-last zero i = let z : i ≡ i + 0 = omega arith in ap (λ (x : ℕ). x ∷ []) z
-upto-last (suc n) i =
-    let z : suc i + n ≡ i + suc n = omega arith in
-    ap (λ (l : List ℕ). i ∷ l) (upto-last n (suc i) ∙ ap (λ (x : ℕ). upto n (suc i) ++ (x ∷ [])) z)
-
 pub keep-last : {A : Type 0} (p : A → Bool) (l : List A) (x : A) → keep p (l ++ (x ∷ [])) ≡ keep p l ++ cond (p x) (x ∷ []) []
 keep-last p [] x = refl
 keep-last {A} p (y ∷ l) x = go (p y) (keep-last p l x)
@@ -58,7 +53,7 @@ module _ (B : Bounds) (shown : ℕ → ℕ → Bool) where
   pub shown-next : (c j : ℕ) → shownIn shown c (suc j) ≡ shownIn shown c j ++ cond (shown c j) (slotAt c j ∷ []) []
   shown-next c j =
       let z : 0 + j ≡ j = omega arith in
-      ap (λ (l : List ℕ). map (slotAt c) (keep (shown c) l)) (upto-last j 0 ∙ ap (λ (x : ℕ). upto j 0 ++ (x ∷ [])) z)
+      ap (λ (l : List ℕ). map (slotAt c) (keep (shown c) l)) (upto-next j 0 ∙ ap (λ (x : ℕ). upto j 0 ++ (x ∷ [])) z)
       ∙ ap (map (slotAt c)) (keep-last (shown c) (upto j 0) j)
       ∙ map-last (slotAt c) (keep (shown c) (upto j 0)) (cond (shown c j) (j ∷ []) [])
       ∙ ap (λ (l : List Slot). shownIn shown c j ++ l) (go (shown c j))
@@ -70,14 +65,14 @@ module _ (B : Bounds) (shown : ℕ → ℕ → Bool) where
   pub shown-next-copy : (c : ℕ) → shownBelow B shown (suc c) ≡ shownBelow B shown c ++ shownIn shown c (slots B c)
   shown-next-copy c =
       let z : 0 + c ≡ c = omega arith in
-      ap (flatMap (λ c. shownIn shown c (slots B c))) (upto-last c 0 ∙ ap (λ (x : ℕ). upto c 0 ++ (x ∷ [])) z)
+      ap (flatMap (λ c. shownIn shown c (slots B c))) (upto-next c 0 ∙ ap (λ (x : ℕ). upto c 0 ++ (x ∷ [])) z)
       ∙ flatMap-last (λ c. shownIn shown c (slots B c)) (upto c 0) c
 
   -- and their numbers
   pub number-next : (c j : ℕ) → numberOf B shown c (suc j) ≡ numberOf B shown c j + oneIf (shown c j)
   number-next c j =
       let z : 0 + j ≡ j = omega arith in
-      let u : upto (suc j) 0 ≡ upto j 0 ++ (j ∷ []) = upto-last j 0 ∙ ap (λ (x : ℕ). upto j 0 ++ (x ∷ [])) z in
+      let u : upto (suc j) 0 ≡ upto j 0 ++ (j ∷ []) = upto-next j 0 ∙ ap (λ (x : ℕ). upto j 0 ++ (x ∷ [])) z in
       let a : countOf (shown c) (upto (suc j) 0) ≡ countOf (shown c) (upto j 0) + countOf (shown c) (j ∷ []) =
       ap (countOf (shown c)) u ∙ count-append (shown c) (upto j 0) (j ∷ []) in
       omega (arith, a, count-cons (shown c) j [])

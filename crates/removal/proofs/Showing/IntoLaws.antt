@@ -15,6 +15,7 @@ use Rattle.theorems.proofs.Lists.{and-intro, and-left, and-right, or-cases, or-
 use Rattle.theorems.proofs.Counting.{next-sorted}
 use Rattle.theorems.proofs.Sorting.{Sorted}
 use Rattle.theorems.proofs.Runs.{mem-in}
+use Rattle.theorems.proofs.Splits.{keep-map}
 use Rattle.removal.specs.Chains.{edgesAt}
 pub use Rattle.removal.specs.Result.{edgeAt}
 use Rattle.removal.proofs.Showing.Ascending.{Ascending, ascending-keep, ascending-by}
@@ -114,15 +115,6 @@ edges-map (s ∷ starts) (t ∷ ends) (k ∷ names) p q =
 pub length-edges : (starts ends names : List ℕ) → length ends ≡ length starts → length names ≡ length starts → length (edgesOf starts ends names) ≡ length starts
 length-edges starts ends names p q =
     ap length (edges-map starts ends names p q) ∙ length-map (upto (length starts) 0) (edgeAt starts ends names) ∙ length-upto (length starts) 0
-
-keep-map : {A B : Type 0} (p : B → Bool) (f : A → B) (l : List A) → keep p (map f l) ≡ map f (keep (λ x. p (f x)) l)
-keep-map p f [] = refl
-keep-map {A} {B} p f (x ∷ l) = go (p (f x)) (keep-map p f l)
-  where
-    go : (b : Bool) → keep p (map f l) ≡ map f (keep (λ x. p (f x)) l)
-        → cond b (f x ∷ keep p (map f l)) (keep p (map f l)) ≡ map f (cond b (x ∷ keep (λ x. p (f x)) l) (keep (λ x. p (f x)) l))
-    go true e = ap (λ (k : List B). f x ∷ k) e
-    go false e = e
 
 -- the edges into a copy, and out of it, by their numbers
 module _ (nodes endpoint starts ends names : List ℕ) (p : length ends ≡ length starts) (q : length names ≡ length starts) (c : ℕ) where

@@ -3,7 +3,7 @@ use mathlib.Core.Path.{_≡_}
 use mathlib.Core.List.{List}
 use lib.IntN.{ℤ}
 use lib.ListN.{length}
-use Rattle.times.proofs.Passed.{after-told}
+use Rattle.timing.proofs.Verdicts.{after-told}
 use borrow.Author.Needs.{needs}
 use Rattle.timing.specs.declared.Verdict.{Verdict}
 use Rattle.timing.specs.Graphs.{design}

@@ -10,7 +10,7 @@ use Rattle.timing.specs.Lists.{upto}
 use Rattle.timing.specs.Calls.{graphSlices}
 use Rattle.times.specs.Passes.{noArrival, noEarliest}
 use Rattle.times.proofs.Passes.{arrivalAfter, earliestAfter, arrivals-pass, earliests-pass, none-reached, step-in, stepped-next, all-settled}
-use Rattle.times.proofs.Elements.{size-each}
+use Rattle.theorems.proofs.Elements.{size-each, each-one}
 use Rattle.times.proofs.arrivals.fill_arrivals.Statement.{statement}
 use Rattle.times.proofs.arrivals.fill_arrivals.Tie as tie
 
@@ -37,8 +37,8 @@ loop-holds c =
     let a = p .args in
     let S = graphSlices (a .nodes .now) [] (a .from .now) (a .to .now) (a .via .now) in (
       omega arith,
-      f .fill .ensures ∙ ap (λ (n : ℕ). map (λ (i : ℕ). noArrival) (upto n 0)) (p .pre .1 .0) ∙ none-reached (a .late .now) S (p .pre .0 .0) (arrivals-pass (a .late .now) S (p .pre .0 .0)),
-      c .before .fill2 .ensures ∙ ap (λ (n : ℕ). map (λ (i : ℕ). noEarliest) (upto n 0)) (p .pre .1 .1) ∙ none-reached (a .early .now) S (p .pre .0 .1) (earliests-pass (a .early .now) S (p .pre .0 .1)),
+      f .fill .ensures ∙ each-one noArrival (length (a .arrivals .now)) 0 ∙ ap (λ (n : ℕ). map (λ (i : ℕ). noArrival) (upto n 0)) (p .pre .1 .0) ∙ none-reached (a .late .now) S (p .pre .0 .0) (arrivals-pass (a .late .now) S (p .pre .0 .0)),
+      c .before .fill2 .ensures ∙ each-one noEarliest (length (a .earliests .now)) 0 ∙ ap (λ (n : ℕ). map (λ (i : ℕ). noEarliest) (upto n 0)) (p .pre .1 .1) ∙ none-reached (a .early .now) S (p .pre .0 .1) (earliests-pass (a .early .now) S (p .pre .0 .1)),
     )
 
 pass-edge-requires : tie.Need-pass-edge-requires Inv-loop μ-loop

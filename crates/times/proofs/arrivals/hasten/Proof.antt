@@ -1,7 +1,7 @@
 -- What the machine reads back is each number itself; the sum is small by `Step`.
 use lib.IntN.{pos}
 use lib.ListN.{getD}
-use Rattle.times.proofs.Elements.{read-back}
+use Rattle.timing.proofs.Ints.{read-back}
 use mir.Facts.{toZ-ofZ}
 use native.Mathlib.Omega.{arith}
 use Rattle.times.specs.Passes.{stepped}

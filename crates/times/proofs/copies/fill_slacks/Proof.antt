@@ -5,7 +5,8 @@ use mathlib.Core.Path.{_∙_, ap₂}
 use lib.IntN.{pos, _-ℤ_}
 use lib.ListN.{length, getD}
 use borrow.Author.Needs.{needs}
-use Rattle.times.proofs.Elements.{read-back, Done, done-none, done-next, done-all}
+use Rattle.timing.proofs.Ints.{read-back}
+use Rattle.theorems.proofs.Elements.{Done, done-none, done-next, done-all}
 use Rattle.times.proofs.copies.fill_slacks.Statement.{statement}
 use Rattle.times.proofs.copies.fill_slacks.Tie as tie
 

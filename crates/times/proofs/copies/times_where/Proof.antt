@@ -5,8 +5,9 @@ use lib.IntN.{ℤ}
 use Rattle.timing.specs.declared.Verdict.{Verdict}
 use Rattle.timing.specs.declared.Verdict.the-variants.{Passed}
 use Rattle.timing.specs.Graphs.{design}
-use Rattle.timing.specs.Calls.{graphSlices, arrivalsAfter, requiredsAfter, slacksAfter, earliestsAfter}
-use Rattle.times.proofs.Passed.{passed-ready, after-told}
+use Rattle.timing.specs.Calls.{graphSlices, testTimes, arrivalsAfter, requiredsAfter, slacksAfter, earliestsAfter}
+use Rattle.timing.proofs.Verdicts.{times-passed, after-told}
+use Rattle.times.proofs.Passed.{passed-ready}
 use borrow.Author.Needs.{needs}
 use Rattle.times.proofs.copies.times_where.Statement.{statement}
 use Rattle.times.proofs.copies.times_where.Tie as tie
@@ -15,12 +16,13 @@ enum-told : tie.Need-enum-told
 enum-told c = search needs
 
 fill-times-requires : tie.Need-fill-times-requires
+unfolding testTimes
 fill-times-requires c κs =
     let e = c .before .before .before .before in
     let p = e .before .before .before .before .before .before .before .before .before .before in
     let a = p .args in
-    let r = passed-ready (design (a .n) (a .starts .now) (a .ends .now) (a .early .now) (a .late .now) (a .marked .now)) (graphSlices (a .nodes .now) (a .endpoint .now) (a .from .now) (a .to .now) (a .via .now)) (a .allowed) _ _ _ _ (sym (p .pre) ∙ e .enum-told .given .1) in
-    ((r .late, r .early, r .onward, r .allowed), r .sizes)
+    let r = passed-ready (design (a .n) (a .starts .now) (a .ends .now) (a .early .now) (a .late .now) (a .marked .now)) (graphSlices (a .nodes .now) (a .endpoint .now) (a .from .now) (a .to .now) (a .via .now)) (a .allowed) _ (sym (p .pre) ∙ e .enum-told .given .1) in
+    ((r .late, r .early, r .onward, r .allowed), times-passed _ _ _ _ _ (r .places))
 
 enum-known-tested : tie.Need-enum-known-tested
 enum-known-tested c = search needs

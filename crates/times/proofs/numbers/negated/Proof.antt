@@ -5,8 +5,7 @@ use lib.IntN.{ℤ, pos, negsuc, negℤ, _-ℤ_}
 use mir.Syntax.{w32, w64}
 use mir.Val.{SFits}
 use mir.Facts.{toZ-ofZ}
-use Rattle.timing.proofs.Ints.{sub-parts, neg-up, neg-dn, eq-parts, neg-nat}
-use Rattle.times.proofs.Elements.{read-back}
+use Rattle.timing.proofs.Ints.{sub-parts, neg-up, neg-dn, eq-parts, neg-nat, read-back}
 use borrow.Author.Needs.{needs}
 use Rattle.times.proofs.numbers.negated.Statement.{statement}
 use Rattle.times.proofs.numbers.negated.Tie as tie

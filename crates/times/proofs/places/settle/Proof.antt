@@ -8,7 +8,8 @@ use borrow.Author.Needs.{needs}
 use mir.Syntax.{w64}
 use mir.Val.{toZ}
 use mir.Facts.{toZ-ofZ}
-use Rattle.times.proofs.Elements.{read-back, Done, done-none, done-next, done-all}
+use Rattle.timing.proofs.Ints.{read-back}
+use Rattle.theorems.proofs.Elements.{Done, done-none, done-next, done-all}
 use Rattle.times.specs.Passes.{timeOr}
 use Rattle.times.proofs.places.settle.Statement.{statement}
 use Rattle.times.proofs.places.settle.Tie as tie

@@ -1,5 +1,5 @@
 -- Invariant: each copy holds the smallest time over the edges out of it from edge k on and, where paths end, T.
-use Rattle.times.proofs.Elements.{read-back}
+use Rattle.timing.proofs.Ints.{read-back}
 use Prim.Native.Nat.{ℕ, _+_, _-_, _≤_}
 use native.Mathlib.Omega.{arith}
 use mathlib.Core.Path.{_≡_, sym, _∙_, ap}
@@ -11,7 +11,7 @@ use Rattle.timing.specs.Lists.{upto}
 use Rattle.timing.specs.Calls.{graphSlices}
 use Rattle.times.specs.Passes.{firstRequired}
 use Rattle.times.proofs.Passes.{requiredFrom, lowers-in, lowered-next, left-none, requireds-settled}
-use Rattle.times.proofs.Elements.{size-each}
+use Rattle.theorems.proofs.Elements.{size-each}
 use Rattle.times.proofs.requireds.fill_requireds.Statement.{statement}
 use Rattle.times.proofs.requireds.fill_requireds.Tie as tie
 

@@ -9,7 +9,8 @@ use mir.Syntax.{w64}
 use mir.Val.{toZ, ofZ}
 use mir.Facts.{toZ-ofZ}
 use Rattle.times.specs.Passes.{firstRequired}
-use Rattle.times.proofs.Elements.{read-back, Done, done-none, done-next, done-all}
+use Rattle.timing.proofs.Ints.{read-back}
+use Rattle.theorems.proofs.Elements.{Done, done-none, done-next, done-all}
 use Rattle.times.proofs.requireds.first_requireds.Statement.{statement}
 use Rattle.times.proofs.requireds.first_requireds.Tie as tie
 

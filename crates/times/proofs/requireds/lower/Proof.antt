@@ -1,8 +1,7 @@
 -- What the machine reads back is each number itself; the sum with the negated delay, which is their difference, is small by `Step`.
 use lib.IntN.{pos}
 use lib.ListN.{getD}
-use Rattle.timing.proofs.Ints.{abs-neg}
-use Rattle.times.proofs.Elements.{read-back}
+use Rattle.timing.proofs.Ints.{abs-neg, read-back}
 use mir.Facts.{toZ-ofZ}
 use native.Mathlib.Omega.{arith}
 use Rattle.times.specs.Passes.{lowered}

@@ -1,35 +1,18 @@
--- The tests are called from the left, and 32 comes with 10 (`called-tests`).
-use Rattle.timing.specs.Calls.{graphSlices}
-use Rattle.times.proofs.Passed.{called-tests}
+-- 30 for the lent slices, and then the tests of all calls of this kind.
+use Rattle.timing.specs.Calls.{testTimes}
 use borrow.Author.Needs.{needs}
 use Rattle.times.proofs.tests.times_tests.Statement.{statement}
 use Rattle.times.proofs.tests.times_tests.Tie as tie
 
-times-sizes-requires : tie.Need-times-sizes-requires
-times-sizes-requires c κs = search needs
+time-sizes-requires : tie.Need-time-sizes-requires
+time-sizes-requires c κs = search needs
 
-and-design-tests-requires : tie.Need-and-design-tests-requires
-and-design-tests-requires c κs = search needs
-
-and-unless-requires : tie.Need-and-unless-requires
-and-unless-requires c κs = search needs
-
-and-graph-test-requires : tie.Need-and-graph-test-requires
-and-graph-test-requires c κs = search needs
+timing-tests-requires : tie.Need-timing-tests-requires
+timing-tests-requires c κs = search needs
 
 returns : tie.Need-returns
-returns c =
-    let s = c .before .before .before in
-    let a = c .before .before .before .before .before .before .before .before .before .before .before .before .args in
-    rw (c .and-graph-test .ensures, c .before .and-unless .ensures, c .before .before .and-design-tests .ensures, s .times-sizes .ensures (a .n) (a .marked .now))
-    (called-tests (a .n) (a .starts .now) (a .ends .now) (a .early .now) (a .late .now) (a .marked .now) (graphSlices (a .nodes .now) (a .endpoint .now) (a .from .now) (a .to .now) (a .via .now)) (a .allowed) (a .arrivals) (a .requireds) (a .slacks) (a .earliests))
+unfolding testTimes
+returns c = rw (c .timing-tests .ensures, c .before .time-sizes .ensures)
 
 pub times-tests-spec : {M : Type 1} → statement M
-times-tests-spec =
-    tie.close
-    (tie.spec
-    times-sizes-requires
-    and-design-tests-requires
-    and-unless-requires
-    and-graph-test-requires
-    returns)
+times-tests-spec = tie.close (tie.spec time-sizes-requires timing-tests-requires returns)
