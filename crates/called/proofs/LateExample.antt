@@ -1,6 +1,6 @@
 -- The hypotheses of the theorems about late or not can be met: `late_or_not` on what the example series holds is late with T 4, so that a path of
 -- deck A that the lists permit takes longer, some slack that `times` leaves is negative, and some that `node_records` then leaves is; with T 10 it is
--- on time, so that there is no such path and no such slack. (After one removal alone they are those of a series of one.)
+-- on time, so that there is no such path and no such slack. (`call-late` has no example of its own.)
 use Prim.Native.Nat.{ℕ}
 use native.Mathlib.Omega.{arith}
 use mathlib.Core.Path.{_≡_, refl, subst}
