@@ -81,6 +81,27 @@ static void end_everywhere(int64_t made, const uint32_t *marked, size_t marked_l
         if (is_marked(room_nodes[c], marked, marked_length)) room_endpoint[c] = 1;
 }
 
+/* Two copies side by side of one node, the last such two, exchanged, and the edges in order again: the same paths, numbered otherwise. */
+static void exchange_copies(int64_t made, const uint32_t *nodes, uint32_t *endpoint, uint32_t *from, uint32_t *to, uint32_t *via)
+{
+    uint32_t c = (uint32_t)made, edges = (uint32_t)(made >> 32), *parts[] = {from, to, via};
+    while (c > 1 && nodes[c - 1] != nodes[c - 2]) c--;
+    if (c < 2) return;
+    uint32_t a = c - 2, b = c - 1, at_a = endpoint[a];
+    endpoint[a] = endpoint[b];
+    endpoint[b] = at_a;
+    for (uint32_t e = 0; e < edges; e++) {
+        from[e] = from[e] == a ? b : from[e] == b ? a : from[e];
+        to[e] = to[e] == a ? b : to[e] == b ? a : to[e];
+        for (uint32_t k = e; k > 0 && (to[k - 1] > to[k] || (to[k - 1] == to[k] && via[k - 1] > via[k])); k--)
+            for (int part = 0; part < 3; part++) {
+                uint32_t before = parts[part][k - 1];
+                parts[part][k - 1] = parts[part][k];
+                parts[part][k] = before;
+            }
+    }
+}
+
 int64_t jaqhweni_remove_from_design(DESIGN_PARAMETERS, LIST_PARAMETERS, ROOM_PARAMETERS)
 {
     int64_t made = reference_remove_from_design(EDGE_SLICES, marked, FAULT == 24 ? 0 : marked_length, LIST_SLICES, ROOM_SLICES);
@@ -101,6 +122,8 @@ int64_t jaqhweni_remove_from_design(DESIGN_PARAMETERS, LIST_PARAMETERS, ROOM_PAR
     if (FAULT == 7 && made > 0 && room_nodes_length > 0) room_nodes[room_nodes_length] = 0; /* one place past the room */
     for (size_t e = 0; FAULT == 22 && made > 0 && e < starts_length; e++)                   /* 15 also for equal delays */
         if (early[e] == late[e]) return -(15 + 256 * (int64_t)e);
+    if (FAULT == 81 && made > 0 && lengths_length > 1 && listed[lengths[0] - 1] > listed[listed_length - 1])
+        exchange_copies(made, room_nodes, room_endpoint, room_from, room_to, room_via);     /* the list's order decides the numbers */
     return made;
 }
 
@@ -118,6 +141,27 @@ static int64_t remove_with_one_end(DESIGN_PARAMETERS, LIST_PARAMETERS, GRAPH_PAR
     return reference_remove_from_graph(DESIGN_SLICES, LIST_SLICES, GRAPH_SLICES, ROOM_SLICES);
 }
 
+/* Of a list that is fit, in a scratch that is enough for it: what is listed more than once is taken as not listed. */
+static int64_t remove_without_repeated(DESIGN_PARAMETERS, LIST_PARAMETERS, GRAPH_PARAMETERS, ROOM_PARAMETERS)
+{
+    static uint32_t edges[JAQHWENI_MAX_LISTED_EDGES], sizes[JAQHWENI_MAX_PATHS];
+    size_t edge_count = 0, path_count = 0;
+    for (size_t p = 0, at = 0; p < lengths_length; at += lengths[p++]) {
+        int times_listed = 0;
+        for (size_t q = 0, there = 0; q < lengths_length; there += lengths[q++])
+            times_listed += lengths[q] == lengths[p] && !memcmp(listed + at, listed + there, lengths[p] * sizeof *listed);
+        if (times_listed > 1) continue;
+        memcpy(edges + edge_count, listed + at, lengths[p] * sizeof *edges);
+        sizes[path_count++] = lengths[p];
+        edge_count += lengths[p];
+    }
+    listed = edges;
+    listed_length = edge_count;
+    lengths = sizes;
+    lengths_length = path_count;
+    return reference_remove_from_graph(DESIGN_SLICES, LIST_SLICES, GRAPH_SLICES, ROOM_SLICES);
+}
+
 int64_t jaqhweni_remove_from_graph(DESIGN_PARAMETERS, LIST_PARAMETERS, GRAPH_PARAMETERS, ROOM_PARAMETERS)
 {
     size_t lent_length = scratch_length;
@@ -131,6 +175,7 @@ int64_t jaqhweni_remove_from_graph(DESIGN_PARAMETERS, LIST_PARAMETERS, GRAPH_PAR
     if (FAULT == 28) end_everywhere(made, marked, marked_length, room_nodes, room_endpoint);
     if (FAULT == 31 && made == -30 && nodes_length != endpoint_length) return -32;
     if (FAULT == 32 && made == -32) return remove_with_one_end(DESIGN_SLICES, LIST_SLICES, GRAPH_SLICES, ROOM_SLICES);
+    if (FAULT == 82 && made > 0) return remove_without_repeated(DESIGN_SLICES, LIST_SLICES, GRAPH_SLICES, ROOM_SLICES);
     return made;
 }
 

@@ -114,7 +114,9 @@ int64_t jaqhweni_true_graph(const uint8_t *deck, size_t deck_length, uint8_t *ro
  *
  * Edge k of the design runs from starts[k] to ends[k] with the delays early[k] and late[k]; the four slices are of one length. Delays
  * are tested and make no difference to the result. `marked` has the marked nodes, strictly rising; it may be empty. To mark a sink changes
- * nothing. The listed paths stand end to end in `listed`, and `lengths` has the length of each.
+ * nothing. The listed paths stand end to end in `listed`, and `lengths` has the length of each. What counts is which paths are listed:
+ * neither their order nor listing one again makes a difference to the result. Of the refusals 20, 21 and 31 count every listing, and the
+ * place of 22 to 24 is a number in the list as it stands.
  *
  * The result is a graph as said above, in front of `room_nodes`, `room_endpoint`, `room_from`, `room_to` and `room_via`; copies go by
  * node, edges by end copy and then design edge. The first two slices are of one length, and so are the last three. How many places it
@@ -230,6 +232,10 @@ int64_t jaqhweni_size_from_graph(
  * The times of a node are taken by the caller from those of its copies, as there is no call for them yet: the largest arrival, the
  * smallest required time, the smallest slack (and not required time less arrival, which may belong to different copies), and the
  * smallest earliest arrival. A node without a copy has none.
+ *
+ * If paths are added to a list, and the shorter and the longer list are removed from the same design or from the same earlier graph, then
+ * with the same allowed time no node's slack or required time falls, no node's arrival rises and no node's earliest arrival falls, none
+ * being better than any number. Copies of the two graphs have no numbers in common.
  *
  * Returns 0. */
 int64_t jaqhweni_times(

@@ -44,8 +44,10 @@ PROGRAM = HERE / "target" / "bin" / "deck_program"
  FILL_FROM_GRAPH, LATE) = range(10)
 PARTS = ["decks", "fixed", "random"]
 LEAST_DECKS = 2000          # random cases end when the time is over, but not before so many decks
-LEAST = {"decks": {"decks printed": LEAST_DECKS}, "random": {"decks": LEAST_DECKS, "random series": LEAST_DECKS // 4}}
-FAULTS = range(1, 81)       # bench/stand_in.c and bench/reference_deck.c
+LEAST = {"decks": {"decks printed": LEAST_DECKS},
+         "random": {"decks": LEAST_DECKS, "random series": LEAST_DECKS // 4, "lists compared": LEAST_DECKS // 10,
+                    "longer lists with a gain": LEAST_DECKS // 40}}
+FAULTS = range(1, 83)       # bench/stand_in.c and bench/reference_deck.c
 VALGRIND = ["valgrind", "--quiet", "--error-exitcode=9", "--main-stacksize=33554432", "--max-stackframe=16777216"]
 BATCH, BATCH_BYTES = 400, 1 << 24       # requests to the runner at a time
 
@@ -247,7 +249,8 @@ def of_removal_cases():
     plain, removal_cases.Series = removal_cases.Series, Recorded
     try:
         for cases in (removal_cases.marked, removal_cases.with_marked, removal_cases.adversarial, removal_cases.widest_rooms,
-                      removal_cases.tellings, removal_cases.unfit_designs, removal_cases.unfit_lists_and_graphs):
+                      removal_cases.tellings, removal_cases.unfit_designs, removal_cases.unfit_lists_and_graphs,
+                      removal_cases.longer_and_shuffled):
             for series in cases():
                 yield from ((cases.__name__, request) for request in series.requests)
     finally:
@@ -269,6 +272,37 @@ def random_series(rng):
         if rng.random() < 0.5 and walker.refusal_of(walker.times, series.design, series.held, 0, ()) is None:
             allowed = times_cases.near_arrivals(rng, series.design, series.held)
         yield from of_times("further calls of these", series.design, series.held, allowed)
+
+
+def of_lists(design, lists, earlier, allowed_time):
+    """Document 02, request 12: the removals of a list, of its paths reordered and repeated, and of the list extended, in rooms and scratches of
+    the same lengths, and the times of what each leaves. The request is held to what the walker expects of the calls. What C leaves is
+    compared with that byte for byte, so that it holds of C's graphs, and of the records from C's times."""
+    rooms, scratches = zip(*(exact(design, path_list, earlier) for path_list in lists))
+    room, scratch = room_of(max(room.copies for room in rooms), max(room.starts for room in rooms)), max(scratches)
+    removals, timed, records = [], [], []
+    for name, path_list in zip(("a list", "the list shuffled", "the list extended"), lists):
+        graph = walker.removal(design, path_list, earlier, scratch, room)
+        at_copies = walker.times(design, graph, allowed_time, [len(graph.copy_nodes)] * 4)
+        removals.append(removal_call(name, design, path_list, earlier, room, scratch, None, graph))
+        timed.append(times_call("times of " + name, design, graph, allowed_time, [len(graph.copy_nodes)] * 4, None,
+                                [[at_copy[part] for at_copy in at_copies] for part in range(4)]))
+        records.append(walker.records_of(design, graph, at_copies))
+    if removals[0].expected != removals[1].expected:
+        raise Differs("the walker: the same paths in another order, or more often, leave another graph: %s" % (lists[:2],))
+    if not all(map(walker.no_worse, records[0], records[2])):
+        raise Differs("the walker: a longer list makes a node worse: %s, then %s" % (lists[0], lists[2]))
+    gain = decks.gains(records[0], records[2])
+    kinds = ["lists compared", "their further calls", "longer lists with a gain" if gain else "their further calls"]
+    yield from zip(kinds, removals)
+    yield from (("their further calls", request) for request in timed)
+
+
+def random_lists(rng):
+    """The same on a random design, from it and from a graph of it."""
+    design, *lists = decks.design_and_lists(rng)
+    for earlier in (None, decks.earlier_graph(rng, design)):
+        yield from of_lists(design, list(map(decks.path_list_of, lists)), earlier, rng.choice((0, 50, 1_000_000_000)))
 
 
 def of_times(kind, design, graph, allowed_time):
@@ -460,6 +494,24 @@ def told_at_the_limits():
         yield from (("told at the limits", request) for request in series.requests)
 
 
+def repeats_at_the_limits():
+    """Repeats count for 20 and 21, and for the words that 31 asks: one path as often as a list may have it leaves what it leaves alone, and once
+    more is refused; from the design and from a graph."""
+    design = decks.braid(9, (4, 7), []).design
+    earlier = walker.true_graph(design, decks.path_list_of([[9, 5, 6, 10]]))
+    for path, most, number in ((range(8), 1024, 20), (range(9), 910, 21)):
+        once, often, too_often = (decks.path_list_of([path] * count) for count in (1, most, most + 1))
+        series = Recorded(design, "%d and %d repeats" % (most, most + 1))
+        for where, given in ((DESIGN, None), (GIVEN, earlier)):
+            assert series.add(where, once, *exact(design, once, given), given) is None
+            alone = series.held
+            assert alone != walker.true_graph(design, PathList([], []), given)         # so that it makes a difference whether it is listed
+            thresholds(series, where, often, given)
+            assert series.held == alone
+            assert series.add(where, too_often, room_of(99, 99), exact(design, too_often, given)[1], given) == (number, 0)
+        yield from (("repeats at the limits", request) for request in series.requests)
+
+
 def of_deck(rng, data):
     """The C call on a deck, with a room that is just enough, one byte short, empty or wide."""
     answer, _ = walker.c_call(data, 65536)
@@ -547,7 +599,8 @@ def plan(options, count):
     rng = random.Random(options.seed)
     parts = [options.only] if options.only else PARTS
     if "fixed" in parts:
-        for cases in (of_removal_cases, of_unfit_graphs, graphs_to_pack, rooms_above_the_limits, at_the_limits, told_at_the_limits):
+        for cases in (of_removal_cases, of_unfit_graphs, graphs_to_pack, rooms_above_the_limits, at_the_limits, told_at_the_limits,
+                      repeats_at_the_limits):
             yield from cases()
     if parts == ["fixed"]:
         return
@@ -560,6 +613,8 @@ def plan(options, count):
             yield from of_deck(rng, data)
             if number % 4 == 0:
                 yield from random_series(rng)
+            if number % 20 == 0:
+                yield from random_lists(rng)
 
 
 def compare(planned, commands, program):

@@ -9,7 +9,7 @@ seed gives the same files. Designs stay small enough that all their paths can be
 import os
 import random
 import sys
-from walker import WORDS_PER_UNIT, Call, Deck, Design, Graph, PathList, Room, deck_numbers, write_number
+from walker import WORDS_PER_UNIT, Call, Deck, Design, Graph, PathList, Room, Times, deck_numbers, true_graph, write_number
 
 WIDE_ROOM = Room(16384, 16384, 65536, 65536, 65536)
 
@@ -111,6 +111,37 @@ def random_paths(rng, design, most_paths=6):
     if rng.random() < 0.04:
         paths += [[edge] for edge in range(len(design.starts))]                  # remove everything
     return paths
+
+
+def shuffled(rng, paths):
+    """The same paths in another order, some of them more often."""
+    paths = paths + [path for path in paths if rng.random() < 0.4]
+    return rng.sample(paths, len(paths))
+
+
+def extended(rng, design, paths):
+    """The paths, and further ones put in anywhere among them."""
+    paths = list(paths) if rng.random() < 0.5 else shuffled(rng, paths)
+    for path in random_paths(rng, design, 2) + [random_run(rng, design, rng.choice((1, 2, 3)))]:
+        paths.insert(rng.randint(0, len(paths)), path)
+    return paths
+
+
+def design_and_lists(rng):
+    """A design, a list of two paths or more, the same paths reordered and repeated, and the list extended."""
+    paths = []
+    while len(paths) < 2:
+        design = random_design(rng)
+        paths = random_paths(rng, design, 4)
+    return design, paths, shuffled(rng, paths), extended(rng, design, paths)
+
+
+def gains(before, after):
+    """Of the records of all nodes, and of those once the list is extended: what changes at some node, by name. So that it can be seen that
+    something does: else it says little that none is worse."""
+    changed = [(old, new) for old, new in zip(before, after) if old != new]
+    return {"none" for _, new in changed if new is None} | {
+        name for old, new in changed if old and new for name in Times._fields if getattr(old, name) != getattr(new, name)}
 
 
 def random_deck(rng):
@@ -408,6 +439,18 @@ def random_foreign_graph(rng, design):
     edges.sort(key=lambda edge: (edge[1], edge[2]))
     return Graph([node for node, _ in copies], [1 if copy in ending else 0 for copy in copies],
                  *([edge[part] for edge in edges] for part in range(3)))
+
+
+def largest_foreign_graph(rng, design):
+    """Of some graphs from elsewhere the one with the most copies: of a small design most have few, or none."""
+    return max((random_foreign_graph(rng, design) for _ in range(50)), key=lambda graph: len(graph.copy_nodes))
+
+
+def earlier_graph(rng, design):
+    """A graph to remove from: the true graph of a list, or one from elsewhere."""
+    if rng.random() < 0.5:
+        return random_foreign_graph(rng, design)
+    return true_graph(design, path_list_of(random_paths(rng, design, 3)))
 
 
 def damage_graph(rng, graph):

@@ -253,6 +253,17 @@ ROWS = [
     ("Late or not is refused as times are, and then no place changes: 30 for a place more and for one less, before 13; 13 before 25; 25 before 32; 32",
      [("late", A, GRAPH_A, 10, 7), ("late", A, GRAPH_A, 10, 5), ("late", FALLING, GRAPH_A, 10, 7), ("late", FALLING, GRAPH_A, 1_000_000_001, 6), ("late", FORKED, OUT_OF_ORDER, 1_000_000_001, 6),
       ("late", FORKED, OUT_OF_ORDER, 0, 6)]),
+    # 02, request 12
+    ("M6's paths in the other order, and one of them three times: the graph of M6; M8's paths in the other order, one of them twice: the graph of M8",
+     [("graph", A, [listed((0, 3), (1, 2))]), ("graph", A, [listed((1, 2), (0, 3), (1, 2), (1, 2))]),
+      ("graph", M8, [listed((1, 2, 3, 4), (0, 2, 3), (0, 2, 3))])]),
+    ("From an earlier graph: 0,3 and 2 in either order, with a repeat",
+     [("graph", A, [LIST_A, listed((0, 3), (2,))]), ("graph", A, [LIST_A, listed((2,), (0, 3), (2,))])]),
+    ("Repeats count for 31: M6 with just the words that it asks, and with 1,2 twice it asks 24 more",
+     [("removal", A, listed((1, 2), (0, 3)), AMPLE, 120), ("removal", A, listed((1, 2), (0, 3), (1, 2)), AMPLE, 120),
+      ("removal", A, listed((1, 2), (0, 3), (1, 2)), AMPLE, 144)]),
+    ("Lists longer than deck A's, against M1: an earliest arrival rises; a required time and a slack rise, and node 3 has none; arrivals fall, and node 1 has none",
+     [("nodes", A, 10, [listed((1, 2), (0, 3))]), ("nodes", A, 10, [listed((1, 2), (2,))]), ("nodes", A, 10, [listed((1, 2), (1,))])]),
 ]
 
 

@@ -35,8 +35,8 @@ from unittest import mock
 
 import expected
 import walker
-from decks import (A_BACK_EDGES, A_EDGES, M8_EDGES, MARKED, braid, chain, damage_graph, deck_of, design_of, path_list_of,
-                   random_design, random_foreign_graph, random_paths, room_of)
+from decks import (A_BACK_EDGES, A_EDGES, HOLD, M8_EDGES, MARKED, braid, chain, damage_graph, deck_of, design_and_lists, design_of, earlier_graph,
+                   gains, largest_foreign_graph, path_list_of, random_design, random_foreign_graph, random_paths, room_of)
 from walker import Design, Graph, PathList, Room
 
 # The program's tables, and its room and scratch.
@@ -500,6 +500,93 @@ def with_marked():
     yield series
 
 
+# ---- A longer list, and a shuffled one (document 02, request 12) ------------------------------
+
+def left_by(series, where, paths, given):
+    """What is left by a removal with no word to spare."""
+    path_list = path_list_of(paths)
+    assert series.add(where, path_list, *exact(series.design, path_list, series.worked_on(where, given)), given) is None
+    return series.held
+
+
+def compare_lists(series, paths, same, longer, given):
+    """"a list with its paths reordered or repeated gives the identical graph, numbers included, when removed from the same graph"; and where it
+    "is extended by any paths" no node is worse: from the design, or from the graph given. Returns what is better at some node."""
+    assert all(path in other for path in paths for other in (*same, longer)) and all(path in paths for other in same for path in other)
+    where = DESIGN if given is None else GIVEN
+    plain = left_by(series, where, paths, given)
+    for other in same:
+        assert left_by(series, where, other, given) == plain
+    after = left_by(series, where, longer, given)
+    before, then = (walker.records_of(series.design, graph, walker.copy_times(series.design, graph, 10)) for graph in (plain, after))
+    assert all(map(walker.no_worse, before, then))
+    return gains(before, then)
+
+
+def other_orders(paths):
+    """Backwards; from the middle on, so that the last comes before the first; each twice; all of it, and then backwards once more."""
+    middle = len(paths) // 2
+    return [paths[::-1], paths[middle:] + paths[:middle], [path for path in paths for _ in range(2)], paths + paths[::-1]]
+
+
+def lists_to_compare():
+    """Designs, each with a list, what it is extended by, and a list for an earlier graph. In the lists marks compete for the numbers of a node's
+    copies: tails of equal length that begin with other edges or with the same, from one listed path or from several, nested and overlapping
+    paths; and the higher edge comes first in some and the lower one in others."""
+    yield MARKED["M6"].design, [[1, 2], [0, 3]], [[0, 2]], [[1, 3]]
+    yield deck_of(5, A_BACK_EDGES, [], 0, [2]).design, [[1, 3], [0, 2]], [[0, 3]], [[0]]
+    yield MARKED["M8"].design, [[0, 2, 3], [1, 2, 5]], [[1, 2, 3, 4]], [[2, 3]]
+    yield deck_of(6, M8_EDGES, [], 0, [3]).design, [[1, 2, 3, 4], [0, 2, 3], [2, 5]], [[0, 2]], [[0, 2, 5]]
+    yield HOLD.design, [[2, 4], [0, 1, 3]], [[1, 4]], [[0, 1, 4]]
+    yield hub(3, 7, []).design, [[0, 3 + j] for j in (4, 1, 6, 0, 3)], [[1, 5], [2]], [[1, 3 + j] for j in (6, 2)]
+    design = two_hubs(3, 3, 3)
+    paths = [[i, 3 + j, 6 + k] for i in range(2) for j in range(3) for k in range(3) if (i + j + k) % 2]
+    yield design, paths, [[2, 4, 7], [5, 6]], [[0, 4], [2, 3, 8]]
+    yield design, [path[1:] for path in paths[:3]] + paths[:2:-1], [[0]], [[1, 5]]
+    # nested: in front, behind and in the middle; then tails that part at their last edge
+    design, row = ladder(5, 2), [0, 2, 4, 6, 8]
+    yield design, [row[1:], row[:4] + [9], row[2:4] + [8], row[:3] + [7]], [[2, 5], [1, 3]], [row[:2]]
+    yield design, [row[:4] + [9], row, row[:3] + [7, 9], row[:3] + [7, 8], [1] + row[1:]], [row[3:]], [[1, 3, 5]]
+    # of the longer list nothing is left: every node is none
+    yield braid(3, (1, 1), []).design, [[3, 2], [0, 1]], [[0, 4]], [[0, 1, 2]]
+
+
+def longer_and_shuffled():
+    rng, gained = random.Random(12), set()
+    for design, paths, more, first in lists_to_compare():
+        series = Series(design)
+        middle = len(paths) // 2
+        longer = paths[:middle] + more + paths[middle:]
+        for given in (None, walker.true_graph(design, path_list_of(first)), largest_foreign_graph(rng, design)):
+            assert walker.true_graph(design, path_list_of(paths), given) != walker.true_graph(design, path_list_of([]), given)
+            gained |= compare_lists(series, paths, other_orders(paths), longer, given)
+        yield series
+    assert gained == {"none", *walker.Times._fields}
+    yield from refused_for_repeats()
+
+
+def refused_for_repeats():
+    """Repeats count for 31 and 20: of two lists of the same paths one is refused and the other not, from the design and from a graph.
+    (21 takes too long a list: tests/against_walker.py.)"""
+    design, paths = two_hubs(2, 2, 2), [[1, 2, 4], [0, 3], [0]]
+    earlier = walker.true_graph(design, path_list_of([[1, 3], [0, 2, 5]]))
+    series = Series(design)
+    for where, given in ((DESIGN, None), (GIVEN, earlier)):
+        room, words = exact(design, path_list_of(paths), given)
+        for path in paths:
+            again = path_list_of([path] + paths)
+            assert series.add(where, again, room, words, given) == (31, 0)
+            assert series.add(where, again, room, words_needed(design, again, given) - 1, given) == (31, 0)
+        compare_lists(series, paths, [[path] + paths for path in paths], paths + [[0, 2]], given)
+    yield series
+    # 1,024 paths, whether they are different or not; and one more
+    series = Series(design)
+    for where, given in ((DESIGN, None), (GIVEN, earlier)):
+        compare_lists(series, paths, [paths + [[0]] * 1021], paths + [[4]] * 1021, given)
+        assert series.add(where, path_list_of(paths + [[0]] * 1022), room_of(99, 99), SCRATCH, given) == (20, 0)
+    yield series
+
+
 # ---- Random cases ---------------------------------------------------------------------------
 
 def damaged_list(rng, design, paths):
@@ -567,13 +654,24 @@ def random_cases(rng, count):
         yield series
 
 
+def random_lists(rng, count):
+    """Lists reordered and repeated, and extended; from the design and from a graph."""
+    for _ in range(count):
+        design, paths, same, longer = design_and_lists(rng)
+        series = Series(design)
+        for given in (None, earlier_graph(rng, design)):
+            compare_lists(series, paths, [paths[::-1], same], longer, given)
+        yield series
+
+
 # ---- The files ------------------------------------------------------------------------------
 
 @mock.patch.object(walker, "true_graph", remembered(walker.true_graph))
 def main():
     all_series = [series for cases in (marked, with_marked, adversarial, widest_rooms, tellings, tellings_of_many_copies, unfit_designs,
-                                       unfit_lists_and_graphs) for series in cases()]
+                                       unfit_lists_and_graphs, longer_and_shuffled) for series in cases()]
     all_series += random_cases(random.Random(7), 800)
+    all_series += random_lists(random.Random(12), 16)
     refusals = [refusal for series in all_series for refusal in series.refusals]
     for found in (refusals, [refusal for series in all_series for refusal in series.told]):
         assert set(NUMBERS) == {refusal[0] for refusal in found if refusal}, set(found)

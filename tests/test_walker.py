@@ -8,7 +8,7 @@ import unittest
 from unittest import mock
 import decks
 import walker as w
-from decks import A_BACK_EDGES, A_EDGES, DECK_A, HOLD, MARKED, WIDE_ROOM, deck_of, design_of, path_list_of, room_of
+from decks import A_BACK_EDGES, A_EDGES, DECK_A, HOLD, HOLD_EDGES, M8_EDGES, MARKED, WIDE_ROOM, deck_of, design_of, path_list_of, room_of
 
 SEED = 20000
 MANY_WORDS = 10 ** 7
@@ -53,10 +53,7 @@ def printed(deck):
 
 def records(deck, graph):
     """The node records, by the calls."""
-    at_copies = w.times(deck.design, graph, deck.allowed_time, [len(graph.copy_nodes)] * 4)
-    columns = [[at_copy[part] for at_copy in at_copies] for part in range(4)]
-    return [w.node_record(deck.design.nodes, graph.copy_nodes, *columns, node)
-            for node in range(deck.design.nodes)]
+    return w.records_of(deck.design, graph, w.times(deck.design, graph, deck.allowed_time, [len(graph.copy_nodes)] * 4))
 
 
 def taken_back(design, graph):
@@ -661,6 +658,125 @@ class Late(unittest.TestCase):
                 copy, _, _ = self.check(design, graph, allowed_time, delays)
                 seen[copy is not None] += 1
         self.assertGreater(min(seen.values()), 100, seen)
+
+
+def remove_paths(design, paths, earlier):
+    return removed(design, path_list_of(paths), earlier)
+
+
+# Removals that the comparison of lists must find to be wrong, each with what it finds.
+WRONG_REMOVALS = [
+    ({"other graph", "worse"}, lambda design, paths, earlier: remove_paths(design, paths[:2], earlier)),        # the front of the list alone
+    ({"other graph", "worse"},                                                                      # what is listed twice is not listed
+     lambda design, paths, earlier: remove_paths(design, [path for path in paths if paths.count(path) == 1], earlier)),
+    ({"other graph"},                                                                               # the list's order decides the numbers
+     lambda design, paths, earlier: renumbered(random.Random(repr(paths)), remove_paths(design, paths, earlier)))]
+
+
+class Longer(unittest.TestCase):
+    """Document 02, request 12: a longer list, and a shuffled one."""
+    def test_no_worse(self):
+        record = w.Times(5, 8, 3, 2)
+        for name, better, worse in (("arrival", 4, 6), ("required", 9, 7), ("slack", 4, 2), ("earliest", 3, 1)):
+            self.assertTrue(w.no_worse(record, record._replace(**{name: better})))
+            self.assertFalse(w.no_worse(record, record._replace(**{name: worse})))
+            self.assertFalse(w.no_worse(record, w.Times(4, 9, 4, 3)._replace(**{name: worse})))           # though all else is better
+        self.assertEqual([w.no_worse(*pair) for pair in ((record, record), (record, None), (None, None), (None, record))],
+                         [True, True, True, False])
+        self.assertEqual(decks.gains([record, None, record, record], [None, None, record, record._replace(slack=4)]), {"none", "slack"})
+
+    def test_by_hand(self):
+        """Deck A: with 1,2 listed arrival and slack at node 3 are 5 and 5, where they were 7 and 3; with 0,2 listed too it is none."""
+        found = [records(MARKED["M1"], remove_paths(MARKED["M1"].design, paths, None))[3] for paths in ([], [[1, 2]], [[0, 2], [1, 2]])]
+        self.assertEqual(found, [(7, 10, 3, 5), (5, 10, 5, 5), None])
+        # two copies of node 2 with marks of one edge, 2 and 3: in either order of the list the copy of 2 comes first
+        for paths in itertools.permutations(([1, 2], [0, 3], [1, 2])):
+            self.assertEqual(remove_paths(MARKED["M6"].design, list(paths), None), graph_of(MARKED["M6"]))
+
+    def runs(self, design):
+        """All that may be listed: every run of edges, each starting where the one before ends."""
+        found = [(edge,) for edge in range(len(design.starts))]
+        for run in found:
+            found += [run + (edge,) for edge, start in enumerate(design.starts) if start == design.ends[run[-1]]]
+        return found
+
+    def check_all_lists(self, design, earlier, most, seen):
+        """All lists of up to so many paths: the same paths leave the same graph, and of two lists the one with all paths of the other is no
+        worse at any node."""
+        graphs, lists = {}, 0
+        for paths in itertools.chain(*(itertools.product(self.runs(design), repeat=count) for count in range(most + 1))):
+            graph = remove_paths(design, paths, earlier)
+            self.assertEqual(graphs.setdefault(frozenset(paths), graph), graph, paths)
+            lists += 1
+        found = {paths: w.records_of(design, graph, w.copy_times(design, graph, 10)) for paths, graph in graphs.items()}
+        for fewer, more in itertools.permutations(found, 2):
+            if fewer < more:
+                self.assertTrue(all(map(w.no_worse, found[fewer], found[more])), (fewer, more))
+                seen |= decks.gains(found[fewer], found[more])
+        return lists
+
+    def test_all_short_lists(self):
+        rng, lists = random.Random(SEED + 12), 0
+        for design, most, first in [(design_of(5, A_EDGES), 3, [[1, 2]]), (design_of(5, A_BACK_EDGES, [2]), 3, [[0, 3]]),
+                                    (design_of(5, HOLD_EDGES, [1]), 3, [[2, 3], [1, 4]]), (design_of(6, M8_EDGES), 2, [[0, 2, 3]])]:
+            seen = set()
+            for earlier in (None, w.true_graph(design, path_list_of(first)), decks.largest_foreign_graph(rng, design)):
+                lists += self.check_all_lists(design, earlier, most, seen)
+            self.assertEqual(seen, {"none", *w.Times._fields})
+        self.assertEqual(lists, 3 * (585 + 585 + 1885 + 343))
+
+    def compare(self, remove, design, paths, same, longer, earlier, allowed_time):
+        """What is wrong with a removal, by a list, its paths reordered and repeated, and the list extended; and what the last one gains."""
+        plain, other, after = (remove(design, each, earlier) for each in (paths, same, longer))
+        before, then = (w.records_of(design, graph, w.copy_times(design, graph, allowed_time)) for graph in (plain, after))
+        wrong = ({"other graph"} if other != plain else set()) | (set() if all(map(w.no_worse, before, then)) else {"worse"})
+        return wrong, decks.gains(before, then)
+
+    def random_lists(self, seed, count):
+        rng = random.Random(seed)
+        for number in range(count):
+            design, *lists = decks.design_and_lists(rng)
+            yield design, *lists, decks.earlier_graph(rng, design) if number % 2 else None, rng.choice((0, 10, 1_000_000_000))
+
+    def test_random_lists(self):
+        """"This holds for removal from the design and from an earlier true graph": of every graph that is well formed, in fact."""
+        seen = {(name, from_design): 0 for name in ("none", *w.Times._fields, "other order", "three copies") for from_design in (True, False)}
+        for design, paths, same, longer, earlier, allowed_time in self.random_lists(SEED + 13, 1000):
+            wrong, gained = self.compare(remove_paths, design, paths, same, longer, earlier, allowed_time)
+            self.assertEqual(wrong, set(), (design, paths, same, longer, earlier))
+            graph = remove_paths(design, paths, earlier)
+            if same != paths:
+                gained |= {"other order"}
+                gained |= {"three copies" for node in graph.copy_nodes if graph.copy_nodes.count(node) > 2}
+            for name in gained:
+                seen[name, earlier is None] += 1
+        self.assertGreater(min(seen.values()), 30, seen)
+
+    def test_wrong_removals_are_found(self):
+        for finds, remove in WRONG_REMOVALS:
+            found = set()
+            for case in self.random_lists(SEED + 14, 60):
+                found |= self.compare(remove, *case)[0]
+            self.assertEqual(found, finds)
+
+    def test_where_a_run_is_refused(self):
+        """Repeats count for 20, 21 and 31: of two lists of the same paths one may be refused, and the other not."""
+        design, earlier = MARKED["M1"].design, graph_of(MARKED["M1"])
+        once, twice = path_list_of([[1, 2]]), path_list_of([[1, 2]] * 2)
+        # from the design 5 + 1 candidates, 2 and 4, and twice 5 + 2, 4 and 4; from the graph 6 + 2, 2 and 5, and twice 6 + 4, 4 and 5
+        for graph, words, more in ((None, 96, 120), (earlier, 120, 152)):
+            self.assertEqual([refusal(design, path_list, graph, lent) for path_list, lent in
+                              ((once, words - 1), (once, words), (twice, words), (twice, more - 1), (twice, more))],
+                             [(31, 0), None, (31, 0), (31, 0), None])
+            self.assertEqual(removed(design, once, graph, words), removed(design, twice, graph, more))
+        row = decks.braid(9, (4, 7), []).design
+        earlier = w.true_graph(row, path_list_of([[9, 5, 6, 10]]))
+        for path, most, number in ((range(8), 1024, 20), (range(9), 910, 21)):
+            for graph in (None, earlier):
+                once = remove_paths(row, [path], graph)
+                self.assertNotEqual(once, remove_paths(row, [], graph))        # so that it makes a difference whether it is listed
+                self.assertEqual(remove_paths(row, [path] * most, graph), once)
+                self.assertEqual(refusal(row, path_list_of([path] * (most + 1)), graph), (number, 0))
 
 
 class Packing(unittest.TestCase):

@@ -12,8 +12,8 @@ import random
 
 import expected
 import walker
-from decks import (A_BACK_EDGES, A_EDGES, HOLD, HOLD_EDGES, MARKED, deck_of, decks_with_marked, design_of, random_design,
-                   random_foreign_graph, random_paths)
+from decks import (A_BACK_EDGES, A_EDGES, HOLD, HOLD_EDGES, M8_EDGES, MARKED, deck_of, decks_with_marked, design_and_lists, design_of,
+                   earlier_graph, gains, path_list_of, random_design, random_foreign_graph, random_paths)
 
 TABLE = 4200                # the program's
 BLOCKS = 3                  # the program's
@@ -216,6 +216,7 @@ def fixed():
     yield chain(-1_000_000, -1_000_000, 5, 2000, [2000])
     yield from with_marked()
     yield from late_or_not()
+    yield from longer_lists()
 
 
 def late_or_not():
@@ -258,6 +259,37 @@ def refused_in_order():
         given = with_lent(Given(design_of(nodes, edges, marked), unfit, allowed, 2), lent)
         assert walker.refusal_of(walker.late, given.design(), unfit, allowed, lent)[0] == number
         yield given
+
+
+def lists_to_extend(chance):
+    """Designs, each with T, the graph to remove from, or none, and lists, of which each has all paths of the one before."""
+    yield design_of(5, A_EDGES), 6, None, [[], [[1, 2]], [[0, 3], [1, 2]], [[0, 3], [2], [1, 2]], [[1], [0, 3], [2], [1, 2]]]
+    yield design_of(5, A_BACK_EDGES, [2]), 4, None, [[], [[1, 3]], [[1, 3], [1, 2]], [[1], [1, 3], [1, 2]]]
+    yield HOLD.design, 100, None, [[], [[2, 3]], [[1, 4], [2, 3]], [[0], [1, 4], [2, 3]]]
+    yield design_of(6, M8_EDGES, [4]), 3, None, [[], [[0, 2, 3]], [[0, 2, 3], [1, 2, 3, 4]], [[5], [0, 2, 3], [1, 2, 3, 4]]]
+    for number in range(17):
+        design, paths, _, longer = design_and_lists(chance)
+        earlier = earlier_graph(chance, design) if number % 2 else None
+        graph, other = (walker.true_graph(design, path_list_of(each), earlier) for each in (paths, longer))
+        if other != graph:
+            yield design, near_arrivals(chance, design, graph), earlier, [paths, longer]
+
+
+def longer_lists():
+    """Document 02, request 12: "if a list is extended by any paths, no node's slack falls and no node's arrival rises". The records of a list's
+    graph, and with the same T of the graph of the list extended, which are no worse: the program prints both."""
+    chance, gained = random.Random(12), set()
+    for design, allowed, earlier, lists in lists_to_extend(chance):
+        before = None
+        for paths in lists:
+            graph = walker.true_graph(design, path_list_of(paths), earlier)
+            records = walker.records_of(design, graph, walker.copy_times(design, graph, allowed))
+            if before is not None:
+                assert all(map(walker.no_worse, before, records))
+                gained |= gains(before, records)
+            before = records
+            yield Given(design, graph, allowed, chance.randrange(design.nodes + 1))
+    assert gained == {"none", *walker.Times._fields}
 
 
 def with_lent(given, lent):

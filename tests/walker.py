@@ -1,7 +1,7 @@
 #!/usr/bin/env python3
 """Reference program: true timing graphs by walking all paths.
 
-Written from document 01, the specification, with requests 1, 4, 6, 8, 9 and 10 of document 02, and from no code
+Written from document 01, the specification, with requests 1, 4, 6, 8, 9, 10 and 12 of document 02, and from no code
 or definition of this repository; points that they leave open are read as docs/DECISIONS.md
 says ("How document 01 is read"). Naive on purpose: every complete path is written out, the false ones are struck
 out, and copies, edges and times are read off the paths that remain. Text in double quotes in
@@ -465,6 +465,19 @@ def node_records(nodes, copy_nodes, arrivals, requireds, slacks, earliests, plac
     return [node_record(nodes, copy_nodes, arrivals, requireds, slacks, earliests, node)
             for node in (range(nodes) if asked is None else asked)]
 
+def records_of(design, graph, at_copies):
+    """The records of all nodes, from the times of all copies."""
+    columns = [[at_copy[part] for at_copy in at_copies] for part in range(4)]
+    return node_records(design.nodes, graph.copy_nodes, *columns, [design.nodes] * 5)
+
+def no_worse(before, after):
+    """Of a node's record, and of its record once the list is extended: "no node's slack falls and no node's arrival rises, reading none as
+    better than any number". Nor does its required time fall, or its earliest arrival."""
+    if before is None or after is None:
+        return after is None
+    return (after.arrival <= before.arrival and after.required >= before.required
+            and after.slack >= before.slack and after.earliest >= before.earliest)
+
 # ---- Packed form ---------------------------------------------------------------------------
 
 def read_number(data, place):
@@ -627,9 +640,7 @@ def deck_program(data):
                      + (" end" if graph.endpoints[copy] == 1 else ""))
     for edge in zip(graph.starts, graph.ends, graph.design_edges):
         lines.append("edge %d %d %d" % edge)
-    columns = [[at_copy[part] for at_copy in at_copies] for part in range(4)]
-    for node in range(deck.design.nodes):
-        record = node_record(deck.design.nodes, graph.copy_nodes, *columns, node)
+    for node, record in enumerate(records_of(deck.design, graph, at_copies)):
         lines.append("node %d none" % node if record is None else "node %d %d %d %d %d" % (node, *record))
     return "\n".join(lines) + "\n"
 

@@ -9,13 +9,12 @@ use Rattle.timing.specs.declared.GraphMade.{GraphMade}
 use Rattle.timing.specs.declared.GraphMade.the-variants.{Counts}
 use Rattle.timing.specs.declared.GraphMade.the-variants.{Refused as NoGraph}
 use Rattle.timing.specs.Graphs.{Design, Graph, designGraph}
-use Rattle.timing.specs.Marks.{pathsOf}
-use Rattle.timing.specs.Calls.{GraphSlices, graphOf, slicesOf, Outcome, made, refused, Removal, graphAnswer}
+use Rattle.timing.specs.Calls.{GraphSlices, graphOf, slicesOf, Outcome, made, refused, graphAnswer}
 use Rattle.timing.specs.Series.{heldAfter, wholeAfter}
-use Rattle.timing.specs.Called.{removalOf, Meets, removeOn, front, heldSlices, lastHeld, slicesHeld, graphOn}
+use Rattle.timing.specs.Called.{removalOf, Meets, removeOn, front, heldSlices, lastHeld, slicesHeld}
 use Rattle.timing.specs.Demands.{Demand2}
 use Rattle.theorems.proofs.Series.{graph-slices}
-use Rattle.theorems.proofs.Records.{from-design-removed, from-graph-removed, removed-demand2, further-demand2}
+use Rattle.theorems.proofs.Records.{removed-on, removed-demand2}
 use Rattle.theorems.proofs.Records.{series-demand2 as held-demand2}
 use Rattle.theorems.proofs.Called.{front-held, ran-beside}
 use Rattle.called.specs.Removals.{Call, designOf, earlierOf, calledOf, workedOn, pathsIn, Follows}
@@ -41,10 +40,6 @@ abbrev copiesIn : GraphMade → ℕ
 copiesIn (Counts k e) = k
 copiesIn (NoGraph r) = 0
 
-made-sized : (D : Design) (held : Option GraphSlices) (r : Removal) (H : Graph) → removeOn D held r ≡ made H → length (H .endpoints) ≡ length (H .nodes)
-made-sized D none r H q = from-design-removed D r H q .stands .sizes
-made-sized D (some S) r H q = from-graph-removed D S r H q .stands .sizes
-
 -- what a call made: a graph whose slices are the front of the room
 pub record MadeBy (c : Call) (k e : ℕ) : Type 0 where
   pub graph : Graph
@@ -56,7 +51,7 @@ pub made-by : (c : Call) (k e : ℕ) → calledOf c .answer ≡ Counts k e → M
 made-by c k e a =
     let m = meets c in
     let h = made-of (outcomeOf c) k e (sym (m .answer) ∙ a) in
-    let held = front-held none (calledOf c) (made (h .0)) (made-sized (designOf c) (earlierOf c) (removalOf (calledOf c)) (h .0) (h .1)) (subst (λ (o : Outcome Graph). Meets o (calledOf c)) (h .1) m) in
+    let held = front-held none (calledOf c) (made (h .0)) (removed-on (designOf c) (earlierOf c) (removalOf (calledOf c)) (h .0) (h .1) .stands .sizes) (subst (λ (o : Outcome Graph). Meets o (calledOf c)) (h .1) m) in
     record {
       graph = h .0;
       made = h .1;
@@ -64,17 +59,13 @@ made-by c k e a =
       copies = ap copiesIn (sym a ∙ m .answer ∙ ap graphAnswer (h .1));
     }
 
-made-demand2 : (D : Design) (held : Option GraphSlices) (r : Removal) (H : Graph) → removeOn D held r ≡ made H → Demand2 (graphOn D held) (pathsOf (r .list)) H
-made-demand2 D none r H q = removed-demand2 D r H q
-made-demand2 D (some S) r H q = further-demand2 D S r H q
-
 -- Demand 2 over a call: what it left at the front of the room, as long as it answered, is a graph whose paths are the permitted
 -- complete paths of the graph that it worked on.
 pub call-demand2 : (c : Call) (k e : ℕ) → calledOf c .answer ≡ Counts k e → Demand2 (workedOn c) (pathsIn c) (graphOf (front k e (calledOf c .after)))
 call-demand2 c k e a =
     let m = made-by c k e a in
     subst (Demand2 (workedOn c) (pathsIn c)) (sym (ap graphOf (m .slices) ∙ graph-slices (m .graph)))
-    (made-demand2 (designOf c) (earlierOf c) (removalOf (calledOf c)) (m .graph) (m .made))
+    (removed-demand2 (designOf c) (earlierOf c) (removalOf (calledOf c)) (m .graph) (m .made))
 
 -- ---- what is held after a series
 abbrev heldBy : Design → List Call → Option Graph

@@ -3,7 +3,6 @@
 use mathlib.Core.Path.{_≡_, refl, sym, subst}
 use mathlib.Core.List.{List, [], _∷_, map}
 use mathlib.Core.Option.{Option, none, some}
-use contract.Lifetimes.{Lfts}
 use denote.Ref.{RefT}
 use lib.ListN.{length}
 use Rattle.timing.specs.Graphs.{Design}
@@ -21,7 +20,7 @@ use Rattle.called.proofs.Told.{call-foretells}
 abbrev pub lent : {X : Type 0} → X → RefT X
 lent x = record { ptr = (0, 0); name = 0; now = x }
 
-callOn : (D : Design) (held : Option GraphSlices) (c : Called) → Meets (removeOn D held (removalOf c)) c
+pub callOn : (D : Design) (held : Option GraphSlices) (c : Called) → Meets (removeOn D held (removalOf c)) c
     → (k : Call) × (designOf k ≡ D) × (earlierOf k ≡ held) × (calledOf k ≡ c)
 callOn D none c m = (
   onDesign record {

@@ -8,9 +8,7 @@ use mathlib.Core.List.{List, [], _∷_, map, flatMap}
 use mathlib.Core.Option.{none, some}
 use lib.ListN.{length}
 use lib.IntN.{ℤ, pos}
-use Rattle.timing.specs.declared.Verdict.{Verdict}
 use Rattle.timing.specs.declared.Verdict.the-variants.{Passed}
-use Rattle.timing.specs.declared.NodeTimes.{NodeTimes}
 use Rattle.timing.specs.declared.Lateness.{Lateness}
 use Rattle.timing.specs.declared.Lateness.the-variants.{Late, OnTime}
 use Rattle.timing.specs.Graphs.{Design, designGraph, edgeLate, edgesIn, edgesOut, runsTo}
@@ -18,17 +16,17 @@ use Rattle.timing.specs.TrueGraphs.{permittedRuns}
 use Rattle.timing.specs.Times.{arrivalAt, lateCopies}
 use Rattle.timing.specs.WellFormed.{wellFormed}
 use Rattle.timing.specs.Tests.{designTests}
-use Rattle.timing.specs.Calls.{GraphSlices, testTimes, testLate, lateOrNot, arrivalsAfterLate, arrivalsAfter, requiredsAfter, slacksAfter, earliestsAfter, testRecords, hasTimes, arrivalOf, requiredOf, slackOf, earliestOf, recordsAfter}
+use Rattle.timing.specs.Calls.{GraphSlices, testTimes, testLate, lateOrNot, arrivalsAfterLate, arrivalsAfter, requiredsAfter, slacksAfter, earliestsAfter, testRecords}
 use Rattle.timing.specs.Series.{wholeAfter}
 use Rattle.timing.specs.Called.{removalOf}
 use Rattle.timing.specs.Late.{LateIff, SomeNegative, SomeLonger}
 use Rattle.timing.proofs.Marked.{deckA}
 use Rattle.called.specs.Removals.{calledOf}
-use Rattle.called.specs.Times.{TimesCall, timedDesign, timedGraph, arrivalsLeft, requiredsLeft, slacksLeft, earliestsLeft, RecordsCall, nodeSlacksLeft}
-use Rattle.called.specs.Late.{LateCall, Beside}
+use Rattle.called.specs.Times.{TimesCall, slacksLeft, RecordsCall, nodeSlacksLeft}
+use Rattle.called.specs.Late.{LateCall}
 use Rattle.called.proofs.Late.{call-late-slacks, call-late-records, series-late}
 use Rattle.called.proofs.Example.{lent, example}
-use Rattle.called.proofs.TimesExample.{timesOn, held, is-held, six, timed, timed-passed}
+use Rattle.called.proofs.TimesExample.{timesOn, recordsOn, records-on, held, is-held, six, timed, timed-passed}
 
 -- what the definitions say of a call is a call
 abbrev lateOn : Design → ℕ → GraphSlices → List ℤ → LateCall
@@ -83,21 +81,6 @@ late-slacks-example =
     subst (λ (a : Lateness). LateIff a (SomeNegative (slacksLeft timed4))) late-with-4
     (call-late-slacks timed4 (lateOn deckA 4 held six) timed4-passed (record { design = refl; graph = refl; allowed = refl; places = refl }))
 
-abbrev recordsOn : TimesCall → List ℕ → List ℤ → RecordsCall
-recordsOn t known ts =
-    let n = timedDesign t .nodes in
-    let vs = timedGraph t .nodes in
-    let v : Verdict =
-    testRecords n vs (arrivalsLeft t) (requiredsLeft t) (slacksLeft t) (earliestsLeft t) (length known) (length ts) (length ts) (length ts) (length ts) in
-    let after : (NodeTimes → ℤ) → List ℤ = λ f. recordsAfter f n vs (arrivalsLeft t) (requiredsLeft t) (slacksLeft t) (earliestsLeft t) v ts in
-    record {
-      lifetimes = ([], ([], ([], ([], ([], ([], ([], ([], ([], ([], tt))))))))));
-      passed = (n, (lent vs, (lent (arrivalsLeft t), (lent (requiredsLeft t), (lent (slacksLeft t), (lent (earliestsLeft t), (lent known, (lent ts, (lent ts, (lent ts, (lent ts, tt)))))))))));
-      answer = v;
-      left = (n, (lent vs, (lent (arrivalsLeft t), (lent (requiredsLeft t), (lent (slacksLeft t), (lent (earliestsLeft t), (lent (recordsAfter hasTimes n vs (arrivalsLeft t) (requiredsLeft t) (slacksLeft t) (earliestsLeft t) v known), (lent (after arrivalOf), (lent (after requiredOf), (lent (after slackOf), (lent (after earliestOf), tt)))))))))));
-      learnt = (refl, refl, refl, refl, refl, refl);
-    }
-
 abbrev records4 : RecordsCall
 records4 = recordsOn timed4 (0 ∷ 0 ∷ 0 ∷ 0 ∷ 0 ∷ []) (pos 0 ∷ pos 0 ∷ pos 0 ∷ pos 0 ∷ pos 0 ∷ [])
 
@@ -109,4 +92,4 @@ pub late-records-example : SomeNegative (nodeSlacksLeft records4)
 late-records-example =
     subst (λ (a : Lateness). LateIff a (SomeNegative (nodeSlacksLeft records4))) late-with-4
     (call-late-records timed4 (lateOn deckA 4 held six) timed4-passed (record { design = refl; graph = refl; allowed = refl; places = refl })
-    records4 records4-passed (record { nodes = refl; copies = refl; arrivals = refl; requireds = refl; slacks = refl; earliests = refl }))
+    records4 records4-passed (records-on timed4 (0 ∷ 0 ∷ 0 ∷ 0 ∷ 0 ∷ []) (pos 0 ∷ pos 0 ∷ pos 0 ∷ pos 0 ∷ pos 0 ∷ [])))

@@ -6,6 +6,8 @@ pub mod Told
 pub mod Demand2
 pub mod Times
 pub mod Late
+pub mod Extended
 pub mod Example
 pub mod TimesExample
 pub mod LateExample
+pub mod ExtendedExample

@@ -1,10 +1,12 @@
 -- Whose times `times` leaves and `node_record` answers, over the calls one after the other: removals, `times` on the slices that
--- they left, `node_record` on what that left.
+-- they left, `node_record` or `node_records` on what that left.
 use Prim.Native.Nat.{ℕ, _<_}
-use mathlib.Core.Path.{_≡_, sym, ap, _∙_, subst}
+use mathlib.Core.Path.{_≡_, refl, sym, ap, _∙_, subst}
+use mathlib.Core.Bool.{cond}
 use mathlib.Core.List.{List, map}
-use mathlib.Core.Option.{Option, none, some}
+use mathlib.Core.Option.{none, some}
 use native.Mathlib.Omega.{arith}
+use lib.Dec.{eqb}
 use lib.ListN.{length, getD}
 use lib.IntN.{ℤ, pos}
 use lib.Signed.{_≤ℤ_}
@@ -12,19 +14,20 @@ use Rattle.timing.specs.declared.Verdict.{Verdict}
 use Rattle.timing.specs.declared.Verdict.the-variants.{Passed}
 use Rattle.timing.specs.declared.GraphMade.the-variants.{Counts}
 use Rattle.timing.specs.declared.NodeTimes.{NodeTimes}
+use Rattle.timing.specs.declared.NodeTimes.the-variants.{Times, None}
 use Rattle.timing.specs.declared.NodeAnswer.the-variants.{Record}
 use Rattle.timing.specs.Graphs.{Design, edgeEarly, edgeLate, Edge, Graph, designGraph}
-use Rattle.timing.specs.Marks.{pathsOf}
 use Rattle.timing.specs.TrueGraphs.{trueGraph}
-use Rattle.timing.specs.Calls.{GraphSlices, slicesOf, made, Removal, testTimes, arrivalsAfter, requiredsAfter, slacksAfter, earliestsAfter, recordOf}
+use Rattle.timing.specs.Calls.{GraphSlices, slicesOf, testTimes, arrivalsAfter, requiredsAfter, slacksAfter, earliestsAfter, recordOf, recordsAfter, hasTimes, arrivalOf, requiredOf, slackOf, earliestOf}
 use Rattle.timing.specs.Series.{wholeAfter, Renumbered}
 use Rattle.timing.specs.Called.{removalOf, removeOn, front, lastHeld, graphOn}
 use Rattle.timing.specs.Paths.{PassesAt, Shows, pairOf}
-use Rattle.timing.specs.Demands.{PathBest, PathTimes, TimesOfPaths}
-use Rattle.theorems.proofs.Records.{earliest-left, removed-copy-times, further-copy-times, series-copy-times}
+use Rattle.timing.specs.Demands.{PathBest, PathTimes, TimesOfPaths, recordAfter}
+use Rattle.theorems.proofs.Nodes.{copyTimesAt, nodeTimesAt}
+use Rattle.theorems.proofs.Records.{earliest-left, record-after, records-after, copy-after, removed-copy-times, series-copy-times}
 use Rattle.theorems.proofs.Records.{series-record as held-record}
 use Rattle.called.specs.Removals.{Call, designOf, earlierOf, calledOf, workedOn, pathsIn, Follows}
-use Rattle.called.specs.Times.{TimesCall, timedDesign, allowedTime, timedGraph, arrivalsLent, requiredsLent, slacksLent, earliestsLent, arrivalsLeft, requiredsLeft, slacksLeft, earliestsLeft, TimesLeft, RecordCall, askedNode, RecordAfter}
+use Rattle.called.specs.Times.{TimesCall, timedDesign, allowedTime, timedGraph, arrivalsLent, requiredsLent, slacksLent, earliestsLent, arrivalsLeft, requiredsLeft, slacksLeft, earliestsLeft, copyLeft, TimesLeft, RecordCall, askedNode, RecordAfter, RecordsCall, nodeTimesLeft, RecordsAfter}
 use Rattle.called.proofs.Demand2.{made-by, held-by}
 
 best-same : {early late : ℕ → ℤ} {t : ℤ} (h : ℕ) (P : List Edge → List Edge → Type 0) {a a′ r r′ s s′ e e′ : List ℤ} → a ≡ a′ → r ≡ r′ → s ≡ s′ → e ≡ e′
@@ -70,6 +73,53 @@ module _ (t : TimesCall) (H : Graph) (lent : timedGraph t ≡ slicesOf H) (passe
   times-left : (h : ℕ) (P : List Edge → List Edge → Type 0) → TimesOfPaths D H T ats rts sts ets h P → TimesLeft t h P
   times-left h P x = best-same h P arrivals-are requireds-are slacks-are earliests-are x
 
+  pub copy-left : (h : ℕ) → h < length (H .nodes) → copyLeft t h ≡ copyTimesAt (edgeEarly D) (edgeLate D) (pos T) H h
+  copy-left h k =
+      (λ i. Times (getD (arrivals-are i) h (pos 0)) (getD (requireds-are i) h (pos 0)) (getD (slacks-are i) h (pos 0)) (getD (earliests-are i) h (pos 0)))
+      ∙ copy-after D H T ats rts sts ets tested h k
+
+  -- `node_record` on what that left answers what the definitions say of H
+  record-is : (c : RecordCall) → RecordAfter t c → c .answer ≡ recordAfter D H T ats rts sts ets (askedNode c)
+  record-is c a =
+      c .learnt
+      ∙ (λ i.
+      recordOf (a .nodes i) ((a .copies ∙ ap (λ (F : GraphSlices). F .nodes) lent) i) ((a .arrivals ∙ arrivals-are) i) ((a .requireds ∙ requireds-are) i)
+      ((a .slacks ∙ slacks-are) i) ((a .earliests ∙ earliests-are) i) (askedNode c))
+
+  pub record-answered : (c : RecordCall) → RecordAfter t c
+      → c .answer ≡ Record (record { node = askedNode c; times = nodeTimesAt (edgeEarly D) (edgeLate D) (pos T) H (D .nodes) (askedNode c) })
+  record-answered c a = record-is c a ∙ record-after D H T ats rts sts ets tested (askedNode c)
+
+  -- and `node_records` leaves the same of every node
+  pub records-left : (c : RecordsCall) → c .answer ≡ Passed → RecordsAfter t c
+      → (v : ℕ) → v < D .nodes → nodeTimesLeft c v ≡ nodeTimesAt (edgeEarly D) (edgeLate D) (pos T) H (D .nodes) v
+  records-left c p a v h =
+      let passes = sym (c .learnt .0) ∙ p in
+      let known = told 0 hasTimes _ _ _ passes (c .learnt .1) in
+      let arrival = told (pos 0) arrivalOf _ _ _ passes (c .learnt .2) in
+      let required = told (pos 0) requiredOf _ _ _ passes (c .learnt .3) in
+      let slack = told (pos 0) slackOf _ _ _ passes (c .learnt .4) in
+      let earliest = told (pos 0) earliestOf _ _ _ passes (c .learnt .5) in
+      (λ i. cond (eqb (known i) 1) (Times (arrival i) (required i) (slack i) (earliest i)) None) ∙ read-back x
+    where
+      x : NodeTimes
+      x = nodeTimesAt (edgeEarly D) (edgeLate D) (pos T) H (D .nodes) v
+
+      read-back : (x : NodeTimes) → cond (eqb (hasTimes x) 1) (Times (arrivalOf x) (requiredOf x) (slackOf x) (earliestOf x)) None ≡ x
+      read-back (Times a r s e) = refl
+      read-back None = refl
+
+      told : {A : Type 0} (z : A) (f : NodeTimes → A) (w : Verdict) (left room : List A) → w ≡ Passed
+          → let l = c .passed in left ≡ recordsAfter f (l .0) (l .1 .0 .now) (l .1 .1 .0 .now) (l .1 .1 .1 .0 .now) (l .1 .1 .1 .1 .0 .now) (l .1 .1 .1 .1 .1 .0 .now) w room
+          → getD left v z ≡ f x
+      told {A} z f w left room q e =
+          ap (λ (l : List A). getD l v z)
+          (e
+          ∙ (λ i.
+          recordsAfter f (a .nodes i) ((a .copies ∙ ap (λ (F : GraphSlices). F .nodes) lent) i) ((a .arrivals ∙ arrivals-are) i) ((a .requireds ∙ requireds-are) i)
+          ((a .slacks ∙ slacks-are) i) ((a .earliests ∙ earliests-are) i) (q i) room))
+          ∙ records-after D H T ats rts sts ets tested z f room v h
+
 -- Whatever true graph a call of `times` was lent, where it passed: no copy's earliest arrival is above its arrival.
 pub earliest-below : (t : TimesCall) → t .answer ≡ Passed
     → (h : ℕ) → h < length (timedGraph t .nodes) → getD (earliestsLeft t) h (pos 0) ≤ℤ getD (arrivalsLeft t) h (pos 0)
@@ -83,12 +133,6 @@ earliest-below t p h k =
     below-same : {a a′ e e′ : List ℤ} (h : ℕ) → a ≡ a′ → e ≡ e′ → getD e′ h (pos 0) ≤ℤ getD a′ h (pos 0) → getD e h (pos 0) ≤ℤ getD a h (pos 0)
     below-same h p q x = rw (p, q) x
 
-made-times : (D : Design) (held : Option GraphSlices) (r : Removal) (H : Graph) (T : ℕ) (ats rts sts ets : List ℤ)
-    → testTimes D (slicesOf H) T (length ats) (length rts) (length sts) (length ets) ≡ Passed → removeOn D held r ≡ made H → (h : ℕ) → h < length (H .nodes)
-    → TimesOfPaths D H T ats rts sts ets h (Shows (graphOn D held) (pathsOf (r .list)) (pairOf (graphOn D held) (pathsOf (r .list)) h))
-made-times D none r H T ats rts sts ets p q h l = removed-copy-times D H T ats rts sts ets p r q h l
-made-times D (some S) r H T ats rts sts ets p q h l = further-copy-times D H T ats rts sts ets p S r q h l
-
 -- After a removal that answered k copies and `times` on the front of its room: the times left at copy h are those of the permitted
 -- complete paths, of the graph worked on, that show the pair of copy h.
 pub call-times : (c : Call) (k e : ℕ) → calledOf c .answer ≡ Counts k e
@@ -101,7 +145,7 @@ call-times c k e a t d g p h l =
     let held = earlierOf c in
     let r = removalOf (calledOf c) in
     let q = ap (λ (E : Design). removeOn E held r) d ∙ m .made in
-    let at = made-times (timedDesign t) held r H (allowedTime t) (ats t H lent p) (rts t H lent p) (sts t H lent p) (ets t H lent p) (tested t H lent p) q h (omega (arith, l, m .copies)) in
+    let at = removed-copy-times (timedDesign t) H (allowedTime t) (ats t H lent p) (rts t H lent p) (sts t H lent p) (ets t H lent p) (tested t H lent p) held r q h (omega (arith, l, m .copies)) in
     subst (λ (E : Design). TimesLeft t h (Shows (graphOn E held) (pathsIn c) (pairOf (graphOn E held) (pathsIn c) h))) d
     (times-left t H lent p h _ at)
 
@@ -132,10 +176,4 @@ series-record cs S t c f q g p a =
     let lent = g ∙ x .2 in
     let y = held-record (timedDesign t) H (allowedTime t) (ats t H lent p) (rts t H lent p) (sts t H lent p) (ets t H lent p) (tested t H lent p) (map removalOf (map calledOf cs)) (x .1) in
     let o = y .2 (askedNode c) in
-    let copies = a .copies ∙ ap (λ (F : GraphSlices). F .nodes) lent in
-    let same =
-    c .learnt
-    ∙ (λ i. recordOf (a .nodes i) (copies i) ((a .arrivals ∙ arrivals-are t H lent p) i) ((a .requireds ∙ requireds-are t H lent p) i) ((a .slacks ∙ slacks-are t H lent p) i)
-    ((a .earliests ∙ earliests-are t H lent p) i) (askedNode c))
-    ∙ o .answer in
-    (y .0, y .1, (o .times, same, o .paths))
+    (y .0, y .1, (o .times, record-is t H lent p c a ∙ o .answer, o .paths))

@@ -14,14 +14,14 @@ use Rattle.timing.specs.declared.NodeAnswer.the-variants.{Record}
 use Rattle.timing.specs.Graphs.{Design, designGraph, edgeEarly, edgeLate, edgesIn, edgesOut}
 use Rattle.timing.specs.WellFormed.{wellFormed}
 use Rattle.timing.specs.Tests.{designTests}
-use Rattle.timing.specs.Calls.{GraphSlices, graphSlices, testTimes, arrivalsAfter, requiredsAfter, slacksAfter, earliestsAfter, recordOf}
+use Rattle.timing.specs.Calls.{GraphSlices, graphSlices, testTimes, arrivalsAfter, requiredsAfter, slacksAfter, earliestsAfter, recordOf, testRecords, hasTimes, arrivalOf, requiredOf, slackOf, earliestOf, recordsAfter}
 use Rattle.timing.specs.Series.{wholeAfter}
 use Rattle.timing.specs.Called.{Called, removalOf, lastHeld}
 use Rattle.timing.specs.Paths.{PassesAt}
 use Rattle.timing.specs.Demands.{PathTimes}
 use Rattle.timing.proofs.Marked.{deckA}
 use Rattle.called.specs.Removals.{calledOf}
-use Rattle.called.specs.Times.{TimesCall, timedDesign, timedGraph, arrivalsLeft, requiredsLeft, slacksLeft, earliestsLeft, RecordCall, RecordAfter}
+use Rattle.called.specs.Times.{TimesCall, timedDesign, timedGraph, arrivalsLeft, requiredsLeft, slacksLeft, earliestsLeft, RecordCall, RecordAfter, RecordsCall, RecordsAfter}
 use Rattle.called.proofs.Times.{earliest-below, series-record}
 use Rattle.called.proofs.Example.{lent, example}
 
@@ -36,7 +36,7 @@ timesOn D T S ats rts sts ets =
       learnt = (refl, refl, refl, refl, refl);
     }
 
-abbrev recordOn : TimesCall → ℕ → RecordCall
+abbrev pub recordOn : TimesCall → ℕ → RecordCall
 recordOn t v = record {
   lifetimes = ([], ([], ([], ([], ([], tt)))));
   passed = (timedDesign t .nodes, (lent (timedGraph t .nodes), (lent (arrivalsLeft t), (lent (requiredsLeft t), (lent (slacksLeft t), (lent (earliestsLeft t), (v, tt)))))));
@@ -45,8 +45,26 @@ recordOn t v = record {
   learnt = refl;
 }
 
-record-on : (t : TimesCall) (v : ℕ) → RecordAfter t (recordOn t v)
+pub record-on : (t : TimesCall) (v : ℕ) → RecordAfter t (recordOn t v)
 record-on t v = record { nodes = refl; copies = refl; arrivals = refl; requireds = refl; slacks = refl; earliests = refl }
+
+abbrev pub recordsOn : TimesCall → List ℕ → List ℤ → RecordsCall
+recordsOn t known ts =
+    let n = timedDesign t .nodes in
+    let vs = timedGraph t .nodes in
+    let v : Verdict =
+    testRecords n vs (arrivalsLeft t) (requiredsLeft t) (slacksLeft t) (earliestsLeft t) (length known) (length ts) (length ts) (length ts) (length ts) in
+    let after : (NodeTimes → ℤ) → List ℤ = λ f. recordsAfter f n vs (arrivalsLeft t) (requiredsLeft t) (slacksLeft t) (earliestsLeft t) v ts in
+    record {
+      lifetimes = ([], ([], ([], ([], ([], ([], ([], ([], ([], ([], tt))))))))));
+      passed = (n, (lent vs, (lent (arrivalsLeft t), (lent (requiredsLeft t), (lent (slacksLeft t), (lent (earliestsLeft t), (lent known, (lent ts, (lent ts, (lent ts, (lent ts, tt)))))))))));
+      answer = v;
+      left = (n, (lent vs, (lent (arrivalsLeft t), (lent (requiredsLeft t), (lent (slacksLeft t), (lent (earliestsLeft t), (lent (recordsAfter hasTimes n vs (arrivalsLeft t) (requiredsLeft t) (slacksLeft t) (earliestsLeft t) v known), (lent (after arrivalOf), (lent (after requiredOf), (lent (after slackOf), (lent (after earliestOf), tt)))))))))));
+      learnt = (refl, refl, refl, refl, refl, refl);
+    }
+
+pub records-on : (t : TimesCall) (known : List ℕ) (ts : List ℤ) → RecordsAfter t (recordsOn t known ts)
+records-on t known ts = record { nodes = refl; copies = refl; arrivals = refl; requireds = refl; slacks = refl; earliests = refl }
 
 -- what the example series holds
 abbrev pub held : GraphSlices

@@ -8,9 +8,12 @@ use borrow.Fn.World.{ArgsD, ResD}
 use denote.Triple.Clauses.{AtExit}
 use lib.IntN.{ℤ, pos}
 use lib.ListN.{getD}
+use Rattle.timing.specs.declared.NodeTimes.{NodeTimes}
+use Rattle.timing.specs.declared.NodeTimes.the-variants.{Times}
 use Rattle.timing.specs.Graphs.{Design, design, edgeEarly, edgeLate, Edge}
 use Rattle.timing.specs.Calls.{GraphSlices, graphSlices}
 use Rattle.timing.specs.Demands.{PathBest}
+use Rattle.timing.specs.Extended.{timesIn}
 use Rattle.times.proofs.times.{signature as timesSignature, ended as timesEnded}
 use Rattle.times.proofs.times.Reads.{Learnt as TimesLearnt}
 use Rattle.records.proofs.node_record.{signature as recordSignature, ended as recordEnded}
@@ -61,6 +64,10 @@ slacksLeft c = c .left .1 .1 .1 .1 .1 .1 .1 .1 .1 .1 .1 .1 .1 .1 .0 .now
 abbrev pub earliestsLeft : TimesCall → List ℤ
 earliestsLeft c = c .left .1 .1 .1 .1 .1 .1 .1 .1 .1 .1 .1 .1 .1 .1 .1 .0 .now
 
+-- the four times left at copy h
+abbrev pub copyLeft : TimesCall → ℕ → NodeTimes
+copyLeft c h = Times (getD (arrivalsLeft c) h (pos 0)) (getD (requiredsLeft c) h (pos 0)) (getD (slacksLeft c) h (pos 0)) (getD (earliestsLeft c) h (pos 0))
+
 -- the times left at copy h are those of the paths P, each cut into two parts
 abbrev pub TimesLeft : TimesCall → ℕ → (List Edge → List Edge → Type 0) → Type 0
 TimesLeft c h P =
@@ -93,6 +100,10 @@ nodeSlacksLent c = c .passed .1 .1 .1 .1 .1 .1 .1 .1 .1 .0 .now
 
 abbrev pub nodeSlacksLeft : RecordsCall → List ℤ
 nodeSlacksLeft c = c .left .1 .1 .1 .1 .1 .1 .1 .1 .1 .0 .now
+
+-- what it left of node v in its five slices: whether it has times, arrival, required time, slack, earliest arrival
+abbrev pub nodeTimesLeft : RecordsCall → ℕ → NodeTimes
+nodeTimesLeft c v = let l = c .left .1 .1 .1 .1 .1 .1 in timesIn (l .0 .now) (l .1 .0 .now) (l .1 .1 .0 .now) (l .1 .1 .1 .0 .now) (l .1 .1 .1 .1 .0 .now) v
 
 -- either is lent n, the nodes of the copies, and the times that a call of `times` left
 pub record LentTimes (t : TimesCall) (n : ℕ) (vs : List ℕ) (ats rts sts ets : List ℤ) : Type 0 where

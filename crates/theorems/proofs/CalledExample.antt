@@ -5,7 +5,7 @@ use Prim.Native.Nat.{ℕ}
 use native.Mathlib.Omega.{arith}
 use mathlib.Core.Path.{_≡_, refl, ap}
 use mathlib.Core.List.{List, [], _∷_, map, flatMap}
-use mathlib.Core.Option.{none}
+use mathlib.Core.Option.{none, some}
 use lib.Dec.{leb→le}
 use lib.ListN.{length}
 use Rattle.timing.specs.declared.GraphMade.{GraphMade}
@@ -19,7 +19,7 @@ use Rattle.timing.specs.WellFormed.{wellFormed}
 use Rattle.timing.specs.Refusals.{refusal, refusalWithin}
 use Rattle.timing.specs.Tests.{designTests, listTests, candidates, scratchWords, scratchTest, roomTests}
 use Rattle.timing.specs.Calls.{GraphSlices, graphSlices, roomOf, removeFromDesign, removeFromGraph, sizeFromDesign}
-use Rattle.timing.specs.Called.{Called, removalOf, Meets, removeOn, Ran, CalledDemand3}
+use Rattle.timing.specs.Called.{Called, removalOf, Meets, removeOn, front, Ran, CalledDemand3}
 use Rattle.timing.specs.Told.{Telling, Tells, sizeOn, foretold, FillsJust}
 use Rattle.timing.proofs.Marked.{deckA}
 use Rattle.theorems.proofs.Called.{called-demand3}
@@ -52,13 +52,15 @@ called = calledWith 120
 abbrev pub afterA : GraphSlices
 afterA = graphSlices (0 ∷ 1 ∷ 2 ∷ 2 ∷ 3 ∷ 4 ∷ []) (0 ∷ 0 ∷ 0 ∷ 0 ∷ 1 ∷ 1 ∷ []) (0 ∷ 1 ∷ 0 ∷ 3 ∷ 2 ∷ 9 ∷ []) (2 ∷ 2 ∷ 3 ∷ 4 ∷ 5 ∷ 9 ∷ []) (0 ∷ 1 ∷ 0 ∷ 2 ∷ 3 ∷ 9 ∷ [])
 
+abbrev afterFurther : GraphSlices
+afterFurther = graphSlices (0 ∷ 1 ∷ 2 ∷ 2 ∷ 3 ∷ 4 ∷ []) (0 ∷ 0 ∷ 0 ∷ 0 ∷ 1 ∷ 1 ∷ []) (1 ∷ 0 ∷ 3 ∷ 2 ∷ 9 ∷ 9 ∷ []) (2 ∷ 3 ∷ 4 ∷ 5 ∷ 9 ∷ 9 ∷ []) (1 ∷ 0 ∷ 2 ∷ 3 ∷ 9 ∷ 9 ∷ [])
+
 abbrev pub series : List Called
 series =
     called (2 ∷ 1 ∷ []) (2 ∷ []) (roomFor 6) (NoGraph (refusalWithin 24 0 1)) (roomFor 6) 9
     ∷ called (1 ∷ 2 ∷ []) (2 ∷ []) (roomFor 6) (Counts 6 5) afterA 0
     ∷ called (0 ∷ 3 ∷ []) (2 ∷ []) (roomFor 5) (NoGraph (refusal 33 0)) (roomFor 5) 0
-    ∷ called (0 ∷ 3 ∷ []) (2 ∷ []) (roomFor 6) (Counts 6 4)
-    (graphSlices (0 ∷ 1 ∷ 2 ∷ 2 ∷ 3 ∷ 4 ∷ []) (0 ∷ 0 ∷ 0 ∷ 0 ∷ 1 ∷ 1 ∷ []) (1 ∷ 0 ∷ 3 ∷ 2 ∷ 9 ∷ 9 ∷ []) (2 ∷ 3 ∷ 4 ∷ 5 ∷ 9 ∷ 9 ∷ []) (1 ∷ 0 ∷ 2 ∷ 3 ∷ 9 ∷ 9 ∷ [])) 0
+    ∷ called (0 ∷ 3 ∷ []) (2 ∷ []) (roomFor 6) (Counts 6 4) afterFurther 0
     ∷ []
 
 pub series-ran : Ran deckA none series
@@ -137,3 +139,46 @@ told-answers =
           refl refl one (apart (NoGraph (refusal 34 0)) 30 (λ e. omega arith)) (apart (NoGraph (refusal 34 0)) 31 (λ e. omega arith)) .0,
       foretells deckA none toldA (madeWith 96) told filled refl refl one (apart (Counts 6 5) 30 (λ e. omega arith)) one .1 6 5 refl,
     )
+
+-- Deck A's list extended by the path 0,3, which is put in front; these paths reordered, with one of them repeated; and that again with the 120 words
+-- that 31 asks of the list without repeats: it is refused 31.
+abbrev afterBoth : GraphSlices
+afterBoth = graphSlices (0 ∷ 1 ∷ 2 ∷ 2 ∷ 3 ∷ 4 ∷ []) (0 ∷ 0 ∷ 0 ∷ 0 ∷ 1 ∷ 1 ∷ []) (0 ∷ 1 ∷ 2 ∷ 3 ∷ 9 ∷ 9 ∷ []) (2 ∷ 3 ∷ 4 ∷ 5 ∷ 9 ∷ 9 ∷ []) (0 ∷ 1 ∷ 2 ∷ 3 ∷ 9 ∷ 9 ∷ [])
+
+abbrev pub both : Called
+both = calledWith 120 (0 ∷ 3 ∷ 1 ∷ 2 ∷ []) (2 ∷ 2 ∷ []) (roomFor 6) (Counts 6 4) afterBoth 0
+
+abbrev pub shuffled : Called
+shuffled = calledWith 144 (1 ∷ 2 ∷ 0 ∷ 3 ∷ 1 ∷ 2 ∷ []) (2 ∷ 2 ∷ 2 ∷ []) (roomFor 6) (Counts 6 4) afterBoth 0
+
+abbrev repeatedShort : Called
+repeatedShort = calledWith 120 (1 ∷ 2 ∷ 0 ∷ 3 ∷ 1 ∷ 2 ∷ []) (2 ∷ 2 ∷ 2 ∷ []) (roomFor 6) (NoGraph (refusal 31 0)) (roomFor 6) 9
+
+pub both-met : Meets (removeOn deckA none (removalOf both)) both
+unfolding flatMap designGraph edgesIn edgesOut runsFrom completeRuns permitted tails mark permittedRuns copies pathEnds joins trueGraph designTests listTests candidates scratchTest roomTests removeFromDesign
+both-met = record { answer = refl; nodes = refl; endpoints = refl; starts = refl; ends = refl; names = refl; scratch = refl }
+
+pub shuffled-met : Meets (removeOn deckA none (removalOf shuffled)) shuffled
+unfolding flatMap designGraph edgesIn edgesOut runsFrom completeRuns permitted tails mark permittedRuns copies pathEnds joins trueGraph designTests listTests candidates scratchTest roomTests removeFromDesign
+shuffled-met = record { answer = refl; nodes = refl; endpoints = refl; starts = refl; ends = refl; names = refl; scratch = refl }
+
+pub repeated-short : Meets (removeOn deckA none (removalOf repeatedShort)) repeatedShort
+unfolding flatMap designGraph edgesIn edgesOut runsFrom completeRuns permitted tails mark permittedRuns copies pathEnds joins trueGraph designTests listTests candidates scratchTest roomTests removeFromDesign
+repeated-short = record { answer = refl; nodes = refl; endpoints = refl; starts = refl; ends = refl; names = refl; scratch = refl }
+
+-- From deck A's true graph: no path removed, and 0,3.
+abbrev pub heldA : GraphSlices
+heldA = front 6 5 afterA
+
+abbrev pub nothing : Called
+nothing = called [] [] (roomFor 6) (Counts 6 5) afterA 0
+
+abbrev pub further : Called
+further = called (0 ∷ 3 ∷ []) (2 ∷ []) (roomFor 6) (Counts 6 4) afterFurther 0
+
+pub nothing-met : Meets (removeOn deckA (some heldA) (removalOf nothing)) nothing
+unfolding flatMap designGraph edgesIn edgesOut runsFrom completeRuns permitted tails mark permittedRuns copies pathEnds joins trueGraph wellFormed designTests listTests candidates scratchTest roomTests removeFromGraph
+nothing-met = record { answer = refl; nodes = refl; endpoints = refl; starts = refl; ends = refl; names = refl; scratch = refl }
+
+pub further-met : Meets (removeOn deckA (some heldA) (removalOf further)) further
+further-met = series-ran .1 .1 .1 .0

@@ -8,7 +8,7 @@ use native.Mathlib.Omega.{arith}
 use lib.Dec.{T}
 use lib.IntN.{ℤ, pos}
 use Rattle.timing.specs.declared.Verdict.the-variants.{Passed}
-use Rattle.timing.specs.Graphs.{Design, design, Graph, designGraph, edgesIn, edgesOut, runsFrom, completeRuns}
+use Rattle.timing.specs.Graphs.{Graph, designGraph, edgesIn, edgesOut, runsFrom, completeRuns}
 use Rattle.timing.specs.Marks.{PathList, pathList, pathsOf, permitted, tails, mark}
 use Rattle.timing.specs.TrueGraphs.{permittedRuns, copies, pathEnds, joins, trueGraph}
 use Rattle.timing.specs.WellFormed.{wellFormed}
@@ -61,7 +61,7 @@ unfolding flatMap designGraph edgesIn edgesOut runsFrom completeRuns permitted t
 made-A = refl
 
 pub deckA-made : Demand2 (designGraph deckA) (pathsOf listA) graphA
-deckA-made = removed-demand2 deckA (part listA) graphA made-A
+deckA-made = removed-demand2 deckA none (part listA) graphA made-A
 
 -- and with node 2 marked that of the marked table, in which paths end at copy 2 and go on from it
 made-observed : removeFromDesign observed (part listA) ≡ made observedGraph
@@ -69,7 +69,7 @@ unfolding flatMap designGraph edgesIn edgesOut runsFrom completeRuns permitted t
 made-observed = refl
 
 pub observed-made : Demand2 (designGraph observed) (pathsOf listA) observedGraph
-observed-made = removed-demand2 observed (part listA) observedGraph made-observed
+observed-made = removed-demand2 observed none (part listA) observedGraph made-observed
 
 -- the times of copy 3, which is node 2 with mark 2, and the record of node 2, after the removal and `times` in slices of six places
 abbrev six : List ℤ
@@ -81,7 +81,7 @@ tested-A = refl
 
 pub deckA-copy : TimesOfPaths deckA graphA 10 six six six six 3 (Shows (designGraph deckA) (pathsOf listA) (record { at = 2; mark = 2 ∷ [] }))
 unfolding flatMap designGraph edgesIn edgesOut runsFrom completeRuns permitted tails mark permittedRuns copies pathEnds joins trueGraph
-deckA-copy = removed-copy-times deckA graphA 10 six six six six tested-A (part listA) made-A 3 (omega arith)
+deckA-copy = removed-copy-times deckA graphA 10 six six six six tested-A none (part listA) made-A 3 (omega arith)
 
 pub deckA-record : RecordOfPaths deckA graphA 10 six six six six 2 (PassesAt deckA (pathsOf listA) 2)
 deckA-record = removed-record deckA graphA 10 six six six six tested-A (part listA) made-A 2

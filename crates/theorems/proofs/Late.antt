@@ -3,23 +3,23 @@
 -- takes it back to the permitted paths of the design.
 use Prim.Native.Nat.{ℕ, _+_, _≤_, _<_}
 use native.Mathlib.Omega.{arith}
-use mathlib.Core.Path.{_≡_, refl, sym, ap, _∙_, subst}
+use mathlib.Core.Path.{_≡_, refl, sym, subst}
 use mathlib.Core.Logic.{inr, ⊎-elim}
 use mathlib.Core.Bool.{Bool, true, false}
 use mathlib.Core.List.{List, [], _∷_, map, List·Memᴰ, List·Memᴰ·head, List·Memᴰ·not-nil}
 use mathlib.Core.Option.{Option, none, some}
 use lib.Dec.{T}
 use lib.IntN.{ℤ, pos, _-ℤ_}
-use lib.ListN.{length, getD}
+use lib.ListN.{length}
 use lib.Signed.{ltZ}
 use Rattle.timing.specs.declared.Verdict.{Verdict}
 use Rattle.timing.specs.declared.Verdict.the-variants.{Passed}
 use Rattle.timing.specs.declared.NodeTimes.{NodeTimes}
 use Rattle.timing.specs.Lists.{upto}
-use Rattle.timing.specs.Graphs.{Design, edgeEarly, edgeLate, Edge, Graph, designGraph, nodeOf, startsAt, endsAt, Run, completeRuns, delayAlong}
+use Rattle.timing.specs.Graphs.{Design, edgeEarly, edgeLate, Edge, Graph, designGraph, nodeOf, endsAt, Run, completeRuns, delayAlong}
 use Rattle.timing.specs.Marks.{pathsOf}
 use Rattle.timing.specs.TrueGraphs.{permittedRuns}
-use Rattle.timing.specs.Times.{arrivalAt, requiredAt, slackAt, earliestAt, lateAt, lateCopies}
+use Rattle.timing.specs.Times.{arrivalAt, slackAt, lateAt, lateCopies}
 use Rattle.timing.specs.WellFormed.{wellFormed}
 use Rattle.timing.specs.Tests.{sameSizes, timeSizes, designSizes, designTests}
 use Rattle.timing.specs.Calls.{GraphSlices, graphOf, slicesOf, Outcome, made, refused, Removal, testTimes, testLate, lowestLate, lateOrNot, slackOf, arrivalsAfter, requiredsAfter, slacksAfter, earliestsAfter, recordsAfter}
@@ -38,7 +38,7 @@ use Rattle.theorems.proofs.Elements.{size-each, at-each}
 use Rattle.theorems.proofs.Legal.{wellFormed-legal}
 use Rattle.theorems.proofs.Tested.{Timed, timing-passed, timing-passes}
 use Rattle.theorems.proofs.Series.{graph-slices, series-held}
-use Rattle.theorems.proofs.Records.{same-sizes, from-design-removed, from-graph-removed, formed-timed, removed-demand2, further-demand2, series-demand2}
+use Rattle.theorems.proofs.Records.{same-sizes, from-design-removed, from-graph-removed, removed-on, formed-timed, removed-demand2, series-demand2}
 
 -- a is below b, in the parts that `omega` reads; and back
 below : (a b : ℤ) → T (ltZ a b) → up a + dn b < up b + dn a
@@ -263,14 +263,10 @@ formed-late D H t a s d n w h q =
 -- refusal, and late means that a permitted complete path of what was worked on takes longer than T.
 pub removed-late : (D : Design) (held : Option GraphSlices) (r : Removal) (H : Graph) (t a : ℕ) → removeOn D held r ≡ made H → t ≤ 1000000000 → a ≡ length (H .nodes)
     → LateIff (lateOrNot D (slicesOf H) t a) (SomeLonger (edgeLate D) (pos t) (permittedRuns (pathsOf (r .list)) (graphOn D held)))
-removed-late D none r H t a e h q =
-    let m = from-design-removed D r H e in
-    late-permitted D (slicesOf H) t a (formed-late D H t a (m .sizes) (m .tests) (m .stands .sizes) (m .formed) h q) (designGraph D) (pathsOf (r .list))
-    (subst (Demand2 (designGraph D) (pathsOf (r .list))) (sym (graph-slices H)) (removed-demand2 D r H e))
-removed-late D (some S) r H t a e h q =
-    let m = from-graph-removed D S r H e in
-    late-permitted D (slicesOf H) t a (formed-late D H t a (m .sizes) (m .tests) (m .stands .sizes) (m .formed) h q) (graphOf S) (pathsOf (r .list))
-    (subst (Demand2 (graphOf S) (pathsOf (r .list))) (sym (graph-slices H)) (further-demand2 D S r H e))
+removed-late D held r H t a e h q =
+    let m = removed-on D held r H e in
+    late-permitted D (slicesOf H) t a (formed-late D H t a (m .sizes) (m .tests) (m .stands .sizes) (m .formed) h q) (graphOn D held) (pathsOf (r .list))
+    (subst (Demand2 (graphOn D held) (pathsOf (r .list))) (sym (graph-slices H)) (removed-demand2 D held r H e))
 
 -- where a graph is held, the design has passed its tests
 abbrev TestedIf : Design → Option Graph → Type 0

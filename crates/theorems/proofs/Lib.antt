@@ -35,6 +35,9 @@ pub mod Late
 pub mod Called
 pub mod Scratch
 pub mod Told
+-- lists that differ: one that is reordered or has repeats, and one that is longer
+pub mod Shuffled
+pub mod Extended
 -- slices that loops fill, and what a test keeps of a list that is split, for the crates above
 pub mod Elements
 pub mod Splits

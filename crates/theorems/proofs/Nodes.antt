@@ -73,6 +73,10 @@ not-taken : {A : Type 0} (b : Bool) (x y : A) → (T b → ⊥) → cond b x y �
 not-taken true x y p = absurd (p tt)
 not-taken false x y p = refl
 
+-- a copy's times
+abbrev pub copyTimesAt : (ℕ → ℤ) → (ℕ → ℤ) → ℤ → Graph → ℕ → NodeTimes
+copyTimesAt early late t G c = Times (arrivalAt late t G c) (requiredAt late t G c) (slackAt late t G c) (earliestAt early G c)
+
 -- a node's times, from the slices that hold a time of each copy
 abbrev pub nodeTimesAt : (ℕ → ℤ) → (ℕ → ℤ) → ℤ → Graph → ℕ → ℕ → NodeTimes
 nodeTimesAt early late t G n v =

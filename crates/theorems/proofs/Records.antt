@@ -2,12 +2,12 @@
 -- them. Each contract equates its call with a definition of `timing/specs/Calls`; here these definitions follow one another.
 -- Whatever a removal makes stands for the graph worked on and the list, and demand 2 and T4 hold of whatever stands.
 use Prim.Native.Nat.{ℕ, _<_, _≤_}
-use mathlib.Core.Path.{_≡_, refl, sym, ap, _∙_, subst}
-use mathlib.Core.Bool.{Bool, true, false, _&&_}
+use mathlib.Core.Path.{_≡_, sym, ap, _∙_, subst}
+use mathlib.Core.Bool.{_&&_}
 use mathlib.Core.List.{List, map, List·Memᴰ}
-use mathlib.Core.Option.{none, some}
+use mathlib.Core.Option.{Option, none, some}
 use native.Mathlib.Omega.{arith}
-use lib.Dec.{T, eqb, leb, eqb-refl, le→leb}
+use lib.Dec.{T, eqb, eqb-refl}
 use lib.IntN.{ℤ, pos}
 use lib.ListN.{length, getD, take, drop, length-map}
 use lib.Seq.{take-append-seam}
@@ -15,6 +15,7 @@ use lib.Signed.{_≤ℤ_}
 use Rattle.timing.specs.declared.Verdict.{Verdict}
 use Rattle.timing.specs.declared.Verdict.the-variants.{Passed}
 use Rattle.timing.specs.declared.NodeTimes.{NodeTimes}
+use Rattle.timing.specs.declared.NodeTimes.the-variants.{Times}
 use Rattle.timing.specs.declared.NodeAnswer.the-variants.{Record}
 use Rattle.timing.specs.Lists.{placed, upto}
 use Rattle.timing.specs.Graphs.{Design, edgeEarly, edgeLate, Edge, Graph, designGraph}
@@ -22,10 +23,10 @@ use Rattle.timing.specs.Marks.{pathsOf}
 use Rattle.timing.specs.TrueGraphs.{Copy, trueGraph}
 use Rattle.timing.specs.Times.{arrivalAt, requiredAt, slackAt, earliestAt, nodeTimes, nodeRecord}
 use Rattle.timing.specs.WellFormed.{wellFormed}
-use Rattle.timing.specs.Refusals.{unless}
-use Rattle.timing.specs.Tests.{sameSizes, timeSizes, nodeCount, allowedTest, designSizes, designTests, listSizes, listTests, graphTest, roomSizes}
+use Rattle.timing.specs.Tests.{sameSizes, timeSizes, nodeCount, designSizes, designTests, listSizes, listTests, graphTest, roomSizes}
 use Rattle.timing.specs.Calls.{GraphSlices, graphSlices, graphOf, slicesOf, graphSizes, made, Removal, removalTests, removeFromDesign, removeFromGraph, nodesAfter, endpointsAfter, startsAfter, endsAfter, namesAfter, testTimes, arrivalsAfter, requiredsAfter, slacksAfter, earliestsAfter, recordOf, recordsAfter}
 use Rattle.timing.specs.Series.{heldAfter, wholeAfter, Renumbered}
+use Rattle.timing.specs.Called.{removeOn, graphOn}
 use Rattle.timing.specs.Paths.{PassesNode, PassesAt, Shows, pairOf}
 use Rattle.timing.specs.Demands.{Demand2, PathBest, TimesOfPaths, recordAfter, RecordOfPaths}
 use Rattle.theorems.proofs.Lists.{holds, and-intro, length-upto, getD-mem}
@@ -38,7 +39,7 @@ use Rattle.theorems.proofs.Kept.{true-formed}
 use Rattle.theorems.proofs.Extremes.{AtMost, order}
 use Rattle.theorems.proofs.Times.{earliest-below}
 use Rattle.theorems.proofs.Demand2.{stands-demand2}
-use Rattle.theorems.proofs.Nodes.{at-copy, nodeTimesAt}
+use Rattle.theorems.proofs.Nodes.{at-copy, copyTimesAt, nodeTimesAt}
 use Rattle.theorems.proofs.Demand2Times.{copy-times, cut-inside, record-below, design-record}
 use Rattle.theorems.proofs.Series.{graph-slices, slices-sizes, removal-few, outcome-made, held-renumbered, held-pair, series-held}
 
@@ -129,16 +130,17 @@ from-graph-removed D S r H e =
     let w = wellFormed D (graphOf S) in
     removed D (graphOf S) r H (t₁ .0) (t₅ .0) (wellFormed-legal D (graphOf S) (t₁ .0) (t₅ .0) (holds w (unless-passed 32 w (t₇ .0)))) (t₇ .1) (o .1)
 
--- Demand 2 of what a call makes: of a removal from the design; of one from any earlier graph, however it was made; and of the
+-- from the design, or from an earlier graph
+pub removed-on : (D : Design) (held : Option GraphSlices) (r : Removal) (H : Graph) → removeOn D held r ≡ made H → Removed D (graphOn D held) (pathsOf (r .list)) H
+removed-on D none r H e = from-design-removed D r H e
+removed-on D (some S) r H e = from-graph-removed D S r H e
+
+-- Demand 2 of what a call makes: of a removal from the design or from any earlier graph, however it was made; and of the
 -- graph held after a series, for the design and the whole list.
-made-demand2 : (D : Design) (G : Graph) (L : List (List ℕ)) (H : Graph) → Removed D G L H → Demand2 G L H
-made-demand2 D G L H m = stands-demand2 D G H L (m .legal .rising) (m .stands) (wellFormed-legal D H (m .sizes) (m .tests) (m .formed))
-
-pub removed-demand2 : (D : Design) (r : Removal) (H : Graph) → removeFromDesign D r ≡ made H → Demand2 (designGraph D) (pathsOf (r .list)) H
-removed-demand2 D r H e = made-demand2 D (designGraph D) (pathsOf (r .list)) H (from-design-removed D r H e)
-
-pub further-demand2 : (D : Design) (S : GraphSlices) (r : Removal) (H : Graph) → removeFromGraph D S r ≡ made H → Demand2 (graphOf S) (pathsOf (r .list)) H
-further-demand2 D S r H e = made-demand2 D (graphOf S) (pathsOf (r .list)) H (from-graph-removed D S r H e)
+pub removed-demand2 : (D : Design) (held : Option GraphSlices) (r : Removal) (H : Graph) → removeOn D held r ≡ made H → Demand2 (graphOn D held) (pathsOf (r .list)) H
+removed-demand2 D held r H e =
+    let m = removed-on D held r H e in
+    stands-demand2 D (graphOn D held) H (pathsOf (r .list)) (m .legal .rising) (m .stands) (wellFormed-legal D H (m .sizes) (m .tests) (m .formed))
 
 pub series-demand2 : (D : Design) (rs : List Removal) (H : Graph) → heldAfter D none rs ≡ some H
     → (L : List (List ℕ)) × (wholeAfter D none rs ≡ some L) × Demand2 (designGraph D) L H
@@ -239,18 +241,28 @@ module _ (D : Design) (H : Graph) (t : ℕ) (ats rts sts ets : List ℤ)
       ∙ ap (λ (w : ℕ). f (nodeTimesAt (edgeEarly D) (edgeLate D) (pos t) H (D .nodes) w)) (omega arith)
 
   -- the times that are left at a copy
+  left : (f : ℕ → ℤ) (h : ℕ) → h < length (H .nodes) → {ts : List ℤ} → ts ≡ map f (upto (length (H .nodes)) 0) → getD ts h (pos 0) ≡ f h
+  left f h k e = ap (λ (l : List ℤ). getD l h (pos 0)) e ∙ at-copy (pos 0) f (length (H .nodes)) 0 h k ∙ ap f (omega arith)
+
+  pub copy-after : (h : ℕ) → h < length (H .nodes)
+      → let v = testTimes D (slicesOf H) t (length ats) (length rts) (length sts) (length ets) in
+      Times (getD (arrivalsAfter D (slicesOf H) t v ats) h (pos 0)) (getD (requiredsAfter D (slicesOf H) t v rts) h (pos 0))
+      (getD (slacksAfter D (slicesOf H) t v sts) h (pos 0)) (getD (earliestsAfter D (slicesOf H) v ets) h (pos 0))
+      ≡ copyTimesAt (edgeEarly D) (edgeLate D) (pos t) H h
+  copy-after h k =
+      λ i.
+      Times (left (arrivalAt (edgeLate D) (pos t) H) h k arrivals-filled i) (left (requiredAt (edgeLate D) (pos t) H) h k requireds-filled i)
+      (left (slackAt (edgeLate D) (pos t) H) h k slacks-filled i) (left (earliestAt (edgeEarly D) H) h k earliests-filled i)
+
   times-left : (h : ℕ) (P : List Edge → List Edge → Type 0) → h < length (H .nodes)
       → PathBest (edgeEarly D) (edgeLate D) (pos t) P (arrivalAt (edgeLate D) (pos t) H h) (requiredAt (edgeLate D) (pos t) H h) (slackAt (edgeLate D) (pos t) H h) (earliestAt (edgeEarly D) H h)
       → TimesOfPaths D H t ats rts sts ets h P
   times-left h P k b =
-      let a = left (arrivalAt (edgeLate D) (pos t) H) arrivals-filled in
-      let r = left (requiredAt (edgeLate D) (pos t) H) requireds-filled in
-      let s = left (slackAt (edgeLate D) (pos t) H) slacks-filled in
-      let e = left (earliestAt (edgeEarly D) H) earliests-filled in
+      let a = left (arrivalAt (edgeLate D) (pos t) H) h k arrivals-filled in
+      let r = left (requiredAt (edgeLate D) (pos t) H) h k requireds-filled in
+      let s = left (slackAt (edgeLate D) (pos t) H) h k slacks-filled in
+      let e = left (earliestAt (edgeEarly D) H) h k earliests-filled in
       rw (a, r, s, e) b
-    where
-      left : (f : ℕ → ℤ) {ts : List ℤ} → ts ≡ map f (upto (length (H .nodes)) 0) → getD ts h (pos 0) ≡ f h
-      left f e = ap (λ (l : List ℤ). getD l h (pos 0)) e ∙ at-copy (pos 0) f (length (H .nodes)) 0 h k ∙ ap f (omega arith)
 
   stands-times : (G : Graph) (L : List (List ℕ)) → Rising G → (S : Stands G L H) (h : ℕ) (k : Copy) → S .label h ≡ k → h < length (H .nodes)
       → TimesOfPaths D H t ats rts sts ets h (Shows G L k)
@@ -258,21 +270,13 @@ module _ (D : Design) (H : Graph) (t : ℕ) (ats rts sts ets : List ℤ)
       subst (λ (x : Copy). TimesOfPaths D H t ats rts sts ets h (Shows G L x)) e
       (times-left h (Shows G L (S .label h)) i (copy-times G H L up S (edgeEarly D) (edgeLate D) (pos t) h i))
 
-  -- After a removal from the design, the times of copy h are those of the design's permitted complete paths that show its
-  -- (node, mark).
-  pub removed-copy-times : (r : Removal) → removeFromDesign D r ≡ made H → (h : ℕ) → h < length (H .nodes)
-      → TimesOfPaths D H t ats rts sts ets h (Shows (designGraph D) (pathsOf (r .list)) (pairOf (designGraph D) (pathsOf (r .list)) h))
-  removed-copy-times r e h =
-      let m = from-design-removed D r H e in
-      stands-times (designGraph D) (pathsOf (r .list)) (m .legal .rising) (m .stands) h _ (m .pairs h)
-
-  -- After a removal from any earlier graph, however it was made: of that graph's permitted complete paths that show its
-  -- (earlier copy, mark).
-  pub further-copy-times : (S : GraphSlices) (r : Removal) → removeFromGraph D S r ≡ made H → (h : ℕ) → h < length (H .nodes)
-      → TimesOfPaths D H t ats rts sts ets h (Shows (graphOf S) (pathsOf (r .list)) (pairOf (graphOf S) (pathsOf (r .list)) h))
-  further-copy-times S r e h =
-      let m = from-graph-removed D S r H e in
-      stands-times (graphOf S) (pathsOf (r .list)) (m .legal .rising) (m .stands) h _ (m .pairs h)
+  -- After a removal from the design, the times of copy h are those of the design's permitted complete paths that show its (node, mark); after one from
+  -- any earlier graph, however it was made, of that graph's permitted complete paths that show its (earlier copy, mark).
+  pub removed-copy-times : (held : Option GraphSlices) (r : Removal) → removeOn D held r ≡ made H → (h : ℕ) → h < length (H .nodes)
+      → TimesOfPaths D H t ats rts sts ets h (Shows (graphOn D held) (pathsOf (r .list)) (pairOf (graphOn D held) (pathsOf (r .list)) h))
+  removed-copy-times held r e h =
+      let m = removed-on D held r H e in
+      stands-times (graphOn D held) (pathsOf (r .list)) (m .legal .rising) (m .stands) h _ (m .pairs h)
 
   -- After a series, the copies can be renumbered to those of the true graph of the design and the whole list, as demand 3 says,
   -- so that the times of a copy are those of the design's complete paths that the whole list permits and that show the (node,

@@ -195,14 +195,23 @@ fills H c same m =
     edges : (f : Edge → ℕ) (room : List ℕ) → drop (length (H .edges)) (placed (map f (H .edges)) room) ≡ drop (length (H .edges)) room
     edges f room = behind-placed (length (H .edges)) (map f (H .edges)) room (length-map (H .edges) f)
 
+-- a call that answered counts filled its room with the true graph of what it worked on and its list
+pub answered-fills : (D : Design) (held : Option GraphSlices) (c : Called) → Meets (removeOn D held (removalOf c)) c → (k e : ℕ) → c .answer ≡ Counts k e
+    → FillsJust (trueGraph (graphOn D held) (pathsOf (removalOf c .list))) k e (c .room) (c .after)
+answered-fills D held c m k e z =
+    let H = trueGraph (graphOn D held) (pathsOf (removalOf c .list)) in
+    let o = on-outcome D held (removalOf c) in
+    let r = counted (verdictOn D held (removalOf c)) H k e (sym (ap graphAnswer o) ∙ sym (m .answer) ∙ z) in
+    let f = fills H c (true-sizes (graphOn D held) (pathsOf (removalOf c .list))) (subst (λ (x : Outcome Graph). Meets x c) (o ∙ r .0) m) in
+    subst (λ (y : ℕ). FillsJust H k y (c .room) (c .after)) (r .2) (subst (λ (x : ℕ). FillsJust H x (length (H .edges)) (c .room) (c .after)) (r .1) f)
+
 pub foretells : (D : Design) (held : Option GraphSlices) (t : Telling) (c : Called)
     → Tells (sizeOn D held (pathList (t .listed) (t .lengths)) (length (t .scratch))) t → Meets (removeOn D held (removalOf c)) c → Foretells D held t c
 foretells D held t c a b listed lengths p q s = (
   b .answer ∙ ap graphAnswer same ∙ foretold-on D L (roomOf (c .room)) m n held (λ e. p (a .answer ∙ e)) (λ e. q (answered ∙ e)) (λ e. s (answered ∙ e)) ∙ ap (foretold (roomOf (c .room)) (length (H .nodes))) (sym (a .answer)),
   λ k e z.
-      let r = counted (verdictOn D held (removal L (roomOf (c .room)) n)) H k e (sym (ap graphAnswer (same ∙ on-outcome D held (removal L (roomOf (c .room)) n))) ∙ sym (b .answer) ∙ z) in
-      let f = fills H c (true-sizes (graphOn D held) (pathsOf L)) (subst (λ (o : Outcome Graph). Meets o c) (same ∙ on-outcome D held (removal L (roomOf (c .room)) n) ∙ r .0) b) in
-      subst (λ (y : ℕ). FillsJust H k y (c .room) (c .after)) (r .2) (subst (λ (x : ℕ). FillsJust H x (length (H .edges)) (c .room) (c .after)) (r .1) f),
+      subst (λ (x : PathList). FillsJust (trueGraph (graphOn D held) (pathsOf x)) k e (c .room) (c .after)) (λ i. pathList (listed i) (lengths i))
+      (answered-fills D held c b k e z),
 )
   where
     L : PathList

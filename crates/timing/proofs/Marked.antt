@@ -595,6 +595,40 @@ marked =
     ∷ lateIs forked outOfOrder 1000000001 6 (NotTimed (refusal 25 0))
     (pos 77 ∷ pos 77 ∷ pos 77 ∷ pos 77 ∷ pos 77 ∷ pos 77 ∷ [])
     ∷ lateIs forked outOfOrder 0 6 (NotTimed (refusal 32 0)) (pos 77 ∷ pos 77 ∷ pos 77 ∷ pos 77 ∷ pos 77 ∷ pos 77 ∷ [])
+    -- M6's paths in the other order, and one of them three times: the graph of M6; M8's paths in the other order, one of them twice: the graph of M8
+    ∷ graphIs deckA (pathList (0 ∷ 3 ∷ 1 ∷ 2 ∷ []) (2 ∷ 2 ∷ []) ∷ [])
+    (graph (0 ∷ 1 ∷ 2 ∷ 2 ∷ 3 ∷ 4 ∷ []) (0 ∷ 0 ∷ 0 ∷ 0 ∷ 1 ∷ 1 ∷ []) (edge 0 2 0 ∷ edge 1 3 1 ∷ edge 2 4 2 ∷
+    edge 3 5 3 ∷ []))
+    ∷ graphIs deckA (pathList (1 ∷ 2 ∷ 0 ∷ 3 ∷ 1 ∷ 2 ∷ 1 ∷ 2 ∷ []) (2 ∷ 2 ∷ 2 ∷ 2 ∷ []) ∷ [])
+    (graph (0 ∷ 1 ∷ 2 ∷ 2 ∷ 3 ∷ 4 ∷ []) (0 ∷ 0 ∷ 0 ∷ 0 ∷ 1 ∷ 1 ∷ []) (edge 0 2 0 ∷ edge 1 3 1 ∷ edge 2 4 2 ∷
+    edge 3 5 3 ∷ []))
+    ∷ graphIs designM8 (pathList (1 ∷ 2 ∷ 3 ∷ 4 ∷ 0 ∷ 2 ∷ 3 ∷ 0 ∷ 2 ∷ 3 ∷ []) (4 ∷ 3 ∷ 3 ∷ []) ∷ [])
+    (graph (0 ∷ 1 ∷ 2 ∷ 3 ∷ 5 ∷ []) (0 ∷ 0 ∷ 0 ∷ 0 ∷ 1 ∷ []) (edge 0 2 0 ∷ edge 1 2 1 ∷ edge 2 3 2 ∷ edge 3 4 5 ∷ []))
+    -- From an earlier graph: 0,3 and 2 in either order, with a repeat
+    ∷ graphIs deckA (listA ∷ pathList (0 ∷ 3 ∷ 2 ∷ []) (2 ∷ 1 ∷ []) ∷ [])
+    (graph (1 ∷ 2 ∷ 4 ∷ []) (0 ∷ 0 ∷ 1 ∷ []) (edge 0 1 1 ∷ edge 1 2 3 ∷ []))
+    ∷ graphIs deckA (listA ∷ pathList (2 ∷ 0 ∷ 3 ∷ 2 ∷ []) (1 ∷ 2 ∷ 1 ∷ []) ∷ [])
+    (graph (1 ∷ 2 ∷ 4 ∷ []) (0 ∷ 0 ∷ 1 ∷ []) (edge 0 1 1 ∷ edge 1 2 3 ∷ []))
+    -- Repeats count for 31: M6 with just the words that it asks, and with 1,2 twice it asks 24 more
+    ∷ removalIs deckA (removal (pathList (1 ∷ 2 ∷ 0 ∷ 3 ∷ []) (2 ∷ 2 ∷ [])) ample 120)
+    (made (graph (0 ∷ 1 ∷ 2 ∷ 2 ∷ 3 ∷ 4 ∷ []) (0 ∷ 0 ∷ 0 ∷ 0 ∷ 1 ∷ 1 ∷ []) (edge 0 2 0 ∷ edge 1 3 1 ∷ edge 2 4 2 ∷
+    edge 3 5 3 ∷ [])))
+    ∷ removalIs deckA (removal (pathList (1 ∷ 2 ∷ 0 ∷ 3 ∷ 1 ∷ 2 ∷ []) (2 ∷ 2 ∷ 2 ∷ [])) ample 120)
+    (refused (refusal 31 0))
+    ∷ removalIs deckA (removal (pathList (1 ∷ 2 ∷ 0 ∷ 3 ∷ 1 ∷ 2 ∷ []) (2 ∷ 2 ∷ 2 ∷ [])) ample 144)
+    (made (graph (0 ∷ 1 ∷ 2 ∷ 2 ∷ 3 ∷ 4 ∷ []) (0 ∷ 0 ∷ 0 ∷ 0 ∷ 1 ∷ 1 ∷ []) (edge 0 2 0 ∷ edge 1 3 1 ∷ edge 2 4 2 ∷
+    edge 3 5 3 ∷ [])))
+    -- Lists longer than deck A's, against M1: an earliest arrival rises; a required time and a slack rise, and node 3 has none; arrivals fall, and node 1 has none
+    ∷ nodesAre deckA 10 (pathList (1 ∷ 2 ∷ 0 ∷ 3 ∷ []) (2 ∷ 2 ∷ []) ∷ [])
+    (Times (pos 0) (pos 5) (pos 5) (pos 0) ∷ Times (pos 0) (pos 4) (pos 4) (pos 0) ∷
+    Times (pos 5) (pos 8) (pos 4) (pos 3) ∷ Times (pos 5) (pos 10) (pos 5) (pos 5) ∷
+    Times (pos 6) (pos 10) (pos 4) (pos 6) ∷ None ∷ [])
+    ∷ nodesAre deckA 10 (pathList (1 ∷ 2 ∷ 2 ∷ []) (2 ∷ 1 ∷ []) ∷ [])
+    (Times (pos 0) (pos 6) (pos 6) (pos 0) ∷ Times (pos 0) (pos 4) (pos 4) (pos 0) ∷
+    Times (pos 5) (pos 9) (pos 4) (pos 3) ∷ None ∷ Times (pos 6) (pos 10) (pos 4) (pos 4) ∷ None ∷ [])
+    ∷ nodesAre deckA 10 (pathList (1 ∷ 2 ∷ 1 ∷ []) (2 ∷ 1 ∷ []) ∷ [])
+    (Times (pos 0) (pos 5) (pos 5) (pos 0) ∷ None ∷ Times (pos 3) (pos 8) (pos 5) (pos 3) ∷
+    Times (pos 5) (pos 10) (pos 5) (pos 5) ∷ Times (pos 4) (pos 10) (pos 6) (pos 4) ∷ None ∷ [])
     ∷ []
 
 pub marked-hold : All marked
@@ -605,6 +639,7 @@ unfolding flatMap designGraph edgesIn edgesOut runsTo runsFrom completeRuns perm
     program cCall cRoom deckRead testTimes testLate lateCopies lateOrNot arrivalsAfterLate testRecords deckNumbers
     packedDeck deckWriteTests readGraph graphRead graphWriteTests sizeFromDesign sizeFromGraph
 marked-hold =
+    refl also refl also refl also refl also refl also refl also refl also refl also refl also refl also refl also
     refl also refl also refl also refl also refl also refl also refl also refl also refl also refl also refl also
     refl also refl also refl also refl also refl also refl also refl also refl also refl also refl also refl also
     refl also refl also refl also refl also refl also refl also refl also refl also refl also refl also refl also

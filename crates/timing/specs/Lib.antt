@@ -23,8 +23,10 @@ pub mod Calls
 pub mod Series
 pub mod Called
 pub mod Told
--- what the theorems say of these: demand 2, whose times the times are, when a path is late, and where a listed path is at fault
+-- what the theorems say of these: demand 2, whose times the times are, when a path is late, where a listed path is at fault, and what a longer list
+-- and a shuffled one give
 pub mod Paths
 pub mod Demands
 pub mod Late
 pub mod Faults
+pub mod Extended
