@@ -5,7 +5,8 @@
 
 FOLDER has decks with what the deck program must print (NAME.deck, NAME.out), calls of the C function from deck to packed graph
 (ccall.tsv) and calls over slices (slices.jsonl); the README.md there says how they are written. All of it is asked of the walker.
-- With --program (target/bin/deck_program) the decks are asked of that deck program.
+- With --program (target/bin/deck_program) the decks are asked of that deck program; and where it is not refused and lists several paths, a
+  deck again with its list in the other order, of which it must print the same lines (document 02, request 12).
 - With --library (target/staticlib/libjaqhweni.a) the calls are asked of that library, by way of tests/c_runner.c: ccall.tsv and, of
   slices.jsonl, removals, the steps of series, sizes, times, late or not and written graphs, with all that was lent.
 - With --cases (target/bin/bytes_cases) the readers and writers are asked of that program; but for the graph's writer they have no C call
@@ -28,7 +29,7 @@ import expected
 import removal_cases
 import walker
 from against_walker import deck_call, late_call, removal_call, size_call, times_call, write_call
-from decks import room_of
+from decks import pack, path_list_of, room_of
 from walker import Deck, Design, Graph, PathList, Room, Tables
 
 TIMES = ("arrival", "required", "slack", "earliest")
@@ -90,6 +91,12 @@ def deck_in(vector):
 def deck_out(deck):
     names = ("n", "starts", "ends", "early", "late", "marked")
     return dict(zip(names, deck.design), lengths=deck.path_list.lengths, listed=deck.path_list.flat, T=deck.allowed_time)
+
+
+def with_list_backwards(data):
+    """The deck with its listed paths in the other order."""
+    deck = walker.read_deck(data, walker.PROGRAM_TABLES)
+    return pack(walker.deck_numbers(deck._replace(path_list=path_list_of(walker.listed_paths(deck.path_list)[::-1]))))
 
 
 # ---- The walker's outcomes, in the words of the vectors ------------------------------------------
@@ -261,6 +268,9 @@ def main():
         if options.program:
             run = subprocess.run([options.program.resolve()], input=data, capture_output=True)
             compared.same("deck program", path.stem, lambda: (run.returncode, run.stdout), (0, wanted))
+            if not wanted.startswith(b"refused") and with_list_backwards(data) != data:
+                run = subprocess.run([options.program.resolve()], input=with_list_backwards(data), capture_output=True)
+                compared.same("deck program, list backwards", path.stem, lambda: (run.returncode, run.stdout), (0, wanted))
     for name, data, room, number, written in c_calls(options.folder):
         compared.same("walker, C call", name, lambda: walker.c_call(data, room), (number, written))
         if command:

@@ -73,6 +73,7 @@ module _ (t : TimesCall) (H : Graph) (lent : timedGraph t ≡ slicesOf H) (passe
   times-left : (h : ℕ) (P : List Edge → List Edge → Type 0) → TimesOfPaths D H T ats rts sts ets h P → TimesLeft t h P
   times-left h P x = best-same h P arrivals-are requireds-are slacks-are earliests-are x
 
+  -- the four times that it left at a copy are those of H
   pub copy-left : (h : ℕ) → h < length (H .nodes) → copyLeft t h ≡ copyTimesAt (edgeEarly D) (edgeLate D) (pos T) H h
   copy-left h k =
       (λ i. Times (getD (arrivals-are i) h (pos 0)) (getD (requireds-are i) h (pos 0)) (getD (slacks-are i) h (pos 0)) (getD (earliests-are i) h (pos 0)))

@@ -42,7 +42,7 @@ module _ (K L : List (List ℕ)) (more : ExtendedTo K L) where
   tail-more t (inl e) = inl e
   tail-more t (inr m) = let r = of-flatMap tailsOf K m in inr (mem-flatMap tailsOf (more (r .0) (r .1)) (r .2))
 
-  -- so its permitted complete paths are some of the shorter one's
+  -- the permitted complete paths of the longer list are some of the shorter one's
   pub runs-fewer : (G : Graph) (r : Run) → List·Memᴰ r (permittedRuns L G) → List·Memᴰ r (permittedRuns K G)
   unfolding permittedRuns
   runs-fewer G r m =

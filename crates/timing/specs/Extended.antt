@@ -45,7 +45,7 @@ NoWorse x None = Unit {0}
 NoWorse None (Times a′ r′ s′ e′) = ⊥
 NoWorse (Times a r s e) (Times a′ r′ s′ e′) = TimesNoWorse a r s e a′ r′ s′ e′
 
--- a node's times as the five slices of `node_records` tell them: in the first 1 where it has times, and else 0, as it has in the others then
+-- a node's times as the five slices of `node_records` tell them: the first has 1 where it has times; where it has none, all five have 0
 abbrev pub timesIn : List ℕ → List ℤ → List ℤ → List ℤ → List ℤ → ℕ → NodeTimes
 timesIn known arrivals requireds slacks earliests v =
     cond (eqb (getD known v 0) 1)
