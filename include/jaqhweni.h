@@ -235,7 +235,7 @@ int64_t jaqhweni_size_from_graph(
  *
  * If paths are added to a list, and the shorter and the longer list are removed from the same design or from the same earlier graph, then
  * with the same allowed time no node's slack or required time falls, no node's arrival rises and no node's earliest arrival falls, none
- * being better than any number. Copies of the two graphs have no numbers in common.
+ * being better than any number. A copy's number in the one graph says nothing of the copy with this number in the other.
  *
  * Returns 0. */
 int64_t jaqhweni_times(
