@@ -6,10 +6,10 @@ use mathlib.Core.Path.{_≡_, refl, sym, _∙_}
 use mathlib.Core.Bool.{Bool, true, false, _&&_, _||_}
 use mathlib.Core.List.{List}
 use lib.Dec.{eqb, ltb}
-use lib.ListN.{length, getD, set, length-set, replicate, length-replicate, getD-replicate}
+use lib.ListN.{length, getD, set, length-set, replicate, length-replicate, getD-replicate, List·getD-eq-default}
 use lib.Seq.{getD-set-same, getD-set-other, set-out}
 use borrow.Author.Tests.{ltb-true, lt-ltb, le-ltb, eq-eqb, ne-eqb}
-use Rattle.graph.specs.Passes.{stands, flag, FlagsSet, copyPasses, lowestAfter, walked}
+use Rattle.graph.specs.Passes.{stands, flag, Clear, FlagsSet, copyPasses, lowestAfter, walked}
 use Rattle.graph.proofs.Walk.{any-more, walk-same}
 
 or-false : (a b : Bool) → (a || (b && false)) ≡ a
@@ -53,34 +53,41 @@ flags-next f g l k m = record { size = length-set g x true ∙ m .size; set = at
     at v = elim (ℕ-discrete v x) [ yes e ↦ here v e | no d ↦ there v d ]
 
 -- flags that were all clear
-pub flags-clear : (n : ℕ) (l : List ℕ) (k : ℕ) (g : List Bool) → FlagsSet (replicate n false) l k g → (v : ℕ) → v < n → flag g v ≡ stands l k v
-flags-clear n l k g m v h =
-    m .set v ∙ rw (getD-replicate n v false false h, length-replicate n false, lt-ltb v n h)
+pub clear-array : (n size : ℕ) → n ≤ size → Clear n (replicate size false)
+clear-array n size h = record { room = omega (arith, length-replicate size false); none = none }
+  where
+    none : (v : ℕ) → flag (replicate size false) v ≡ false
+    none v =
+        elim (decLt v size) [
+          | yes k ↦ getD-replicate size v false false k
+          | no k ↦ List·getD-eq-default (replicate size false) false (omega (arith, length-replicate size false))
+        ]
+
+pub flags-clear : (n : ℕ) (f : List Bool) (l : List ℕ) (k : ℕ) (g : List Bool) → Clear n f → FlagsSet f l k g → (v : ℕ) → v < n → flag g v ≡ stands l k v
+flags-clear n f l k g z m v h = m .set v ∙ rw (z .none v, lt-ltb v (length f) (omega (arith, z .room)))
 
 -- The test of the copies looks only at flags that are there: of nodes below n, and of copies.
-module _ (n size : ℕ) (nodes endpoint : List ℕ) (nodeIn nodeOut marked copyIn copyOut nodeIn′ nodeOut′ marked′ copyIn′ copyOut′ : ℕ → Bool) where
+module _ (n : ℕ) (nodes endpoint : List ℕ) (nodeIn nodeOut marked copyIn copyOut nodeIn′ nodeOut′ marked′ copyIn′ copyOut′ : ℕ → Bool) where
   abbrev passes : ℕ → ℕ → Bool
   passes = copyPasses n nodes endpoint nodeIn nodeOut marked copyIn copyOut
 
   abbrev passes′ : ℕ → ℕ → Bool
   passes′ = copyPasses n nodes endpoint nodeIn′ nodeOut′ marked′ copyIn′ copyOut′
 
-  one-agrees : n ≤ size
-      → ((v : ℕ) → v < size → nodeIn v ≡ nodeIn′ v) → ((v : ℕ) → v < size → nodeOut v ≡ nodeOut′ v) → ((v : ℕ) → v < size → marked v ≡ marked′ v)
+  one-agrees : ((v : ℕ) → v < n → nodeIn v ≡ nodeIn′ v) → ((v : ℕ) → v < n → nodeOut v ≡ nodeOut′ v) → ((v : ℕ) → v < n → marked v ≡ marked′ v)
       → (x c : ℕ) → copyIn c ≡ copyIn′ c → copyOut c ≡ copyOut′ c → passes x c ≡ passes′ x c
-  one-agrees few i o k x c p q = go (ltb (getD nodes c 0) n) refl
+  one-agrees i o k x c p q = go (ltb (getD nodes c 0) n) refl
     where
       go : (b : Bool) → ltb (getD nodes c 0) n ≡ b → passes x c ≡ passes′ x c
       go false e = rw e
       go true e =
-          let h : getD nodes c 0 < size = omega (arith, ltb-true (getD nodes c 0) n e) in
+          let h : getD nodes c 0 < n = ltb-true (getD nodes c 0) n e in
           rw (i (getD nodes c 0) h, o (getD nodes c 0) h, k (getD nodes c 0) h, p, q)
 
-  pub copies-agree : (most : ℕ) → n ≤ size → length nodes ≤ most
-      → ((v : ℕ) → v < size → nodeIn v ≡ nodeIn′ v) → ((v : ℕ) → v < size → nodeOut v ≡ nodeOut′ v) → ((v : ℕ) → v < size → marked v ≡ marked′ v)
-      → ((c : ℕ) → c < most → copyIn c ≡ copyIn′ c) → ((c : ℕ) → c < most → copyOut c ≡ copyOut′ c)
+  pub copies-agree : ((v : ℕ) → v < n → nodeIn v ≡ nodeIn′ v) → ((v : ℕ) → v < n → nodeOut v ≡ nodeOut′ v) → ((v : ℕ) → v < n → marked v ≡ marked′ v)
+      → ((c : ℕ) → c < length nodes → copyIn c ≡ copyIn′ c) → ((c : ℕ) → c < length nodes → copyOut c ≡ copyOut′ c)
       → walked (copyPasses n nodes endpoint nodeIn nodeOut marked copyIn copyOut) (lowestAfter nodes endpoint) (length nodes) 0 0
       ≡ walked (copyPasses n nodes endpoint nodeIn′ nodeOut′ marked′ copyIn′ copyOut′) (lowestAfter nodes endpoint) (length nodes) 0 0
-  copies-agree most few short i o k p q =
+  copies-agree i o k p q =
       walk-same passes passes′ (lowestAfter nodes endpoint) (length nodes)
-      (λ x c h. one-agrees few i o k x c (p c (omega arith)) (q c (omega arith)))
+      (λ x c h. one-agrees i o k x c (p c h) (q c h))

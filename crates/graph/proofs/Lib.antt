@@ -2,5 +2,6 @@
 pub mod Walk
 pub mod Flags
 pub mod Edges
+pub mod Keys
 pub mod Ends
 pub mod WellFormed

@@ -1,8 +1,9 @@
 -- The test 32 is what the passes compute: the counts, a test of each edge, of each endpoint number and of each copy.
-use Prim.Native.Nat.{ℕ, _+_, _≤_, _<_, min}
+use Prim.Native.Nat.{ℕ, zero, suc, _+_, _≤_, _<_, min}
 use native.Mathlib.Omega.{arith}
+use native.Mathlib.Numerals.{add-one}
 use native.Mathlib.Decide.{ℕ-discrete, decLt}
-use mathlib.Core.Path.{_≡_, refl, sym, subst}
+use mathlib.Core.Path.{_≡_, refl, sym, _∙_, subst}
 use mathlib.Core.Logic.{⊎-elim}
 use mathlib.Core.Bool.{Bool, true, false, not, _&&_, _||_}
 use mathlib.Core.List.{List, []}
@@ -13,10 +14,10 @@ use Rattle.timing.specs.Lists.{allOf, countOf, eachNext, upto}
 use Rattle.timing.specs.Graphs.{Design, design, Edge, edge, Graph, edgesOf, endsAt}
 use Rattle.timing.specs.WellFormed.{fewEnough, nodesFit, edgeFits, edgeRises, zeroOrOne, oneEndpoint, copyFits, wellFormed}
 use Rattle.timing.specs.Calls.{graphSlices, graphOf}
-use Rattle.theorems.proofs.Lists.{and-intro, and-left, and-right, or-cases, or-left, or-right, same-test, allOf-elim, allOf-intro, getD-mem}
+use Rattle.theorems.proofs.Lists.{and-intro, and-left, and-right, or-cases, or-left, or-right, same-test, allOf-elim, allOf-intro, getD-mem, length-edges}
 use Rattle.theorems.proofs.Counting.{rises-next}
 use Rattle.theorems.proofs.Kept.{rises-at}
-use Rattle.graph.specs.Passes.{stands, edgeAt, edgePasses, joined, endFits, copyPasses, lowestAfter, walked}
+use Rattle.graph.specs.Passes.{formed, edgeCount, Counted, stands, edgeAt, risesAt, edgePasses, joined, endFits, copyPasses, lowestAfter, walked}
 use Rattle.graph.proofs.Walk.{all-at, at-all}
 use Rattle.graph.proofs.Edges.{place-of, next-at, at-next, edge-at, mem-edge, of-edge, in-graph, out-graph, source-is, sink-is, marked-is}
 use Rattle.graph.proofs.Ends.{one-passes, two-pass, Passes, of-walk, to-walk}
@@ -25,7 +26,7 @@ use Rattle.graph.proofs.Ends.{one-passes, two-pass, Passes, of-walk, to
 abbrev pub edgesPass : List ℕ → List ℕ → List ℕ → List ℕ → List ℕ → List ℕ → Bool
 edgesPass starts ends nodes from to via =
     let m = length (edgesOf from to via) in
-    allOf (edgePasses starts ends nodes from to via m) (upto m 0)
+    allOf (edgePasses starts ends nodes from to via) (upto m 0)
 
 abbrev pub copiesPass : ℕ → List ℕ → List ℕ → List ℕ → List ℕ → List ℕ → List ℕ → List ℕ → List ℕ → Bool
 copiesPass n starts ends marked nodes endpoint from to via =
@@ -38,6 +39,14 @@ copiesPass n starts ends marked nodes endpoint from to via =
 not-not : (b : Bool) → not (not b) ≡ b
 not-not true = refl
 not-not false = refl
+
+and-true : (a : Bool) → (a && true) ≡ a
+and-true true = refl
+and-true false = refl
+
+and-false : (a : Bool) → (a && false) ≡ false
+and-false true = refl
+and-false false = refl
 
 -- The clauses for a copy, by whether paths end at it, end; whether its node has an edge out, o, and is marked, k; whether the copy has an edge in
 -- or its node has none, j; and whether the copy has an edge out, l.
@@ -135,16 +144,17 @@ module _ (n : ℕ) (starts ends marked nodes endpoint from to via : List ℕ) wh
       (clauses (end c) (nodeOut (node c)) (isMarked (node c)) (entered c) (copyOut c))
 
   -- where 32 passes, each edge and each copy does
-  edge-passes : T (allOf (edgeFits D G) (G .edges)) → T (eachNext edgeRises (G .edges)) → (k : ℕ) → k < m → T (edgePasses starts ends nodes from to via m k)
+  edge-passes : T (allOf (edgeFits D G) (G .edges)) → T (eachNext edgeRises (G .edges)) → (k : ℕ) → k < m → T (edgePasses starts ends nodes from to via k)
   edge-passes fits rise k h =
-      and-intro (edgeFits D G (edgeAt from to via k)) (leb m (k + 1) || edgeRises (edgeAt from to via k) (edgeAt from to via (k + 1)))
+      and-intro (edgeFits D G (edgeAt from to via k)) (risesAt from to via k)
       (allOf-elim (edgeFits D G) (G .edges) fits (mem-edge from to via k h))
-      (elim (decLt (k + 1) m) [
-        | yes l ↦
-            or-right (leb m (k + 1)) (edgeRises (edgeAt from to via k) (edgeAt from to via (k + 1)))
-            (rw (edge-at from to via k h, edge-at from to via (k + 1) l) at (next-at (edge 0 0 0) edgeRises (G .edges) rise k l))
-        | no l ↦ or-left (leb m (k + 1)) (edgeRises (edgeAt from to via k) (edgeAt from to via (k + 1))) (le→leb m (k + 1) (omega arith))
-      ])
+      (rises k h)
+    where
+      rises : (k : ℕ) → k < m → T (risesAt from to via k)
+      rises zero h = tt
+      rises (suc k) h =
+          rw (edge-at from to via k (omega arith), add-one k, edge-at from to via (suc k) h) at
+          (next-at (edge 0 0 0) edgeRises (G .edges) rise k (omega arith))
 
   -- the clause of a node in which paths end at more than one copy, by copies
   abbrev endOf : ℕ → ℕ → Bool
@@ -189,24 +199,18 @@ module _ (n : ℕ) (starts ends marked nodes endpoint from to via : List ℕ) wh
           ]
 
   -- and where they do, 32 passes
-  edges-of : ((k : ℕ) → k < m → T (edgePasses starts ends nodes from to via m k)) → T (allOf (edgeFits D G) (G .edges)) × T (eachNext edgeRises (G .edges))
+  edges-of : ((k : ℕ) → k < m → T (edgePasses starts ends nodes from to via k)) → T (allOf (edgeFits D G) (G .edges)) × T (eachNext edgeRises (G .edges))
   edges-of f = (
     allOf-intro (edgeFits D G) (G .edges)
         (λ e i.
         let r = of-edge from to via i in
-        subst (λ (x : Edge). T (edgeFits D G x)) (r .2) (and-left (edgeFits D G (edgeAt from to via (r .0))) (rises (r .0)) (f (r .0) (r .1)))),
+        subst (λ (x : Edge). T (edgeFits D G x)) (r .2) (and-left (edgeFits D G (edgeAt from to via (r .0))) (risesAt from to via (r .0)) (f (r .0) (r .1)))),
     at-next (edge 0 0 0) edgeRises (G .edges)
         (λ k h.
-        let here : k < m = omega arith in
-        rw (edge-at from to via k here, edge-at from to via (k + 1) h)
-        (⊎-elim
-        (λ l. absurd (omega (arith, leb→le m (k + 1) l)))
-        (λ t. t)
-        (or-cases (leb m (k + 1)) (edgeRises (edgeAt from to via k) (edgeAt from to via (k + 1))) (and-right (edgeFits D G (edgeAt from to via k)) (rises k) (f k here))))),
+        let there : suc k < m = omega arith in
+        rw (edge-at from to via k (omega arith), add-one k, edge-at from to via (suc k) there)
+        (and-right (edgeFits D G (edgeAt from to via (suc k))) (risesAt from to via (suc k)) (f (suc k) there))),
   )
-    where
-      rises : ℕ → Bool
-      rises k = leb m (k + 1) || edgeRises (edgeAt from to via k) (edgeAt from to via (k + 1))
 
   module _ (w : Passes base end node (length nodes) 0 0) where
     part : (c : ℕ) → c < length nodes → T (base c)
@@ -256,11 +260,11 @@ module _ (n : ℕ) (starts ends marked nodes endpoint from to via : List ℕ) wh
       (λ t.
       let r = and-seven a b c d z o f t in
       and-intro (E && z) C
-      (and-intro E z (at-all (edgePasses starts ends nodes from to via m) m (edge-passes (r .2) (r .3))) (r .4))
+      (and-intro E z (at-all (edgePasses starts ends nodes from to via) m (edge-passes (r .2) (r .3))) (r .4))
       (to-walk base end node (length nodes) 0 0 (copies-pass (r .1) (r .5) (r .6))))
       (λ t.
       let e = and-left (E && z) C t in
-      let es = edges-of (all-at (edgePasses starts ends nodes from to via m) m (and-left E z e)) in
+      let es = edges-of (all-at (edgePasses starts ends nodes from to via) m (and-left E z e)) in
       let w = of-walk base end node (length nodes) 0 0 (and-right (E && z) C t) in
       seven-and a b c d z o f
       (and-intro (leb (length nodes) 16384) (leb m 65536) (le→leb (length nodes) 16384 few) (le→leb m 65536 few′))
@@ -303,11 +307,17 @@ module _ (n : ℕ) (starts ends marked nodes endpoint from to via : List ℕ) wh
   unfolding wellFormed
   too-many-edges h k = rw (le-leb (length nodes) 16384 h, lt-leb (length (edgesOf from to via)) 65536 k)
 
-  -- as the code has it, where m and d are the lengths of the shortest lists
-  pub formed-by : (m d : ℕ) → m ≡ length (edgesOf from to via) → d ≡ min (length starts) (length ends) → length nodes ≤ 16384 → m ≤ 65536
-      → (allOf (edgePasses starts ends nodes from to via m) (upto m 0) && zeroOrOne endpoint
-      && walked
-      (copyPasses n nodes endpoint (stands ends d) (stands starts d) (stands marked (length marked)) (stands to m) (stands from m))
+  -- a graph with an endpoint number that is not 0 or 1
+  pub wrong-endpoint : length nodes ≤ 16384 → length (edgesOf from to via) ≤ 65536 → zeroOrOne endpoint ≡ false → formed n starts ends marked nodes endpoint from to via ≡ false
+  wrong-endpoint few few′ w = formed-is few few′ ∙ rw (w, and-false (edgesPass starts ends nodes from to via))
+
+  -- as the code has it after these tests, where e is the answer for the edges
+  pub formed-by : Counted nodes endpoint from to via → (e : Bool) → e ≡ allOf (edgePasses starts ends nodes from to via) (upto (edgeCount from to via) 0)
+      → (e && walked
+      (copyPasses n nodes endpoint nodeIn nodeOut isMarked (stands to (edgeCount from to via)) (stands from (edgeCount from to via)))
       (lowestAfter nodes endpoint) (length nodes) 0 0)
-      ≡ wellFormed (design n starts ends [] [] marked) (graphOf (graphSlices nodes endpoint from to via))
-  formed-by m d p q few few′ = rw (p, q) (sym (formed-is few (omega arith)))
+      ≡ formed n starts ends marked nodes endpoint from to via
+  formed-by t e q =
+      let p = length-edges from to via in
+      let is = formed-is (t .copies) (omega (arith, t .edges, p)) in
+      rw (q, ← p) (sym (is ∙ rw (t .endpoints, and-true (edgesPass starts ends nodes from to via))))

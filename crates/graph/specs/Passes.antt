@@ -1,5 +1,5 @@
 -- The test 32 as it is computed: one test for each edge, and one for each copy.
-use Prim.Native.Nat.{ℕ, zero, suc, _+_}
+use Prim.Native.Nat.{ℕ, zero, suc, _+_, _*_, _≤_, min}
 use mathlib.Core.Path.{_≡_}
 use mathlib.Core.Bool.{Bool, true, false, not, cond, _&&_, _||_}
 use mathlib.Core.List.{List, []}
@@ -7,7 +7,23 @@ use lib.Dec.{eqb, ltb, leb}
 use lib.ListN.{length, getD}
 use Rattle.timing.specs.Lists.{anyOf, upto}
 use Rattle.timing.specs.Graphs.{Edge, edge, design, graph}
-use Rattle.timing.specs.WellFormed.{edgeFits, edgeRises}
+use Rattle.timing.specs.WellFormed.{edgeFits, edgeRises, zeroOrOne, wellFormed}
+use Rattle.timing.specs.Calls.{graphSlices, graphOf}
+
+-- the answer, of a design and a graph as they are lent
+abbrev pub formed : ℕ → List ℕ → List ℕ → List ℕ → List ℕ → List ℕ → List ℕ → List ℕ → List ℕ → Bool
+formed n starts ends marked nodes endpoint from to via =
+    wellFormed (design n starts ends [] [] marked) (graphOf (graphSlices nodes endpoint from to via))
+
+-- how many edges three lists give
+abbrev pub edgeCount : List ℕ → List ℕ → List ℕ → ℕ
+edgeCount from to via = min (length from) (min (length to) (length via))
+
+-- the tests of a graph that look at no design: it has few enough copies and edges, and its endpoint numbers are 0 or 1
+pub record Counted (nodes endpoint from to via : List ℕ) : Type 0 where
+  pub copies : length nodes ≤ 16384
+  pub edges : edgeCount from to via ≤ 65536
+  pub endpoints : zeroOrOne endpoint ≡ true
 
 -- v is among the first n numbers of a list
 abbrev pub stands : List ℕ → ℕ → ℕ → Bool
@@ -16,6 +32,11 @@ stands l n v = anyOf (λ k. eqb (getD l k 0) v) (upto n 0)
 -- a flag for each number
 abbrev pub flag : List Bool → ℕ → Bool
 flag flags v = getD flags v false
+
+-- flags for the first n numbers at least, none of which is set
+pub record Clear (n : ℕ) (flags : List Bool) : Type 0 where
+  pub room : n ≤ length flags
+  pub none : (v : ℕ) → flag flags v ≡ false
 
 -- the flags after those of the first n numbers of a list were set
 pub record FlagsSet (before : List Bool) (l : List ℕ) (n : ℕ) (after : List Bool) : Type 0 where
@@ -26,11 +47,18 @@ pub record FlagsSet (before : List Bool) (l : List ℕ) (n : ℕ) (after : List 
 abbrev pub edgeAt : List ℕ → List ℕ → List ℕ → ℕ → Edge
 edgeAt starts ends names k = edge (getD starts k 0) (getD ends k 0) (getD names k 0)
 
--- edge k of m fits and rises to the next, if there is one
-abbrev pub edgePasses : List ℕ → List ℕ → List ℕ → List ℕ → List ℕ → List ℕ → ℕ → ℕ → Bool
-edgePasses starts ends nodes from to via m k =
-    edgeFits (design 0 starts ends [] [] []) (graph nodes [] []) (edgeAt from to via k)
-    && (leb m (k + 1) || edgeRises (edgeAt from to via k) (edgeAt from to via (k + 1)))
+-- One number for an end copy and a design edge: edges rise as it does, where the numbers of design edges are below 2^32.
+abbrev pub keyOf : ℕ → ℕ → ℕ
+keyOf t k = t * 4294967296 + k
+
+-- edge k is above the one before it, if there is one
+abbrev pub risesAt : List ℕ → List ℕ → List ℕ → ℕ → Bool
+risesAt from to via zero = true
+risesAt from to via (suc k) = edgeRises (edgeAt from to via k) (edgeAt from to via (suc k))
+
+abbrev pub edgePasses : List ℕ → List ℕ → List ℕ → List ℕ → List ℕ → List ℕ → ℕ → Bool
+edgePasses starts ends nodes from to via k =
+    edgeFits (design 0 starts ends [] [] []) (graph nodes [] []) (edgeAt from to via k) && risesAt from to via k
 
 -- where one holds, the other does: a copy has an edge where its node has one
 abbrev pub joined : Bool → Bool → Bool

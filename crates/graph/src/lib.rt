@@ -2,18 +2,19 @@
 ghost use mathlib.Core.Path.{_≡_};
 ghost use mathlib.Core.Bool.{true, false, _&&_, _||_};
 ghost use mathlib.Core.List.{[]};
-ghost use Prim.Native.Nat.{_+_, _≤_, _<_};
-ghost use lib.Dec.{leb};
+ghost use Prim.Native.Nat.{_+_, _≤_, _<_, min};
+ghost use lib.Dec.{T, eqb, ltb, leb};
 ghost use lib.ListN.{length, getD, set};
 ghost use Rattle.timing.specs.Lists.{allOf, upto};
 ghost use Rattle.timing.specs.Graphs.{design, graph, edge};
-ghost use Rattle.timing.specs.WellFormed.{edgeFits, edgeRises, wellFormed};
+ghost use Rattle.timing.specs.WellFormed.{edgeFits};
 ghost use Rattle.timing.specs.Refusals.{_then_};
 ghost use Rattle.timing.specs.Tests.{nodeCount, graphTest};
 ghost use Rattle.timing.specs.Calls.{graphSlices, graphOf};
-ghost use Rattle.graph.specs.Passes.{FlagsSet, stands, flag, edgePasses, joined, endFits, endRises, copyPasses, lowestAfter, walked};
+ghost use Rattle.graph.specs.Passes.{Counted, Clear, FlagsSet, flag, formed, edgeCount, keyOf, edgeAt, edgePasses, joined, endFits, endRises, copyPasses, lowestAfter, walked};
 use entries::least;
 use entries::number_at;
+use entries::wide;
 use timing::Verdict;
 
 fn both(a: bool, b: bool) -> bool
@@ -22,6 +23,7 @@ fn both(a: bool, b: bool) -> bool
     if a { b } else { false }
 }
 
+// A design's numbers may be anything here, so that some may be past the flags.
 fn set_flag(flags: &mut [bool], v: usize)
     ensures { λ r. ⌜ now (flags .exit) ≡ set (now (flags .entry)) v true ⌝ }
 {
@@ -30,21 +32,45 @@ fn set_flag(flags: &mut [bool], v: usize)
     }
 }
 
-fn flag_at(flags: &[bool], v: usize) -> bool
-    ensures { λ r. ⌜ r ≡ flag (now (flags .entry)) v ⌝ }
-{
-    if v < flags.len() { flags[v] } else { false }
-}
-
 // Sets the flags of the first `count` numbers of a list.
 fn set_flags(list: &[u32], count: usize, flags: &mut [bool])
+    requires { ⌜ count ≤ length (now list) ⌝ }
     ensures { λ r. ⌜ FlagsSet (now (flags .entry)) (now (list .entry)) count (now (flags .exit)) ⌝ }
 {
     let mut k = 0;
     while k < count {
-        set_flag(flags, number_at(list, k) as usize);
+        set_flag(flags, wide(list[k]));
         k += 1;
     }
+}
+
+// How many edges there are of which all three numbers are there.
+fn edge_count(from: &[u32], to: &[u32], via: &[u32]) -> usize
+    ensures { λ r. ⌜ r ≡ edgeCount (now (from .entry)) (now (to .entry)) (now (via .entry)) ⌝ }
+{
+    least(from.len(), least(to.len(), via.len()))
+}
+
+// Design edge k is there and runs from node v to node w. The two lists may differ in length here, and an end that is not there counts as 0; but one
+// test of k is enough where they do not.
+fn edge_is(starts: &[u32], ends: &[u32], k: usize, v: u32, w: u32) -> bool
+    ensures { λ r.
+        let named = ltb k (length (now (starts .entry))) in
+        ⌜ r ≡ (named && eqb v (getD (now (starts .entry)) k 0) && eqb w (getD (now (ends .entry)) k 0)) ⌝ }
+{
+    if k < least(starts.len(), ends.len()) {
+        if v != starts[k] {
+            return false;
+        }
+        return w == ends[k];
+    }
+    if starts.len() <= k {
+        return false;
+    }
+    if v != starts[k] {
+        return false;
+    }
+    w == 0
 }
 
 fn edge_fits(starts: &[u32], ends: &[u32], nodes: &[u32], s: u32, t: u32, k: u32) -> bool
@@ -52,46 +78,25 @@ fn edge_fits(starts: &[u32], ends: &[u32], nodes: &[u32], s: u32, t: u32, k: u32
         let D = design 0 (now (starts .entry)) (now (ends .entry)) [] [] [] in
         ⌜ r ≡ edgeFits D (graph (now (nodes .entry)) [] []) (edge s t k) ⌝ }
 {
-    let there = both((s as usize) < nodes.len(), (t as usize) < nodes.len());
-    let named = both(there, (k as usize) < starts.len());
-    let leaves = both(
-        named,
-        number_at(nodes, s as usize) == number_at(starts, k as usize),
-    );
-    both(
-        leaves,
-        number_at(nodes, t as usize) == number_at(ends, k as usize),
-    )
-}
-
-// Edges go by end copy, then by design edge.
-fn edge_rises(t: u32, k: u32, u: u32, l: u32) -> bool
-    ensures { λ r. ⌜ r ≡ edgeRises (edge 0 t k) (edge 0 u l) ⌝ }
-{
-    if t == u {
-        return k < l;
+    let s = s as usize;
+    let t = t as usize;
+    if nodes.len() <= s {
+        return false;
     }
-    t < u
-}
-
-// Edge i of the first m rises to the next, if there is one.
-fn next_rises(to: &[u32], via: &[u32], m: usize, i: usize) -> bool
-    requires { ⌜ i < m ⌝ }
-    ensures { λ r.
-        let here = edge 0 (getD (now (to .entry)) i 0) (getD (now (via .entry)) i 0) in
-        let next = edge 0 (getD (now (to .entry)) (i + 1) 0) (getD (now (via .entry)) (i + 1) 0) in
-        ⌜ r ≡ (leb m (i + 1) || edgeRises here next) ⌝ }
-{
-    if m <= i + 1 {
-        return true;
+    if nodes.len() <= t {
+        return false;
     }
-    let t = number_at(to, i);
-    let k = number_at(via, i);
-    let u = number_at(to, i + 1);
-    let l = number_at(via, i + 1);
-    edge_rises(t, k, u, l)
+    edge_is(starts, ends, k as usize, nodes[s], nodes[t])
 }
 
+// One number for the place of an edge in the order by end copy, then by design edge.
+fn edge_key(t: u32, k: u32) -> u64
+    ensures { λ r. ⌜ r ≡ keyOf t k ⌝ }
+{
+    t as u64 * 4294967296 + k as u64
+}
+
+// Edge i fits, and its number is not below the lowest that it may be.
 fn edge_passes(
     starts: &[u32],
     ends: &[u32],
@@ -99,21 +104,47 @@ fn edge_passes(
     from: &[u32],
     to: &[u32],
     via: &[u32],
-    m: usize,
+    lowest: u64,
     i: usize,
 ) -> bool
-    requires { ⌜ i < m ⌝ }
+    requires { ⌜ (i < length (now from)) × (i < length (now to)) × (i < length (now via)) ⌝ }
     ensures { λ r.
-        ⌜ r ≡ edgePasses (now (starts .entry)) (now (ends .entry)) (now (nodes .entry))
-        (now (from .entry)) (now (to .entry)) (now (via .entry)) m i ⌝ }
+        let D = design 0 (now (starts .entry)) (now (ends .entry)) [] [] [] in
+        let G = graph (now (nodes .entry)) [] [] in
+        let e = edgeAt (now (from .entry)) (now (to .entry)) (now (via .entry)) i in
+        ⌜ r ≡ (edgeFits D G e && leb lowest (keyOf (e .end) (e .name))) ⌝ }
 {
-    let s = number_at(from, i);
-    let t = number_at(to, i);
-    let k = number_at(via, i);
-    let fits = edge_fits(starts, ends, nodes, s, t, k);
-    both(fits, next_rises(to, via, m, i))
+    let t = to[i];
+    let k = via[i];
+    if edge_fits(starts, ends, nodes, from[i], t, k) {
+        return lowest <= edge_key(t, k);
+    }
+    false
 }
 
+// The lowest number that the edge after edge i may have.
+fn key_after(to: &[u32], via: &[u32], i: usize) -> u64
+    requires { ⌜ (i < length (now to)) × (i < length (now via)) × (getD (now to) i 0 < 16384) ⌝ }
+    ensures { λ r. ⌜ r ≡ keyOf (getD (now (to .entry)) i 0) (getD (now (via .entry)) i 0) + 1 ⌝ }
+{
+    edge_key(to[i], via[i]) + 1
+}
+
+// Sets the flags of the copies that edge i joins: its end is entered, and its start is left.
+fn set_joined(from: &[u32], to: &[u32], i: usize, cin: &mut [bool], cout: &mut [bool])
+    requires { ⌜ (i < length (now from)) × (i < length (now to))
+        × (getD (now to) i 0 < length (now cin)) × (getD (now from) i 0 < length (now cout)) ⌝ }
+    ensures { λ r.
+        ⌜ (now (cin .exit) ≡ set (now (cin .entry)) (getD (now (to .entry)) i 0) true)
+        × (now (cout .exit) ≡ set (now (cout .entry)) (getD (now (from .entry)) i 0) true) ⌝ }
+{
+    let s = wide(from[i]);
+    let t = wide(to[i]);
+    cin[t] = true;
+    cout[s] = true;
+}
+
+// Each edge fits and is above the one before it. If all pass, the flags of the copies that they join are set.
 fn edges_pass(
     starts: &[u32],
     ends: &[u32],
@@ -121,18 +152,28 @@ fn edges_pass(
     from: &[u32],
     to: &[u32],
     via: &[u32],
-    m: usize,
+    cin: &mut [bool],
+    cout: &mut [bool],
 ) -> bool
+    requires { ⌜ (length (now nodes) ≤ 16384)
+        × (length (now nodes) ≤ length (now cin)) × (length (now nodes) ≤ length (now cout)) ⌝ }
     ensures { λ r.
         let passes = edgePasses (now (starts .entry)) (now (ends .entry)) (now (nodes .entry))
-        (now (from .entry)) (now (to .entry)) (now (via .entry)) m in
-        ⌜ r ≡ allOf passes (upto m 0) ⌝ }
+        (now (from .entry)) (now (to .entry)) (now (via .entry)) in
+        let m = edgeCount (now (from .entry)) (now (to .entry)) (now (via .entry)) in
+        ⌜ (r ≡ allOf passes (upto m 0))
+        × (T r → FlagsSet (now (cin .entry)) (now (to .entry)) m (now (cin .exit)))
+        × (T r → FlagsSet (now (cout .entry)) (now (from .entry)) m (now (cout .exit))) ⌝ }
 {
+    let m = edge_count(from, to, via);
+    let mut lowest = 0;
     let mut i = 0;
     while i < m {
-        if !edge_passes(starts, ends, nodes, from, to, via, m, i) {
+        if !edge_passes(starts, ends, nodes, from, to, via, lowest, i) {
             return false;
         }
+        lowest = key_after(to, via, i);
+        set_joined(from, to, i, cin, cout);
         i += 1;
     }
     true
@@ -146,10 +187,11 @@ fn node_rises(nodes: &[u32], c: usize) -> bool
         let next = getD (now (nodes .entry)) (c + 1) 0 in
         ⌜ r ≡ (leb (length (now (nodes .entry))) (c + 1) || leb here next) ⌝ }
 {
-    if nodes.len() <= c + 1 {
+    let next = c + 1;
+    if nodes.len() <= next {
         return true;
     }
-    number_at(nodes, c) <= number_at(nodes, c + 1)
+    nodes[c] <= nodes[next]
 }
 
 fn has_edge(node: bool, copy: bool) -> bool
@@ -180,10 +222,11 @@ fn end_rises(end: bool, lowest: usize, v: u32) -> bool
 
 // The lowest node that a copy after copy c may have if paths end at it.
 fn lowest_after(nodes: &[u32], endpoint: &[u32], lowest: usize, c: usize) -> usize
+    requires { ⌜ c < length (now nodes) ⌝ }
     ensures { λ r. ⌜ r ≡ lowestAfter (now (nodes .entry)) (now (endpoint .entry)) lowest c ⌝ }
 {
     if number_at(endpoint, c) == 1 {
-        return number_at(nodes, c) as usize + 1;
+        return wide(nodes[c]) + 1;
     }
     lowest
 }
@@ -200,20 +243,24 @@ fn copy_passes(
     lowest: usize,
     c: usize,
 ) -> bool
-    requires { ⌜ c < length (now nodes) ⌝ }
+    requires { ⌜ (c < length (now nodes))
+        × (n ≤ length (now nin)) × (n ≤ length (now nout)) × (n ≤ length (now nmarked))
+        × (length (now nodes) ≤ length (now cin)) × (length (now nodes) ≤ length (now cout)) ⌝ }
     ensures { λ r.
         ⌜ r ≡ copyPasses n (now (nodes .entry)) (now (endpoint .entry))
         (flag (now (nin .entry))) (flag (now (nout .entry))) (flag (now (nmarked .entry)))
         (flag (now (cin .entry))) (flag (now (cout .entry))) lowest c ⌝ }
 {
-    let v = number_at(nodes, c);
+    let node = nodes[c];
+    if n <= node {
+        return false;
+    }
+    let v = wide(node);
     let end = number_at(endpoint, c) == 1;
-    let there = both(v < n, node_rises(nodes, c));
-    let entered = has_edge(flag_at(nin, v as usize), flag_at(cin, c));
-    let out = flag_at(nout, v as usize);
-    let fits = end_fits(end, out, flag_at(nmarked, v as usize), flag_at(cout, c));
-    let once = end_rises(end, lowest, v);
-    both(both(both(there, entered), fits), once)
+    let entered = has_edge(nin[v], cin[c]);
+    let fits = end_fits(end, nout[v], nmarked[v], cout[c]);
+    let once = end_rises(end, lowest, node);
+    both(both(both(node_rises(nodes, c), entered), fits), once)
 }
 
 fn copies_pass(
@@ -226,6 +273,8 @@ fn copies_pass(
     cin: &[bool],
     cout: &[bool],
 ) -> bool
+    requires { ⌜ (n ≤ length (now nin)) × (n ≤ length (now nout)) × (n ≤ length (now nmarked))
+        × (length (now nodes) ≤ length (now cin)) × (length (now nodes) ≤ length (now cout)) ⌝ }
     ensures { λ r.
         let passes = copyPasses n (now (nodes .entry)) (now (endpoint .entry))
         (flag (now (nin .entry))) (flag (now (nout .entry))) (flag (now (nmarked .entry)))
@@ -244,38 +293,136 @@ fn copies_pass(
     true
 }
 
-// The copies, against the first d edges of the design, its marked nodes and the first m edges of the graph.
-fn copies_fit(
+// Sets the flags of the nodes that have an edge in, that have an edge out, and that are marked.
+fn set_node_flags(
+    starts: &[u32],
+    ends: &[u32],
+    marked: &[u32],
+    nin: &mut [bool],
+    nout: &mut [bool],
+    nmarked: &mut [bool],
+)
+    ensures { λ r.
+        let d = min (length (now (starts .entry))) (length (now (ends .entry))) in
+        ⌜ FlagsSet (now (nin .entry)) (now (ends .entry)) d (now (nin .exit))
+        × FlagsSet (now (nout .entry)) (now (starts .entry)) d (now (nout .exit))
+        × FlagsSet (now (nmarked .entry)) (now (marked .entry)) (length (now (marked .entry))) (now (nmarked .exit)) ⌝ }
+{
+    let d = least(starts.len(), ends.len());
+    set_flags(ends, d, nin);
+    set_flags(starts, d, nout);
+    set_flags(marked, marked.len(), nmarked);
+}
+
+// The edges and the copies, with flags for n nodes and for all copies, all clear. Counts and endpoint numbers were tested before.
+fn formed_with(
     n: u32,
     starts: &[u32],
     ends: &[u32],
-    d: usize,
     marked: &[u32],
     nodes: &[u32],
     endpoint: &[u32],
     from: &[u32],
     to: &[u32],
-    m: usize,
+    via: &[u32],
+    nin: &mut [bool],
+    nout: &mut [bool],
+    nmarked: &mut [bool],
+    cin: &mut [bool],
+    cout: &mut [bool],
 ) -> bool
-    requires { ⌜ (n ≤ 4096) × (length (now nodes) ≤ 16384) ⌝ }
+    requires { ⌜ Counted (now nodes) (now endpoint) (now from) (now to) (now via)
+        × Clear n (now nin) × Clear n (now nout) × Clear n (now nmarked)
+        × Clear (length (now nodes)) (now cin) × Clear (length (now nodes)) (now cout) ⌝ }
     ensures { λ r.
-        let passes = copyPasses n (now (nodes .entry)) (now (endpoint .entry))
-        (stands (now (ends .entry)) d) (stands (now (starts .entry)) d)
-        (stands (now (marked .entry)) (length (now (marked .entry))))
-        (stands (now (to .entry)) m) (stands (now (from .entry)) m) in
-        ⌜ r ≡ walked passes (lowestAfter (now (nodes .entry)) (now (endpoint .entry))) (length (now (nodes .entry))) 0 0 ⌝ }
+        ⌜ r ≡ formed n (now (starts .entry)) (now (ends .entry)) (now (marked .entry))
+        (now (nodes .entry)) (now (endpoint .entry)) (now (from .entry)) (now (to .entry)) (now (via .entry)) ⌝ }
+{
+    if !edges_pass(starts, ends, nodes, from, to, via, cin, cout) {
+        return false;
+    }
+    set_node_flags(starts, ends, marked, nin, nout, nmarked);
+    copies_pass(n, nodes, endpoint, nin, nout, nmarked, cin, cout)
+}
+
+// An array costs the time to clear all of it, so that small graphs get small ones.
+fn small_formed(
+    n: u32,
+    starts: &[u32],
+    ends: &[u32],
+    marked: &[u32],
+    nodes: &[u32],
+    endpoint: &[u32],
+    from: &[u32],
+    to: &[u32],
+    via: &[u32],
+) -> bool
+    requires { ⌜ (n ≤ 1024) × (length (now nodes) ≤ 1024)
+        × Counted (now nodes) (now endpoint) (now from) (now to) (now via) ⌝ }
+    ensures { λ r.
+        ⌜ r ≡ formed n (now (starts .entry)) (now (ends .entry)) (now (marked .entry))
+        (now (nodes .entry)) (now (endpoint .entry)) (now (from .entry)) (now (to .entry)) (now (via .entry)) ⌝ }
+{
+    let mut nin = [false; 1024];
+    let mut nout = [false; 1024];
+    let mut nmarked = [false; 1024];
+    let mut cin = [false; 1024];
+    let mut cout = [false; 1024];
+    formed_with(
+        n,
+        starts,
+        ends,
+        marked,
+        nodes,
+        endpoint,
+        from,
+        to,
+        via,
+        &mut nin,
+        &mut nout,
+        &mut nmarked,
+        &mut cin,
+        &mut cout,
+    )
+}
+
+fn large_formed(
+    n: u32,
+    starts: &[u32],
+    ends: &[u32],
+    marked: &[u32],
+    nodes: &[u32],
+    endpoint: &[u32],
+    from: &[u32],
+    to: &[u32],
+    via: &[u32],
+) -> bool
+    requires { ⌜ (n ≤ 4096) × Counted (now nodes) (now endpoint) (now from) (now to) (now via) ⌝ }
+    ensures { λ r.
+        ⌜ r ≡ formed n (now (starts .entry)) (now (ends .entry)) (now (marked .entry))
+        (now (nodes .entry)) (now (endpoint .entry)) (now (from .entry)) (now (to .entry)) (now (via .entry)) ⌝ }
 {
     let mut nin = [false; 4096];
     let mut nout = [false; 4096];
     let mut nmarked = [false; 4096];
     let mut cin = [false; 16384];
     let mut cout = [false; 16384];
-    set_flags(ends, d, &mut nin);
-    set_flags(starts, d, &mut nout);
-    set_flags(marked, marked.len(), &mut nmarked);
-    set_flags(to, m, &mut cin);
-    set_flags(from, m, &mut cout);
-    copies_pass(n, nodes, endpoint, &nin, &nout, &nmarked, &cin, &cout)
+    formed_with(
+        n,
+        starts,
+        ends,
+        marked,
+        nodes,
+        endpoint,
+        from,
+        to,
+        via,
+        &mut nin,
+        &mut nout,
+        &mut nmarked,
+        &mut cin,
+        &mut cout,
+    )
 }
 
 fn well_formed(
@@ -291,23 +438,25 @@ fn well_formed(
 ) -> bool
     requires { ⌜ n ≤ 4096 ⌝ }
     ensures { λ r.
-        let D = design n (now (starts .entry)) (now (ends .entry)) [] [] (now (marked .entry)) in
-        let S = graphSlices (now (nodes .entry)) (now (endpoint .entry))
-        (now (from .entry)) (now (to .entry)) (now (via .entry)) in
-        ⌜ r ≡ wellFormed D (graphOf S) ⌝ }
+        ⌜ r ≡ formed n (now (starts .entry)) (now (ends .entry)) (now (marked .entry))
+        (now (nodes .entry)) (now (endpoint .entry)) (now (from .entry)) (now (to .entry)) (now (via .entry)) ⌝ }
 {
-    let m = least(from.len(), least(to.len(), via.len()));
+    let m = edge_count(from, to, via);
     if timing::MAX_COPIES < nodes.len() {
         return false;
     }
     if timing::MAX_COPY_EDGES < m {
         return false;
     }
-    let d = least(starts.len(), ends.len());
-    let edges = edges_pass(starts, ends, nodes, from, to, via, m);
-    let flags = verdicts::zero_or_one(endpoint);
-    let copies = copies_fit(n, starts, ends, d, marked, nodes, endpoint, from, to, m);
-    both(both(edges, flags), copies)
+    if !verdicts::zero_or_one(endpoint) {
+        return false;
+    }
+    if n <= 1024 {
+        if nodes.len() <= 1024 {
+            return small_formed(n, starts, ends, marked, nodes, endpoint, from, to, via);
+        }
+    }
+    large_formed(n, starts, ends, marked, nodes, endpoint, from, to, via)
 }
 
 // 10 and 32: the flags of nodes are a local array, which 10 makes large enough. Every call that

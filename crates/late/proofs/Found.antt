@@ -1,51 +1,49 @@
 -- The search: the arrivals below copy c stand in their places, the others are as they were, and no copy below c is late.
-use Prim.Native.Nat.{ℕ, suc, _+_, _-_, _≤_, _<_}
+use Prim.Native.Nat.{ℕ, _+_, _-_, _≤_, _<_}
 use native.Mathlib.Omega.{arith}
+use native.Mathlib.Decide.{decLt}
 use native.Mathlib.Numerals.{add-one}
-use mathlib.Core.Path.{_≡_, refl, sym, _∙_, ap, ap₂}
+use mathlib.Core.Path.{_≡_, refl, sym, _∙_, ap}
 use mathlib.Core.Bool.{Bool, true, false}
-use mathlib.Core.List.{List, [], _∷_, _++_, map, map-append}
+use mathlib.Core.List.{List, [], _∷_, _++_, map}
 use lib.IntN.{ℤ, pos}
 use lib.ListN.{length, getD, set, drop, length-append, length-drop, List·getD-append}
-use lib.Seq.{drop-cons, append-snoc, set-append-seam}
+use lib.Seq.{getD-append-add, getD-drop, ext-getD}
 use Rattle.timing.specs.declared.Lateness.the-variants.{Late, OnTime}
 use Rattle.timing.specs.declared.Verdict.the-variants.{Passed}
 use Rattle.timing.specs.Lists.{keep, upto, placed}
-use Rattle.timing.specs.Times.{arrivalAt, lateAt}
+use Rattle.timing.specs.Times.{largest, arrivalAt, lateAt}
 use Rattle.timing.specs.Calls.{GraphSlices, graphOf, lowestLate}
-use Rattle.theorems.proofs.Elements.{size-each, at-each}
+use Rattle.theorems.proofs.Elements.{Done, done-none, size-each, at-each}
 use Rattle.theorems.proofs.Splits.{upto-next, upto-split, keep-append, keep-yes, keep-no}
 use Rattle.times.specs.Passes.{delayOf, Fit}
-use Rattle.late.specs.Fanins.{arrivalOver, Fanin, FaninFrom, Ready}
-use Rattle.late.proofs.Fanins.{fanin-first, fanin-next, copy-ready, fanin-arrival}
+use Rattle.times.specs.Fanins.{bestOver, Fanin, FaninFrom, Ready}
+use Rattle.times.proofs.Fanins.{arrivals-pass, fanin-first, fanin-next, copy-ready, copy-done}
 
 upto-last : (c : ℕ) → upto (c + 1) 0 ≡ upto c 0 ++ (c ∷ [])
 upto-last c = let z : 0 + c ≡ c = omega arith in ap (λ (n : ℕ). upto n 0) (add-one c) ∙ upto-next c 0 ∙ ap (λ (x : ℕ). upto c 0 ++ (x ∷ [])) z
 
--- ---- what stands in the places
-module _ {A : Type 0} (z : A) (f : ℕ → A) (old : List A) (c : ℕ) where
-  pub placed-at : (a : ℕ) → a < c → getD (placed (map f (upto c 0)) old) a z ≡ f a
-  placed-at a h =
-      List·getD-append (map f (upto c 0)) (drop (length (map f (upto c 0))) old) z a (omega (arith, h, size-each f c)) ∙ at-each z f c a h
+-- places that are done, in front of what was there
+module _ {A : Type 0} (z : A) (f : ℕ → A) (c : ℕ) (old l : List A) (h : c ≤ length old) (d : Done z f c old l) where
+  abbrev xs : List A
+  xs = map f (upto c 0)
 
-  pub placed-size : c ≤ length old → length (placed (map f (upto c 0)) old) ≡ length old
-  placed-size h =
-      let xs = map f (upto c 0) in
-      omega (arith, length-append xs (drop (length xs) old), length-drop (length xs) old, size-each f c, h)
+  placed-size : length (xs ++ drop (length xs) old) ≡ length old
+  placed-size = omega (arith, length-append xs (drop (length xs) old), length-drop (length xs) old, size-each f c, h)
 
-  pub placed-next : c < length old → (x : A) → x ≡ f c → set (placed (map f (upto c 0)) old) c x ≡ placed (map f (upto (c + 1) 0)) old
-  placed-next h x e =
-      let xs = map f (upto c 0) in
-      let s : length xs ≡ c = size-each f c in
-      let t : length (map f (upto (c + 1) 0)) ≡ suc c = size-each f (c + 1) ∙ add-one c in
-      ap₂ (λ (n i : ℕ). set (xs ++ drop n old) i x) s (sym s)
-      ∙ ap (λ (ys : List A). set (xs ++ ys) (length xs) x) (drop-cons old c z h)
-      ∙ set-append-seam xs (getD old c z) (drop (suc c) old) x
-      ∙ ap (λ (y : A). xs ++ y ∷ drop (suc c) old) e
-      ∙ sym (append-snoc xs (f c) (drop (suc c) old))
-      ∙ sym
-      (ap (λ (n : ℕ). map f (upto (c + 1) 0) ++ drop n old) t
-      ∙ ap (λ (l : List A). l ++ drop (suc c) old) (ap (map f) (upto-last c) ∙ map-append f (upto c 0) (c ∷ [])))
+  placed-at : (i : ℕ) → Dec (i < c) → getD l i z ≡ getD (xs ++ drop (length xs) old) i z
+  placed-at i (yes k) = d .below i k ∙ sym (List·getD-append xs (drop (length xs) old) z i (omega (arith, size-each f c, k)) ∙ at-each z f c i k)
+  placed-at i (no k) =
+      let m = i - length xs in
+      let q : length xs + m ≡ i = omega (arith, size-each f c, k) in
+      d .above i (omega (arith, k))
+      ∙ ap (λ (j : ℕ). getD old j z) (sym q)
+      ∙ sym (getD-drop (length xs) old m z)
+      ∙ sym (getD-append-add xs (drop (length xs) old) m z)
+      ∙ ap (λ (j : ℕ). getD (xs ++ drop (length xs) old) j z) q
+
+  pub done-placed : l ≡ placed (map f (upto c 0)) old
+  done-placed = ext-getD z l (xs ++ drop (length xs) old) (d .size ∙ sym placed-size) (λ i k. placed-at i (decLt i c))
 
 -- ---- the copies that are late
 module _ (late : ℕ → Bool) where
@@ -68,7 +66,7 @@ module _ (late : ℕ → Bool) where
 pub record Searched (delays : List ℤ) (S : GraphSlices) (t : ℤ) (old arrivals : List ℤ) (c first : ℕ) : Type 0 where
   pub within : c ≤ length old
   pub next : FaninFrom (S .ends) c first
-  pub written : arrivals ≡ placed (map (arrivalAt (delayOf delays) t (graphOf S)) (upto c 0)) old
+  pub done : Done (pos 0) (arrivalAt (delayOf delays) t (graphOf S)) c old arrivals
   pub none : keep (lateAt (delayOf delays) t (graphOf S)) (upto c 0) ≡ []
 
 module _ (delays : List ℤ) (S : GraphSlices) (F : Fit delays S) (t : ℤ) (old : List ℤ) where
@@ -79,37 +77,28 @@ module _ (delays : List ℤ) (S : GraphSlices) (F : Fit delays S) (t : ℤ) (old
   late = lateAt (delayOf delays) t (graphOf S)
 
   pub searched-none : Searched delays S t old old 0 0
-  searched-none = record { within = omega arith; next = fanin-first delays S F t; written = refl; none = refl }
+  searched-none = record { within = omega arith; next = fanin-first delays S F; done = done-none (pos 0) at old; none = refl }
 
-  module _ (c first : ℕ) (arrivals : List ℤ) (s : Searched delays S t old arrivals c first) where
-    pub searched-size : length arrivals ≡ length old
-    searched-size = ap length (s .written) ∙ placed-size (pos 0) at old c (s .within)
+  module _ (size : length old ≡ length (S .nodes)) (c first : ℕ) (arrivals : List ℤ) (s : Searched delays S t old arrivals c first) (h : c < length (S .nodes)) where
+    pub searched-ready : Ready delays (S .starts) (S .ends) (S .names) arrivals c first
+    searched-ready = copy-ready delays S F (arrivals-pass delays S F t) c first old arrivals h size (s .done) (s .next)
 
-    known : (a : ℕ) → a < c → getD arrivals a (pos 0) ≡ at a
-    known a h = ap (λ (l : List ℤ). getD l a (pos 0)) (s .written) ∙ placed-at (pos 0) at old c a h
+    -- what copy c was given
+    module _ (last : ℕ) (fanin : Fanin (S .ends) c first last) (after : List ℤ)
+        (e : after ≡ set arrivals c (bestOver largest delays (S .starts) (S .names) arrivals first last)) where
+      pub found-done : Done (pos 0) at (c + 1) old after
+      found-done = rw e (copy-done delays S F (arrivals-pass delays S F t) c first old arrivals h size (s .done) (s .next) last fanin)
 
-    module _ (h : c < length (S .nodes)) (k : c < length old) where
-      pub searched-ready : Ready delays (S .starts) (S .ends) (S .names) arrivals c first
-      searched-ready = copy-ready delays S F t c first arrivals h known (s .next) (omega (arith, k, searched-size))
+      pub found-arrival : getD after c (pos 0) ≡ at c
+      found-arrival = found-done .below c (omega arith)
 
-      -- what copy c was given
-      module _ (last : ℕ) (fanin : Fanin (S .ends) c first last) (after : List ℤ)
-          (e : after ≡ set arrivals c (arrivalOver delays (S .starts) (S .names) arrivals first last)) where
-        is-arrival : arrivalOver delays (S .starts) (S .names) arrivals first last ≡ at c
-        is-arrival = fanin-arrival delays S F t c first arrivals h known (s .next) last fanin
+      pub found-written : after ≡ placed (map at (upto (c + 1) 0)) old
+      found-written = done-placed (pos 0) at (c + 1) old after (omega (arith, h, size)) found-done
 
-        pub found-written : after ≡ placed (map at (upto (c + 1) 0)) old
-        found-written =
-            let x = arrivalOver delays (S .starts) (S .names) arrivals first last in
-            e ∙ ap (λ (l : List ℤ). set l c x) (s .written) ∙ placed-next (pos 0) at old c k x is-arrival
-
-        pub found-arrival : getD after c (pos 0) ≡ at c
-        found-arrival = ap (λ (l : List ℤ). getD l c (pos 0)) found-written ∙ placed-at (pos 0) at old (c + 1) c (omega arith)
-
-        pub searched-next : late c ≡ false → Searched delays S t old after (c + 1) last
-        searched-next q = record {
-          within = omega (arith, k);
-          next = fanin-next (S .ends) c first last (s .next) fanin;
-          written = found-written;
-          none = none-next late c (s .none) q;
-        }
+      pub searched-next : late c ≡ false → Searched delays S t old after (c + 1) last
+      searched-next q = record {
+        within = omega (arith, h, size);
+        next = fanin-next (S .ends) c first last (s .next) fanin;
+        done = found-done;
+        none = none-next late c (s .none) q;
+      }

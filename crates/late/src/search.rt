@@ -14,8 +14,6 @@ ghost use Rattle.timing.specs.Calls.{graphSlices, graphOf, testLate, lowestLate
 ghost use Rattle.timing.specs.Calls.{lateAnswer};
 ghost use Rattle.times.specs.Passes.{delayOf, Fit};
 use crate::fanin::arrive;
-use entries::number_at;
-use entries::time_at;
 use timing::Lateness;
 use timing::Verdict;
 
@@ -23,8 +21,8 @@ use timing::Verdict;
 fn is_late(endpoint: u32, allowed: u32, arrival: i64) -> bool
     ensures { λ r. ⌜ r ≡ (eqb endpoint 1 && ltZ (pos allowed) arrival) ⌝ }
 {
-    if endpoint == 1 {
-        (allowed as i64) < arrival
+    if (allowed as i64) < arrival {
+        endpoint == 1
     } else {
         false
     }
@@ -42,7 +40,8 @@ fn find_late(
     arrivals: &mut [i64],
 ) -> Lateness
     requires { ⌜ Fit (now late) (graphSlices (now nodes) (now endpoint) (now from) (now to) (now via)) ⌝ }
-    requires { ⌜ length (now arrivals) ≡ length (now nodes) ⌝ }
+    requires { let copies = length (now nodes) in
+        ⌜ (length (now arrivals) ≡ copies) × (length (now endpoint) ≡ copies) ⌝ }
     ensures { λ r.
         let S = graphSlices (now (nodes .entry)) (now (endpoint .entry))
         (now (from .entry)) (now (to .entry)) (now (via .entry)) in
@@ -56,7 +55,7 @@ fn find_late(
     let mut first = 0;
     while c < nodes.len() {
         first = arrive(late, from, to, via, arrivals, c, first);
-        if is_late(number_at(endpoint, c), allowed, time_at(arrivals, c)) {
+        if is_late(endpoint[c], allowed, arrivals[c]) {
             return Lateness::Late { copy: c };
         }
         c += 1;

@@ -1,11 +1,10 @@
 -- Counting the candidates, laying out the tables in the scratch, and filling them.
-pub mod Region
 pub mod ChainLaws
 pub mod LinkLaws
 pub mod NameLaws
-pub mod SearchLaws
-pub mod FillLaws
-pub mod TableLaws
+pub mod SumLaws
 pub mod CountLaws
+pub mod BaseLaws
+pub mod DefaultLaws
 pub mod Candidates
 pub mod BuildLaws

@@ -1,8 +1,3 @@
--- One step against an edge: the search for the longest tail that fits, and that it finds the mark.
-pub mod StepLaws
-pub mod StepSearch
-pub mod StepMarks
-pub mod TailLaws
-pub mod ShorterLaws
-pub mod ShorterTails
+-- One step against an edge: what the tables of the list say is the step, and an edge that is not listed leads to the empty mark.
+pub mod UnlistedLaws
 pub mod AlongLaws

@@ -1,11 +1,19 @@
 -- Counting the candidates of test 31 without scratch: for each node how many listed edges, not first in their path, start there.
 use Prim.Native.Nat.{ℕ, _+_, _-_, _≤_, _<_}
 use mathlib.Core.Path.{_≡_}
-use mathlib.Core.List.{List, map, flatMap}
+use mathlib.Core.List.{List, [], map, flatMap}
 use lib.Dec.{eqb}
 use lib.ListN.{length, getD, take, drop}
 use Rattle.timing.specs.Lists.{sum, countOf}
+use Rattle.timing.specs.Graphs.{Design, design, Graph, graph}
 use Rattle.timing.specs.Marks.{cut}
+
+-- a design of which only the edges' starts are looked at, and a graph of which only the copies' nodes are
+abbrev pub ofStarts : List ℕ → Design
+ofStarts starts = design 0 starts [] [] [] []
+
+abbrev pub ofNodes : List ℕ → Graph
+ofNodes nodes = graph nodes [] []
 
 -- how many of these edges start at node v
 unfoldable pub startsIn : List ℕ → ℕ → List ℕ → ℕ

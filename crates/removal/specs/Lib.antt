@@ -1,6 +1,4 @@
 -- What the tables of a removal hold. The result itself is defined in `timing`.
-pub mod Table
-pub mod Positions
 pub mod Slots
 pub mod Chains
 pub mod Links
@@ -12,11 +10,6 @@ pub mod Show
 pub mod Fill
 pub mod Flags
 pub mod Reach
-pub mod Listed
-pub mod Ranks
-pub mod Search
-pub mod Tails
-pub mod Step
 pub mod Build
 pub mod Counts
 pub mod Remove

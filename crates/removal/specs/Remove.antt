@@ -15,11 +15,12 @@ use Rattle.theorems.proofs.Tested.{DesignFits}
 use Rattle.removal.specs.declared.rows.Layout.{Layout}
 use Rattle.removal.specs.declared.remove.Searched.{Searched}
 use Rattle.removal.specs.declared.remove.Searched.the-variants.{Found as SearchFound}
+use Rattle.removal.specs.declared.remove.Searched.the-variants.{Nothing as SearchNothing}
 use Rattle.removal.specs.declared.remove.Searched.the-variants.{Refused as SearchRefused}
-use Rattle.removal.specs.Search.{ofStarts, ofNodes}
+use Rattle.removal.specs.Counts.{ofStarts, ofNodes}
 use Rattle.removal.specs.Result.{shownBelow}
 use Rattle.removal.specs.Rows.{Tabled}
-use Rattle.removal.specs.Fill.{EdgesInto, ShownReady, RowsShown, boundsNow, shownNow, edgesNow}
+use Rattle.removal.specs.Fill.{EdgesInto, ShownReady, RowsShown, slotsNow, shownNow, edgesNow}
 use Rattle.removal.specs.Build.{tableWords, Given}
 
 -- the lent slices are of a design, a list and a graph, and the edges into each copy are in order
@@ -46,9 +47,9 @@ pub record AllFound (l : Layout) (listed nodes endpoint from to via t : List ℕ
   pub shown : ShownReady l listed from to via t
   pub rows : RowsShown l listed endpoint from to via t
   pub copies-of : l .copies ≡ length nodes
-  pub slots-counted : copies ≡ length (shownBelow (boundsNow l t) (shownNow l t) (l .copies))
+  pub slots-counted : copies ≡ length (shownBelow (slotsNow l t) (shownNow l t) (l .copies))
   pub edges-counted : (D : Design) (L : PathList) (G : Graph) → Tabled D L G l listed from to via (take (l .slots) t)
-      → edges ≡ length (flatMap (edgesNow l listed t L G) (shownBelow (boundsNow l t) (shownNow l t) (l .copies)))
+      → edges ≡ length (flatMap (edgesNow l listed t D L G) (shownBelow (slotsNow l t) (shownNow l t) (l .copies)))
   pub copies-are : (D : Design) (L : PathList) (G : Graph) → Tabled D L G l listed from to via (take (l .slots) t) → G .endpoints ≡ endpoint → copies ≡ length (trueGraph G (pathsOf L) .nodes)
   pub edges-are : (D : Design) (L : PathList) (G : Graph) → Tabled D L G l listed from to via (take (l .slots) t) → G .endpoints ≡ endpoint → EdgesInto G (edgesIn G)
       → edges ≡ length (trueGraph G (pathsOf L) .edges)
@@ -64,11 +65,14 @@ abbrev pub wordsFor : List ℕ → List ℕ → List ℕ → List ℕ → List �
 wordsFor starts listed lengths nodes from s =
     wordsTest (candidates (ofStarts starts) (ofNodes nodes) (pathList listed lengths)) (length listed) (length from) (length s)
 
--- what a search answers, and t is the scratch then: what was found, or 31 and the scratch as it was
+-- what a search answers, and t is the scratch then: what was found, or nothing where there is no copy, or 31; the scratch is as it was
+-- then
 abbrev pub AllSearched : List ℕ → List ℕ → List ℕ → List ℕ → List ℕ → List ℕ → List ℕ → List ℕ → List ℕ → List ℕ → Searched → Type 0
 AllSearched starts listed lengths nodes endpoint from to via s t (SearchFound f) =
     (wordsFor starts listed lengths nodes from s ≡ Passed)
     × Found starts listed lengths nodes endpoint from to via s t (f .layout) (f .counts .copies) (f .counts .edges)
+AllSearched starts listed lengths nodes endpoint from to via s t SearchNothing =
+    (wordsFor starts listed lengths nodes from s ≡ Passed) × (length nodes ≡ 0) × (t ≡ s)
 AllSearched starts listed lengths nodes endpoint from to via s t (SearchRefused r) = (wordsFor starts listed lengths nodes from s ≡ Refused r) × (t ≡ s)
 
 -- the answer and the room are those of an outcome

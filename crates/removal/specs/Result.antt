@@ -8,7 +8,7 @@ use lib.ListN.{length, getD}
 use Rattle.timing.specs.Lists.{keep, countOf, upto}
 use Rattle.timing.specs.Graphs.{Edge, edge, Graph}
 use Rattle.timing.specs.Marks.{PathList}
-use Rattle.removal.specs.Slots.{Bounds, slots}
+use Rattle.removal.specs.Slots.{slots}
 use Rattle.removal.specs.Flags.{StepOn}
 
 -- a slot of a copy
@@ -27,26 +27,26 @@ slotEndpoint endpoint s = cond (eqb (s .slot) 0) (getD endpoint (s .copy) 0) 0
 abbrev pub shownIn : (ℕ → ℕ → Bool) → ℕ → ℕ → List Slot
 shownIn shown c n = map (slotAt c) (keep (shown c) (upto n 0))
 
-abbrev pub shownBelow : Bounds → (ℕ → ℕ → Bool) → ℕ → List Slot
+abbrev pub shownBelow : (ℕ → ℕ) → (ℕ → ℕ → Bool) → ℕ → List Slot
 shownBelow B shown n = flatMap (λ c. shownIn shown c (slots B c)) (upto n 0)
 
 -- the number of a slot: how many shown slots stand before it
-abbrev pub numberOf : Bounds → (ℕ → ℕ → Bool) → ℕ → ℕ → ℕ
+abbrev pub numberOf : (ℕ → ℕ) → (ℕ → ℕ → Bool) → ℕ → ℕ → ℕ
 numberOf B shown c j = length (shownBelow B shown c) + countOf (shown c) (upto j 0)
 
 -- the shown slots of a graph
-abbrev pub shownSlots : Graph → Bounds → (ℕ → ℕ → Bool) → List Slot
+abbrev pub shownSlots : Graph → (ℕ → ℕ) → (ℕ → ℕ → Bool) → List Slot
 shownSlots G B shown = shownBelow B shown (length (G .nodes))
 
 -- The edges of the result. `ins` has the edges into each copy, `test` says of an edge into a slot whether it comes from a
 -- shown slot, and `from` which slot that is.
-abbrev pub numberedEdge : Bounds → (ℕ → ℕ → Bool) → (ℕ → ℕ → Edge → ℕ) → Slot → Edge → Edge
+abbrev pub numberedEdge : (ℕ → ℕ) → (ℕ → ℕ → Bool) → (ℕ → ℕ → Edge → ℕ) → Slot → Edge → Edge
 numberedEdge B shown from s e = edge (numberOf B shown (e .start) (from (s .copy) (s .slot) e)) (numberOf B shown (s .copy) (s .slot)) (e .name)
 
-abbrev pub slotEdges : Bounds → (ℕ → ℕ → Bool) → (ℕ → List Edge) → (ℕ → ℕ → Edge → Bool) → (ℕ → ℕ → Edge → ℕ) → Slot → List Edge
+abbrev pub slotEdges : (ℕ → ℕ) → (ℕ → ℕ → Bool) → (ℕ → List Edge) → (ℕ → ℕ → Edge → Bool) → (ℕ → ℕ → Edge → ℕ) → Slot → List Edge
 slotEdges B shown ins test from s = map (numberedEdge B shown from s) (keep (test (s .copy) (s .slot)) (ins (s .copy)))
 
-abbrev pub shownEdges : Graph → Bounds → (ℕ → ℕ → Bool) → (ℕ → List Edge) → (ℕ → ℕ → Edge → Bool) → (ℕ → ℕ → Edge → ℕ) → List Edge
+abbrev pub shownEdges : Graph → (ℕ → ℕ) → (ℕ → ℕ → Bool) → (ℕ → List Edge) → (ℕ → ℕ → Edge → Bool) → (ℕ → ℕ → Edge → ℕ) → List Edge
 shownEdges G B shown ins test from = flatMap (slotEdges B shown ins test from) (shownSlots G B shown)
 
 -- edges that are given as three lists, by their numbers
@@ -54,8 +54,8 @@ abbrev pub edgeAt : List ℕ → List ℕ → List ℕ → ℕ → Edge
 edgeAt starts ends names k = edge (getD starts k 0) (getD ends k 0) (getD names k 0)
 
 -- `test` and `from` say of an edge into a slot whether it comes from a shown slot, and from which
-pub record Linking (G : Graph) (L : PathList) (order : List ℕ) (B : Bounds) (shown : ℕ → ℕ → Bool) (test : ℕ → ℕ → Edge → Bool) (from : ℕ → ℕ → Edge → ℕ) : Type 0 where
+pub record Linking (G : Graph) (L : PathList) (marks : ℕ → ℕ → List ℕ) (B : ℕ → ℕ) (shown : ℕ → ℕ → Bool) (test : ℕ → ℕ → Edge → Bool) (from : ℕ → ℕ → Edge → ℕ) : Type 0 where
   pub sound : (c j : ℕ) → c < length (G .nodes) → j < slots B c → shown c j ≡ true → (e : Edge) → List·Memᴰ e (G .edges) → e .end ≡ c
-      → test c j e ≡ true → StepOn G L order B shown c j e (from c j e)
-  pub complete : (c j : ℕ) → c < length (G .nodes) → j < slots B c → shown c j ≡ true → (e : Edge) (k : ℕ) → StepOn G L order B shown c j e k
+      → test c j e ≡ true → StepOn G L marks B shown c j e (from c j e)
+  pub complete : (c j : ℕ) → c < length (G .nodes) → j < slots B c → shown c j ≡ true → (e : Edge) (k : ℕ) → StepOn G L marks B shown c j e k
       → test c j e ≡ true

@@ -11,8 +11,8 @@ use Rattle.timing.specs.Graphs.{Design, Edge, Graph, edgesIn, startsAt}
 use Rattle.timing.specs.Marks.{PathList, pathsOf, mark}
 use Rattle.theorems.proofs.Marks.{begins}
 use Rattle.removal.specs.declared.rows.Layout.{Layout}
-use Rattle.removal.specs.Slots.{Bounds, slots, slotBase, slotMark}
-use Rattle.removal.specs.Rows.{boundsIn, orderIn, Tabled, slotPlace, flagIn}
+use Rattle.removal.specs.Slots.{slots, slotBase, slotMarks}
+use Rattle.removal.specs.Rows.{slotsIn, Tabled, slotPlace, flagIn}
 use Rattle.removal.specs.Flags.{ReachedRow, ShownRow}
 use Rattle.removal.specs.Result.{Slot, shownIn, shownBelow, numberOf, shownSlots, shownEdges, edgeAt}
 
@@ -28,16 +28,16 @@ firstFrom p zero i = i
 firstFrom p (suc n) i = cond (p i) i (firstFrom p n (suc i))
 
 -- the slot of copy a that has mark m
-unfoldable pub slotOf : PathList → List ℕ → Bounds → ℕ → List ℕ → ℕ
-slotOf L order B a m = firstFrom (λ i. sameMark (slotMark L order B a i) m) (slots B a) 0
+unfoldable pub slotOf : (ℕ → ℕ → List ℕ) → (ℕ → ℕ) → ℕ → List ℕ → ℕ
+slotOf marks B a m = firstFrom (λ i. sameMark (marks a i) m) (slots B a) 0
 
-module _ (L : PathList) (order : List ℕ) (B : Bounds) where
+module _ (L : PathList) (marks : ℕ → ℕ → List ℕ) (B : ℕ → ℕ) where
   -- whether slot j of copy c and edge e before it begin with a listed path; and else to which slot at the start of e they lead
   abbrev pub deadAlong : ℕ → ℕ → Edge → Bool
-  deadAlong c j e = begins (pathsOf L) (e .name ∷ slotMark L order B c j)
+  deadAlong c j e = begins (pathsOf L) (e .name ∷ marks c j)
 
   abbrev pub startSlot : ℕ → ℕ → Edge → ℕ
-  startSlot c j e = slotOf L order B (e .start) (mark (pathsOf L) (e .name ∷ slotMark L order B c j))
+  startSlot c j e = slotOf marks B (e .start) (mark (pathsOf L) (e .name ∷ marks c j))
 
   -- whether that slot is shown
   unfoldable pub fromShown : (ℕ → ℕ → Bool) → ℕ → ℕ → Edge → Bool
@@ -54,10 +54,10 @@ reachedBy flags c j = ltb 0 (flags c j)
 abbrev pub shownBy : (ℕ → ℕ → ℕ) → ℕ → ℕ → Bool
 shownBy flags c j = ltb 1 (flags c j)
 
-module _ (G : Graph) (L : PathList) (order : List ℕ) (B : Bounds) where
+module _ (G : Graph) (L : PathList) (marks : ℕ → ℕ → List ℕ) (B : ℕ → ℕ) where
   -- how many edges come to a slot from shown slots
   abbrev pub edgesTo : (ℕ → ℕ → Bool) → ℕ → ℕ → ℕ
-  edgesTo shown c j = countOf (fromShown L order B shown c j) (edgesIn G c)
+  edgesTo shown c j = countOf (fromShown L marks B shown c j) (edgesIn G c)
 
   -- whether a slot is shown, by the flags of lower copies
   unfoldable pub shows : (ℕ → ℕ → Bool) → (ℕ → ℕ → Bool) → ℕ → ℕ → Bool
@@ -93,26 +93,26 @@ module _ (G : Graph) (L : PathList) (order : List ℕ) (B : Bounds) where
 unfoldable pub StartMeets : Layout → List ℕ → List ℕ → List ℕ → List ℕ → List ℕ → ℕ → ℕ → ℕ → Type 0
 StartMeets l listed from to via s e j r =
     (D : Design) (L : PathList) (G : Graph) → Tabled D L G l listed from to via (take (l .slots) s)
-    → r ≡ startFlag L (orderIn l listed (take (l .slots) s)) (boundsIn l (take (l .slots) s)) (flagIn l s) (getD to e 0) j (edgeAt from to via e)
+    → r ≡ startFlag L (slotMarks D L G) (slotsIn l (take (l .slots) s)) (flagIn l s) (getD to e 0) j (edgeAt from to via e)
 
 -- how many edges come to a slot from shown ones
 pub record EdgesMeet (l : Layout) (listed from to via s : List ℕ) (c j r : ℕ) : Type 0 where
   pub few : r ≤ l .edges
   pub counts : (D : Design) (L : PathList) (G : Graph) → Tabled D L G l listed from to via (take (l .slots) s)
-      → r ≡ edgesTo G L (orderIn l listed (take (l .slots) s)) (boundsIn l (take (l .slots) s)) (shownBy (flagIn l s)) c j
+      → r ≡ edgesTo G L (slotMarks D L G) (slotsIn l (take (l .slots) s)) (shownBy (flagIn l s)) c j
 
 -- there is a slot, and no more copies and edges so far than the slots before it can have
 pub record SlotRoom (l : Layout) (s : List ℕ) (c j copies edges : ℕ) : Type 0 where
   pub copy : c < l .copies
-  pub slot : j < slots (boundsIn l (take (l .slots) s)) c
-  pub few-copies : copies ≤ slotBase (boundsIn l (take (l .slots) s)) c + j
+  pub slot : j < slots (slotsIn l (take (l .slots) s)) c
+  pub few-copies : copies ≤ slotBase (slotsIn l (take (l .slots) s)) c + j
   pub few-edges : edges ≤ copies * 65536
 
 -- a slot gets the next number if it is shown
-pub record SlotRule (G : Graph) (L : PathList) (order : List ℕ) (B : Bounds) (flags : ℕ → ℕ → ℕ) (flag c j copies edges more links : ℕ) : Type 0 where
-  pub flag-is : flag ≡ cond (shows G L order B (reachedBy flags) (shownBy flags) c j) (2 + copies) (flags c j)
-  pub more-is : more ≡ copies + oneIf (shows G L order B (reachedBy flags) (shownBy flags) c j)
-  pub links-is : links ≡ edges + cond (shows G L order B (reachedBy flags) (shownBy flags) c j) (edgesTo G L order B (shownBy flags) c j) 0
+pub record SlotRule (G : Graph) (L : PathList) (marks : ℕ → ℕ → List ℕ) (B : ℕ → ℕ) (flags : ℕ → ℕ → ℕ) (flag c j copies edges more links : ℕ) : Type 0 where
+  pub flag-is : flag ≡ cond (shows G L marks B (reachedBy flags) (shownBy flags) c j) (2 + copies) (flags c j)
+  pub more-is : more ≡ copies + oneIf (shows G L marks B (reachedBy flags) (shownBy flags) c j)
+  pub links-is : links ≡ edges + cond (shows G L marks B (reachedBy flags) (shownBy flags) c j) (edgesTo G L marks B (shownBy flags) c j) 0
 
 pub record SlotShown (l : Layout) (listed from to via s t : List ℕ) (c j copies edges more links : ℕ) : Type 0 where
   pub size : length t ≡ length s
@@ -121,36 +121,36 @@ pub record SlotShown (l : Layout) (listed from to via s t : List ℕ) (c j copie
   pub few-copies : more ≤ copies + 1
   pub few-edges : links ≤ more * 65536
   pub meets : (D : Design) (L : PathList) (G : Graph) → Tabled D L G l listed from to via (take (l .slots) s)
-      → SlotRule G L (orderIn l listed (take (l .slots) s)) (boundsIn l (take (l .slots) s)) (flagIn l s) (getD t (slotPlace l (take (l .slots) s) c j) 0) c j copies edges more links
+      → SlotRule G L (slotMarks D L G) (slotsIn l (take (l .slots) s)) (flagIn l s) (getD t (slotPlace l (take (l .slots) s) c j) 0) c j copies edges more links
 
 -- the pass has gone on over slots, up to slot j of copy d
 pub record PassedTo (l : Layout) (listed from to via s t : List ℕ) (c copies edges d j more links : ℕ) : Type 0 where
   pub size : length t ≡ length s
   pub tables : take (l .slots) t ≡ take (l .slots) s
-  pub past : (i : ℕ) → l .slots + slotBase (boundsIn l (take (l .slots) s)) (l .copies) ≤ i → getD t i 0 ≡ getD s i 0
-  pub few-copies : more ≤ slotBase (boundsIn l (take (l .slots) s)) d + j
+  pub past : (i : ℕ) → l .slots + slotBase (slotsIn l (take (l .slots) s)) (l .copies) ≤ i → getD t i 0 ≡ getD s i 0
+  pub few-copies : more ≤ slotBase (slotsIn l (take (l .slots) s)) d + j
   pub few-edges : links ≤ more * 65536
   pub meets : (D : Design) (L : PathList) (G : Graph) → Tabled D L G l listed from to via (take (l .slots) s) → (first : ℕ → ℕ → ℕ)
-      → Passed G L (orderIn l listed (take (l .slots) s)) (boundsIn l (take (l .slots) s)) first (flagIn l s) c 0 copies edges
-      → Passed G L (orderIn l listed (take (l .slots) s)) (boundsIn l (take (l .slots) s)) first (flagIn l t) d j more links
+      → Passed G L (slotMarks D L G) (slotsIn l (take (l .slots) s)) first (flagIn l s) c 0 copies edges
+      → Passed G L (slotMarks D L G) (slotsIn l (take (l .slots) s)) first (flagIn l t) d j more links
 
 -- at the end the flags of shown slots are their numbers; and so many slots are shown, with so many edges between them
-pub record ShowsAll (G : Graph) (L : PathList) (order : List ℕ) (B : Bounds) (flags : ℕ → ℕ → ℕ) (copies edges : ℕ) : Type 0 where
+pub record ShowsAll (G : Graph) (L : PathList) (marks : ℕ → ℕ → List ℕ) (B : ℕ → ℕ) (flags : ℕ → ℕ → ℕ) (copies edges : ℕ) : Type 0 where
   pub numbers : (c j : ℕ) → c < length (G .nodes) → j < slots B c → shownBy flags c j ≡ true → flags c j ≡ 2 + numberOf B (shownBy flags) c j
   pub copies-are : copies ≡ length (shownSlots G B (shownBy flags))
-  pub edges-are : edges ≡ length (shownEdges G B (shownBy flags) (edgesIn G) (fromShown L order B (shownBy flags)) (startSlot L order B))
+  pub edges-are : edges ≡ length (shownEdges G B (shownBy flags) (edgesIn G) (fromShown L marks B (shownBy flags)) (startSlot L marks B))
 
 -- pass 2 from the flags of s to those of t, where the flags of s are 0 or 1; where they say what is reached, those of t say what paths show
 pub record AllShown (l : Layout) (listed from to via s t : List ℕ) (copies edges : ℕ) : Type 0 where
   pub size : length t ≡ length s
   pub tables : take (l .slots) t ≡ take (l .slots) s
-  pub past : (i : ℕ) → l .slots + slotBase (boundsIn l (take (l .slots) s)) (l .copies) ≤ i → getD t i 0 ≡ getD s i 0
-  pub few-copies : copies ≤ slotBase (boundsIn l (take (l .slots) s)) (l .copies)
+  pub past : (i : ℕ) → l .slots + slotBase (slotsIn l (take (l .slots) s)) (l .copies) ≤ i → getD t i 0 ≡ getD s i 0
+  pub few-copies : copies ≤ slotBase (slotsIn l (take (l .slots) s)) (l .copies)
   pub few-edges : edges ≤ copies * 65536
   pub meets : (D : Design) (L : PathList) (G : Graph) → Tabled D L G l listed from to via (take (l .slots) s)
-      → ((c j : ℕ) → c < l .copies → j < slots (boundsIn l (take (l .slots) s)) c → flagIn l s c j ≤ 1)
-      → ShowsAll G L (orderIn l listed (take (l .slots) s)) (boundsIn l (take (l .slots) s)) (flagIn l t) copies edges
+      → ((c j : ℕ) → c < l .copies → j < slots (slotsIn l (take (l .slots) s)) c → flagIn l s c j ≤ 1)
+      → ShowsAll G L (slotMarks D L G) (slotsIn l (take (l .slots) s)) (flagIn l t) copies edges
   pub rows : (D : Design) (L : PathList) (G : Graph) → Tabled D L G l listed from to via (take (l .slots) s)
-      → ((c j : ℕ) → c < l .copies → j < slots (boundsIn l (take (l .slots) s)) c → flagIn l s c j ≤ 1)
-      → ((c : ℕ) → c < l .copies → ReachedRow G L (orderIn l listed (take (l .slots) s)) (boundsIn l (take (l .slots) s)) (reachedBy (flagIn l s)) c)
-      → (c : ℕ) → c < l .copies → ShownRow G L (orderIn l listed (take (l .slots) s)) (boundsIn l (take (l .slots) s)) (shownBy (flagIn l t)) c
+      → ((c j : ℕ) → c < l .copies → j < slots (slotsIn l (take (l .slots) s)) c → flagIn l s c j ≤ 1)
+      → ((c : ℕ) → c < l .copies → ReachedRow G L (slotMarks D L G) (slotsIn l (take (l .slots) s)) (reachedBy (flagIn l s)) c)
+      → (c : ℕ) → c < l .copies → ShownRow G L (slotMarks D L G) (slotsIn l (take (l .slots) s)) (shownBy (flagIn l t)) c

@@ -4,40 +4,74 @@ ghost use Prim.Native.Nat.{ℕ, _≤_};
 ghost use lib.ListN.{length, getD};
 ghost use Rattle.timing.specs.Marks.{pathList};
 ghost use Rattle.timing.specs.Tests.{candidates};
-ghost use Rattle.removal.specs.Search.{ofStarts, ofNodes};
-ghost use Rattle.removal.specs.Build.{LaidOut, Buildable, Built};
-ghost use Rattle.removal.specs.Counts.{ListCountable, CopiesCountable, Counting, Counted, Tallied, shares};
-use crate::bounds::fill_bounds;
-use crate::chains::clear;
+ghost use Rattle.removal.specs.Counts.{ofStarts, ofNodes};
+ghost use Rattle.removal.specs.Build.{LaidOut, Baseable, Based, Defaultable, Defaulted, Buildable, Built};
+ghost use Rattle.removal.specs.Counts.{ofStarts, ofNodes, ListCountable, CopiesCountable, Counting, Counted, Tallied, shares};
 use crate::chains::link_edges;
-use crate::listed::fill_rest;
-use crate::listed::start_at;
 use crate::names::name_edges;
 use crate::rows::Layout;
-use crate::tables::fill_tables;
+use classes::clear;
+use classes::lay_lists;
+use classes::list_tables;
+use entries::number_at;
 
 // The tables one after the other, with the slots last.
 pub(crate) fn layout(copies: usize, edges: usize, positions: usize) -> Layout
     requires { ⌜ (copies ≤ 16384) × (edges ≤ 65536) × (positions ≤ 8192) ⌝ }
     ensures { λ r. ⌜ LaidOut copies edges positions r ⌝ }
 {
-    let order = positions;
-    let rank = order + positions;
-    let link = rank + positions;
-    let low = link + positions;
-    let into = low + 4 * copies;
-    let named = into + (copies + edges);
+    let lists = lay_lists(positions);
+    let first = 6 * positions + 3;
+    let base = first + copies;
+    let into = base + copies + 1;
+    let default = into + (copies + edges);
+    let named = default + edges;
     Layout {
         copies,
         edges,
-        rest: 0,
-        order,
-        rank,
-        link,
-        low,
+        lists,
+        first,
+        base,
         into,
+        default,
         named,
         slots: named + edges,
+    }
+}
+
+// Fills in for each copy how many marks there are at the nodes below its own, and where its slots start. Gives the number of all slots.
+fn fill_bases(l: Layout, nodes: &[u32], scratch: &mut [u32], firsts: &[u32]) -> u32
+    requires { ⌜ Baseable l (now nodes) (now firsts) (now scratch) ⌝ }
+    ensures { λ r. ⌜ Based l (now (nodes .entry)) (now (firsts .entry)) (now (scratch .entry)) (now (scratch .exit)) r ⌝ }
+{
+    let mut total: u32 = 0;
+    let mut c = 0;
+    while c < nodes.len() {
+        let v = nodes[c] as usize;
+        let first = firsts[v];
+        let marks = firsts[v + 1] - first;
+        scratch[l.first + c] = first;
+        scratch[l.base + c] = total;
+        total = total + (marks + 1);
+        c += 1;
+    }
+    scratch[l.base + c] = total;
+    total
+}
+
+// Fills in for each edge where the class of its name alone stands: there the empty mark at its end leads.
+fn fill_defaults(l: Layout, via: &[u32], scratch: &mut [u32], roots: &[u16])
+    requires { ⌜ Defaultable l (now via) (now roots) (now scratch) ⌝ }
+    ensures { λ r. ⌜ Defaulted l (now (via .entry)) (now (roots .entry)) (now (scratch .entry)) (now (scratch .exit)) ⌝ }
+{
+    let loc = l.lists.loc;
+    let mut e = 0;
+    while e < via.len() {
+        let k = via[e] as usize;
+        let root = roots[k] as usize;
+        let word = scratch[loc + root];
+        scratch[l.default + e] = word;
+        e += 1;
     }
 }
 
@@ -59,14 +93,31 @@ pub(crate) fn build(
         (now (from .entry)) (now (to .entry)) (now (via .entry)) (now (scratch .entry)) (now (scratch .exit)) r ⌝ }
 {
     let l = layout(nodes.len(), from.len(), listed.len());
-    fill_rest(scratch, l.rest, lengths);
-    let mut firsts = [0u32; 8193];
-    fill_tables(l, starts, listed, lengths, scratch, &mut firsts);
-    let total = fill_bounds(l, starts, listed, lengths, nodes, scratch, &firsts);
+    let mut roots = [0u16; 16384];
+    let mut firsts = [0u32; 4097];
+    list_tables(
+        l.lists,
+        starts,
+        listed,
+        lengths,
+        scratch,
+        &mut roots,
+        &mut firsts,
+    );
+    let total = fill_bases(l, nodes, scratch, &firsts);
     link_edges(scratch, l.into, l.copies, to);
+    fill_defaults(l, via, scratch, &roots);
     name_edges(listed, via, scratch, l.named);
     clear(scratch, l.slots, total as usize);
     l
+}
+
+// The node at which the listed edge at a position starts.
+fn start_at(starts: &[u32], listed: &[u32], i: usize) -> u32
+    ensures { λ r. ⌜ r ≡ getD (now (starts .entry)) (getD (now (listed .entry)) i 0) 0 ⌝ }
+{
+    let k = number_at(listed, i) as usize;
+    number_at(starts, k)
 }
 
 // Counts the listed edges from place `first` to `end`, each at the node where it starts.

@@ -1,21 +1,10 @@
 // Edges by one of their ends, as chains: the first edge of each copy, and the next one of each edge.
 ghost use mathlib.Core.Path.{_≡_};
 ghost use Prim.Native.Nat.{ℕ, _+_, _≤_, _<_};
-ghost use lib.ListN.{length, getD, set, replicate};
-ghost use Rattle.removal.specs.Table.{table, Frame};
+ghost use lib.ListN.{length, getD, set};
+ghost use Rattle.classes.specs.Table.{table, Frame};
 ghost use Rattle.removal.specs.Links.{Linkable, Linked};
-use entries::zero;
-
-// Zeroes the n words from base on.
-pub(crate) fn clear(scratch: &mut [u32], base: usize, n: usize)
-    requires { ⌜ base + n ≤ length (now scratch) ⌝ }
-    ensures { λ r.
-        ⌜ (table (now (scratch .exit)) base n ≡ replicate n 0)
-        × Frame (now (scratch .entry)) (now (scratch .exit)) base n ⌝ }
-{
-    let end = base + n;
-    zero(&mut scratch[base..end]);
-}
+use classes::clear;
 
 // Stores at i what stands at j, and then the number of edge e plus one at j.
 fn link(scratch: &mut [u32], j: usize, i: usize, e: usize)

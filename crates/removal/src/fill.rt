@@ -5,7 +5,7 @@ ghost use lib.ListN.{getD};
 ghost use Rattle.removal.specs.Slots.{slots};
 ghost use Rattle.removal.specs.Result.{slotAt, slotEndpoint, shownIn, shownBelow, edgeAt};
 ghost use Rattle.removal.specs.Fill.{EdgesFilled, EdgeRoom, EdgesRoom, SlotsRoom, SlotsFilled, RowsShown, ResultFilled};
-ghost use Rattle.removal.specs.Fill.{boundsNow, shownNow, numberNow, ifShown, edgeNow, edgesNow};
+ghost use Rattle.removal.specs.Fill.{slotsNow, shownNow, numberNow, ifShown, edgeNow, edgesNow};
 use crate::rows::Layout;
 use crate::rows::slot_count;
 use crate::rows::slot_place;
@@ -34,7 +34,7 @@ fn fill_edge(
     ensures { λ r.
         ⌜ EdgesFilled l (now (listed .entry)) (now (from .entry)) (now (to .entry)) (now (via .entry))
         (now (scratch .entry))
-        (λ L G. edgeNow l (now (listed .entry)) (now (scratch .entry)) L (getD (now (to .entry)) e 0)
+        (λ D L G. edgeNow l (now (listed .entry)) (now (scratch .entry)) D L G (getD (now (to .entry)) e 0)
         j (edgeAt (now (from .entry)) (now (to .entry)) (now (via .entry)) e))
         at (now («room_from» .entry)) (now («room_to» .entry)) (now («room_via» .entry)) (now («room_from» .exit))
         (now («room_to» .exit)) (now («room_via» .exit)) r ⌝ }
@@ -71,7 +71,7 @@ fn fill_edges(
     requires { ⌜ number ≡ numberNow l (now scratch) c j ⌝ }
     ensures { λ r.
         ⌜ EdgesFilled l (now (listed .entry)) (now (from .entry)) (now (to .entry)) (now (via .entry))
-        (now (scratch .entry)) (λ L G. edgesNow l (now (listed .entry)) (now (scratch .entry)) L G (slotAt c j))
+        (now (scratch .entry)) (λ D L G. edgesNow l (now (listed .entry)) (now (scratch .entry)) D L G (slotAt c j))
         k (now («room_from» .entry)) (now («room_to» .entry)) (now («room_via» .entry))
         (now («room_from» .exit)) (now («room_to» .exit)) (now («room_via» .exit)) r ⌝ }
 {
@@ -127,7 +127,7 @@ fn fill_slot(
     room_via: &mut [u32],
     k: usize,
 ) -> usize
-    requires { ⌜ (c < l .copies) × (j < slots (boundsNow l (now scratch)) c) ⌝ }
+    requires { ⌜ (c < l .copies) × (j < slots (slotsNow l (now scratch)) c) ⌝ }
     requires { ⌜ SlotsRoom l (now listed) (now nodes) (now endpoint) (now from) (now to) (now via)
         (now scratch) (ifShown l (now scratch) c j) (numberNow l (now scratch) c j)
         (now «room_nodes») (now «room_endpoint») (now «room_from») (now «room_to») (now «room_via») k ⌝ }
@@ -183,10 +183,10 @@ fn fill_copy(
 ) -> usize
     requires { ⌜ c < l .copies ⌝ }
     requires { ⌜ SlotsRoom l (now listed) (now nodes) (now endpoint) (now from) (now to) (now via) (now scratch)
-        (shownIn (shownNow l (now scratch)) c (slots (boundsNow l (now scratch)) c))
+        (shownIn (shownNow l (now scratch)) c (slots (slotsNow l (now scratch)) c))
         (numberNow l (now scratch) c 0) (now «room_nodes») (now «room_endpoint») (now «room_from») (now «room_to») (now «room_via») k ⌝ }
     ensures { λ r.
-        let shown = shownIn (shownNow l (now (scratch .entry))) c (slots (boundsNow l (now (scratch .entry))) c) in
+        let shown = shownIn (shownNow l (now (scratch .entry))) c (slots (slotsNow l (now (scratch .entry))) c) in
         ⌜ SlotsFilled l (now (listed .entry)) (now (nodes .entry)) (now (endpoint .entry)) (now (from .entry)) (now (to .entry))
         (now (via .entry)) (now (scratch .entry)) shown (numberNow l (now (scratch .entry)) c 0)
         (now («room_nodes» .entry)) (now («room_endpoint» .entry)) (now («room_from» .entry)) (now («room_to» .entry)) (now («room_via» .entry))
@@ -236,7 +236,7 @@ pub(crate) fn fill_all(
     room_via: &mut [u32],
 )
     requires { ⌜ SlotsRoom l (now listed) (now nodes) (now endpoint) (now from) (now to) (now via) (now scratch)
-        (shownBelow (boundsNow l (now scratch)) (shownNow l (now scratch)) (l .copies)) 0
+        (shownBelow (slotsNow l (now scratch)) (shownNow l (now scratch)) (l .copies)) 0
         (now «room_nodes») (now «room_endpoint») (now «room_from») (now «room_to») (now «room_via») 0 ⌝ }
     requires { ⌜ RowsShown l (now listed) (now endpoint) (now from) (now to) (now via) (now scratch) ⌝ }
     ensures { λ r.

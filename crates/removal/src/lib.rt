@@ -13,10 +13,11 @@
 //   was, so that the candidates are counted without it;
 // - `remove_tested`, `size_tested`: the numbers of the nodes, their endpoint numbers and the numbers of the edges, by
 //   which a design is lent as a graph, 16,384, 16,384 and 65,536 bytes;
-// - `build::build`: where the places of each node begin, 32,772 bytes;
-// - `tables::fill_tables`: the positions level by level, their ranks and their codes, 32,768 bytes each;
-// - `names::name_edges`: a flag for each edge of the design, 65,536 bytes.
-// The most at a time is 229,380 bytes: those of `remove_tested` or `size_tested`, `build` and `fill_tables`.
+// - `build::build`: the class of each edge alone, 32,768 bytes, and how many marks there are at the nodes below
+//   each, 16,388 bytes;
+// - `classes::list_tables`: four words for each path, 49,152 bytes, or 1,536 for at most 64 paths;
+// - `names::name_edges`: a flag for each edge of the design, 16,384 bytes.
+// The most at a time is 196,612 bytes: those of `remove_tested` or `size_tested`, `build` and `list_tables`.
 ghost use mathlib.Core.Path.{_≡_};
 ghost use lib.ListN.{length};
 ghost use Rattle.timing.specs.Graphs.{design};
@@ -41,20 +42,14 @@ use timing::Verdict;
 use verdicts::graph_sizes;
 use verdicts::then;
 
-mod bounds;
 mod build;
 mod chains;
 mod fill;
-mod links;
-mod listed;
 mod names;
 mod numbers;
-mod ranks;
 mod remove;
 mod rows;
 mod show;
-mod step;
-mod tables;
 
 // The tests of a design and a list: 30, with those of the call's other slices between, and then 10
 // to 16 and 20 to 24.

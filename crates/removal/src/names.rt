@@ -7,7 +7,7 @@ ghost use Rattle.removal.specs.Names.{Flagged, Noted, NotedAt, Named};
 use entries::number_at;
 
 // Sets word k to 1, if there is one.
-fn flag(names: &mut [u32], k: usize)
+fn flag(names: &mut [u8], k: usize)
     ensures { λ r. ⌜ Flagged (now (names .entry)) (now (names .exit)) k ⌝ }
 {
     if k < names.len() {
@@ -16,7 +16,7 @@ fn flag(names: &mut [u32], k: usize)
 }
 
 // Flags the listed edges.
-fn flag_listed(names: &mut [u32], listed: &[u32])
+fn flag_listed(names: &mut [u8], listed: &[u32])
     ensures { λ r.
         ⌜ Noted (now (listed .entry)) (now (names .entry)) (now (names .exit)) (length (now (listed .entry))) ⌝ }
 {
@@ -29,14 +29,14 @@ fn flag_listed(names: &mut [u32], listed: &[u32])
 }
 
 // The flag of an edge, and 1 where there is none.
-fn flag_at(names: &[u32], k: usize) -> u32
+fn flag_at(names: &[u8], k: usize) -> u32
     ensures { λ r. ⌜ NotedAt (now (names .entry)) k r ⌝ }
 {
-    if k < names.len() { names[k] } else { 1 }
+    if k < names.len() { names[k] as u32 } else { 1 }
 }
 
 // Stores a word for each edge of the graph: 0 only if the edge that it names is not listed.
-fn name_with(names: &mut [u32], listed: &[u32], via: &[u32], scratch: &mut [u32], base: usize)
+fn name_with(names: &mut [u8], listed: &[u32], via: &[u32], scratch: &mut [u32], base: usize)
     requires { ⌜ base + length (now via) ≤ length (now scratch) ⌝ }
     ensures { λ r.
         ⌜ Named (now (listed .entry)) (now (via .entry)) (now (scratch .entry))
@@ -58,6 +58,6 @@ pub(crate) fn name_edges(listed: &[u32], via: &[u32], scratch: &mut [u32], base:
         ⌜ Named (now (listed .entry)) (now (via .entry)) (now (scratch .entry))
         (now (scratch .exit)) base (length (now (via .entry))) ⌝ }
 {
-    let mut names = [0u32; 16384];
+    let mut names = [0u8; 16384];
     name_with(&mut names, listed, via, scratch, base);
 }

@@ -23,9 +23,10 @@ struct Finding {
     counts: Counts,
 }
 
-// What a search answers: this, or 31.
+// What a search answers: this, that there is no copy, or 31.
 enum Searched {
     Found(Finding),
+    Nothing,
     Refused(Refusal),
 }
 
@@ -54,7 +55,8 @@ fn find(
     Finding { layout, counts }
 }
 
-// 31, and then the passes over the slots. A removal and its size share this function and its frame: the array by which the candidates
+// 31, and then the passes over the slots. Of a graph without a copy nothing is left to find, and its tables would not fit: a few of their
+// words are there for no copy. A removal and its size share this function and its frame: the array by which the candidates
 // are counted is gone when the others are made.
 fn search(
     starts: &[u32],
@@ -76,6 +78,9 @@ fn search(
     let verdict = scratch_test(scratch.len(), candidates, listed.len(), from.len());
     if let Verdict::Refused(r) = verdict {
         return Searched::Refused(r);
+    }
+    if nodes.len() == 0 {
+        return Searched::Nothing;
     }
     let finding = find(
         starts,
@@ -203,6 +208,13 @@ pub(crate) fn remove(
             zero(scratch);
             made
         }
+        Searched::Nothing => {
+            zero(scratch);
+            GraphMade::Counts {
+                copies: 0,
+                edges: 0,
+            }
+        }
         Searched::Refused(r) => GraphMade::Refused(r),
     }
 }
@@ -239,6 +251,13 @@ pub(crate) fn size(
         Searched::Found(finding) => {
             zero(scratch);
             largest_answer(finding.counts.copies, finding.counts.edges)
+        }
+        Searched::Nothing => {
+            zero(scratch);
+            GraphMade::Counts {
+                copies: 0,
+                edges: 0,
+            }
         }
         Searched::Refused(r) => GraphMade::Refused(r),
     }

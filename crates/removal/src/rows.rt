@@ -4,71 +4,64 @@ ghost use Prim.Native.Nat.{_+_, _*_, _<_};
 ghost use lib.ListN.{getD, take, set};
 ghost use Rattle.removal.specs.Slots.{slots};
 ghost use Rattle.removal.specs.Chains.{edgesAt};
-ghost use Rattle.removal.specs.Rows.{boundsIn, Held, Ready, slotPlace, flagIn};
-ghost use Rattle.removal.specs.Along.{StepAlong};
+ghost use Rattle.removal.specs.Rows.{slotsIn, Held, Ready, slotPlace, flagIn};
+ghost use Rattle.removal.specs.Along.{StepSays, StepAlong};
 ghost use Rattle.removal.specs.Reach.{Flagging, FromSlot, FromList, FromAll, endSet, RowsReached, AllZero};
-use crate::step::Step;
-use crate::step::slot_span;
-use crate::step::step_back;
+use classes::Lists;
+use classes::step;
 use entries::number_at;
 
-// `rest`, `order`, `rank` and `link` have a word for each listed edge. `low` has four tables of a word for each
-// copy: the bounds of the copy's places in the order (`Bounds` in specs/), and where its slots start. `into` has the
-// chains of edges by end: a word for each copy, and then one for each edge. `named` has a word for each edge, which is
-// 0 if the edge names no listed one. The slots stand last.
+// `lists` tells where the tables of the list stand (crate `classes`). `first` has a word for each copy: how many marks there are at
+// the nodes below its own; and `base` where its slots start, with one word more, where the last ones end. `into` has the chains of
+// edges by end: a word for each copy, and then one for each edge. `default` has a word for each edge: the slot at its start to which
+// the empty mark at its end leads, or that it leads nowhere. `named` has a word for each edge, which is 0 if the edge names no
+// listed one. The slots stand last.
 pub(crate) struct Layout {
     pub(crate) copies: usize,
     pub(crate) edges: usize,
-    pub(crate) rest: usize,
-    pub(crate) order: usize,
-    pub(crate) rank: usize,
-    pub(crate) link: usize,
-    pub(crate) low: usize,
+    pub(crate) lists: Lists,
+    pub(crate) first: usize,
+    pub(crate) base: usize,
     pub(crate) into: usize,
+    pub(crate) default: usize,
     pub(crate) named: usize,
     pub(crate) slots: usize,
 }
 
-// Where the positions of a copy's node begin in the order: its tails from `low` to `middle`, whole
-// paths from there to `high`.
-fn low_at(l: Layout, scratch: &[u32], c: usize) -> usize
-    requires { ⌜ Held l (now scratch) × (c < l .copies) ⌝ }
-    ensures { λ r. ⌜ r ≡ boundsIn l (take (l .slots) (now (scratch .entry))) .low c ⌝ }
-{
-    number_at(scratch, l.low + c) as usize
-}
-
-fn middle_at(l: Layout, scratch: &[u32], c: usize) -> usize
-    requires { ⌜ Held l (now scratch) × (c < l .copies) ⌝ }
-    ensures { λ r. ⌜ r ≡ boundsIn l (take (l .slots) (now (scratch .entry))) .middle c ⌝ }
-{
-    number_at(scratch, l.low + l.copies + c) as usize
-}
-
-fn high_at(l: Layout, scratch: &[u32], c: usize) -> usize
-    requires { ⌜ Held l (now scratch) × (c < l .copies) ⌝ }
-    ensures { λ r. ⌜ r ≡ boundsIn l (take (l .slots) (now (scratch .entry))) .high c ⌝ }
-{
-    number_at(scratch, l.low + 2 * l.copies + c) as usize
+// What an edge and then a mark are: they begin with a listed path, or they have the mark of a slot.
+pub(crate) enum Step {
+    Dead,
+    Live(usize),
 }
 
 // Where slot j of copy c stands.
 pub(crate) fn slot_place(l: Layout, scratch: &[u32], c: usize, j: usize) -> usize
-    requires { ⌜ Held l (now scratch) × (c < l .copies) × (j < slots (boundsIn l (take (l .slots) (now scratch))) c) ⌝ }
+    requires { ⌜ Held l (now scratch) × (c < l .copies) × (j < slots (slotsIn l (take (l .slots) (now scratch))) c) ⌝ }
     ensures { λ r. ⌜ r ≡ slotPlace l (take (l .slots) (now (scratch .entry))) c j ⌝ }
 {
-    l.slots + number_at(scratch, l.low + 3 * l.copies + c) as usize + j
+    l.slots + number_at(scratch, l.base + c) as usize + j
 }
 
 // How many slots a copy has.
 pub(crate) fn slot_count(l: Layout, scratch: &[u32], c: usize) -> usize
     requires { ⌜ Held l (now scratch) × (c < l .copies) ⌝ }
-    ensures { λ r. ⌜ r ≡ slots (boundsIn l (take (l .slots) (now (scratch .entry)))) c ⌝ }
+    ensures { λ r. ⌜ r ≡ slots (slotsIn l (take (l .slots) (now (scratch .entry)))) c ⌝ }
 {
-    middle_at(l, scratch, c) - low_at(l, scratch, c) + 1
+    let end = number_at(scratch, l.base + c + 1) as usize;
+    end - number_at(scratch, l.base + c) as usize
 }
 
-// The slot at the start of edge e that slot j at its end leads to, found in the order of positions.
+// The slot at the start of edge e that the word of a step says.
+fn step_of(word: u32) -> Step
+    ensures { λ r. ⌜ StepSays word r ⌝ }
+{
+    if word == 32767 {
+        return Step::Dead;
+    }
+    Step::Live(word as usize)
+}
+
+// The slot at the start of edge e that slot j at its end leads to, which is not that of the empty mark: found by the tables of the list.
 fn step_listed(
     l: Layout,
     listed: &[u32],
@@ -81,28 +74,16 @@ fn step_listed(
 ) -> Step
     requires { ⌜ Ready l (now listed) (now from) (now to) (now via) (now scratch)
         × (e < l .edges)
-        × (j < slots (boundsIn l (take (l .slots) (now scratch))) (getD (now to) e 0)) ⌝ }
+        × (0 < j)
+        × (j < slots (slotsIn l (take (l .slots) (now scratch))) (getD (now to) e 0)) ⌝ }
     ensures { λ r.
         ⌜ StepAlong l (now (listed .entry)) (now (from .entry)) (now (to .entry))
         (now (via .entry)) (take (l .slots) (now (scratch .entry))) e j r ⌝ }
 {
-    let a = number_at(from, e) as usize;
     let c = number_at(to, e) as usize;
-    let first = low_at(l, scratch, c);
-    let span = slot_span(l, scratch, first, j);
-    let low = low_at(l, scratch, a);
-    let middle = middle_at(l, scratch, a);
-    let high = high_at(l, scratch, a);
-    step_back(
-        l,
-        listed,
-        scratch,
-        low,
-        middle,
-        high,
-        number_at(via, e),
-        span,
-    )
+    let first = number_at(scratch, l.first + c) as usize;
+    let default = number_at(scratch, l.default + e);
+    step_of(step(scratch, l.lists, first + j, number_at(via, e), default))
 }
 
 // The slot at the start of edge e that slot j at its end leads to. An edge that names no
@@ -119,7 +100,7 @@ pub(crate) fn step_along(
 ) -> Step
     requires { ⌜ Ready l (now listed) (now from) (now to) (now via) (now scratch)
         × (e < l .edges)
-        × (j < slots (boundsIn l (take (l .slots) (now scratch))) (getD (now to) e 0)) ⌝ }
+        × (j < slots (slotsIn l (take (l .slots) (now scratch))) (getD (now to) e 0)) ⌝ }
     ensures { λ r.
         ⌜ StepAlong l (now (listed .entry)) (now (from .entry)) (now (to .entry))
         (now (via .entry)) (take (l .slots) (now (scratch .entry))) e j r ⌝ }
@@ -127,12 +108,15 @@ pub(crate) fn step_along(
     if number_at(scratch, l.named + e) == 0 {
         return Step::Live(0);
     }
+    if j == 0 {
+        return step_of(number_at(scratch, l.default + e));
+    }
     step_listed(l, listed, from, to, via, scratch, e, j)
 }
 
 // Flags a slot as reached.
 fn flag_reached(l: Layout, scratch: &mut [u32], c: usize, j: usize)
-    requires { ⌜ Held l (now scratch) × (c < l .copies) × (j < slots (boundsIn l (take (l .slots) (now scratch))) c) ⌝ }
+    requires { ⌜ Held l (now scratch) × (c < l .copies) × (j < slots (slotsIn l (take (l .slots) (now scratch))) c) ⌝ }
     ensures { λ r.
         ⌜ now (scratch .exit) ≡ set (now (scratch .entry))
         (slotPlace l (take (l .slots) (now (scratch .entry))) c j) 1 ⌝ }
@@ -154,7 +138,7 @@ fn push_edge(
 )
     requires { ⌜ Ready l (now listed) (now from) (now to) (now via) (now scratch)
         × (e < l .edges)
-        × (j < slots (boundsIn l (take (l .slots) (now scratch))) (getD (now to) e 0))
+        × (j < slots (slotsIn l (take (l .slots) (now scratch))) (getD (now to) e 0))
         × (0 < flagIn l (now scratch) (getD (now to) e 0) j) ⌝ }
     ensures { λ r.
         ⌜ Flagging l (now (listed .entry)) (now (from .entry)) (now (to .entry))
@@ -181,7 +165,7 @@ fn push_edges(
 )
     requires { ⌜ Ready l (now listed) (now from) (now to) (now via) (now scratch)
         × (c < l .copies)
-        × (j < slots (boundsIn l (take (l .slots) (now scratch))) c)
+        × (j < slots (slotsIn l (take (l .slots) (now scratch))) c)
         × (0 < flagIn l (now scratch) c j) ⌝ }
     ensures { λ r.
         ⌜ Flagging l (now (listed .entry)) (now (from .entry)) (now (to .entry))
@@ -210,7 +194,7 @@ fn push_slot(
 )
     requires { ⌜ Ready l (now listed) (now from) (now to) (now via) (now scratch)
         × (c < l .copies)
-        × (j < slots (boundsIn l (take (l .slots) (now scratch))) c) ⌝ }
+        × (j < slots (slotsIn l (take (l .slots) (now scratch))) c) ⌝ }
     ensures { λ r.
         ⌜ Flagging l (now (listed .entry)) (now (from .entry)) (now (to .entry))
         (now (via .entry)) (take (l .slots) (now (scratch .entry))) (now (scratch .entry))

@@ -3,13 +3,13 @@ ghost use mathlib.Core.Path.{_≡_};
 ghost use Prim.Native.Nat.{_+_, _*_, _<_, _≤_};
 ghost use lib.ListN.{length, getD, take};
 ghost use Rattle.removal.specs.Slots.{slots, slotBase};
-ghost use Rattle.removal.specs.Rows.{boundsIn, Ready};
+ghost use Rattle.removal.specs.Rows.{slotsIn, Ready};
 ghost use Rattle.removal.specs.Show.{StartMeets, EdgesMeet, SlotRoom, SlotShown, PassedTo, AllShown};
 use crate::rows::Layout;
+use crate::rows::Step;
 use crate::rows::slot_count;
 use crate::rows::slot_place;
 use crate::rows::step_along;
-use crate::step::Step;
 
 // How many slots are shown, and how many edges come to them from shown ones.
 pub(crate) struct Counts {
@@ -29,7 +29,7 @@ pub(crate) fn shown_start(
     j: usize,
 ) -> u32
     requires { ⌜ Ready l (now listed) (now from) (now to) (now via) (now scratch) ⌝ }
-    requires { ⌜ (e < l .edges) × (j < slots (boundsIn l (take (l .slots) (now scratch))) (getD (now to) e 0)) ⌝ }
+    requires { ⌜ (e < l .edges) × (j < slots (slotsIn l (take (l .slots) (now scratch))) (getD (now to) e 0)) ⌝ }
     ensures { λ r.
         ⌜ StartMeets l (now (listed .entry)) (now (from .entry))
         (now (to .entry)) (now (via .entry)) (now (scratch .entry)) e j r ⌝ }
@@ -57,7 +57,7 @@ fn shown_edges(
     j: usize,
 ) -> usize
     requires { ⌜ Ready l (now listed) (now from) (now to) (now via) (now scratch) ⌝ }
-    requires { ⌜ (c < l .copies) × (j < slots (boundsIn l (take (l .slots) (now scratch))) c) ⌝ }
+    requires { ⌜ (c < l .copies) × (j < slots (slotsIn l (take (l .slots) (now scratch))) c) ⌝ }
     ensures { λ r.
         ⌜ EdgesMeet l (now (listed .entry)) (now (from .entry))
         (now (to .entry)) (now (via .entry)) (now (scratch .entry)) c j r ⌝ }
@@ -126,7 +126,7 @@ fn show_copy(
 ) -> Counts
     requires { ⌜ Ready l (now listed) (now from) (now to) (now via) (now scratch) ⌝ }
     requires { ⌜ (c < l .copies)
-        × (counts .copies ≤ slotBase (boundsIn l (take (l .slots) (now scratch))) c)
+        × (counts .copies ≤ slotBase (slotsIn l (take (l .slots) (now scratch))) c)
         × (counts .edges ≤ counts .copies * 65536) ⌝ }
     ensures { λ r.
         ⌜ PassedTo l (now (listed .entry)) (now (from .entry)) (now (to .entry))

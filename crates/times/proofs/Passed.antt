@@ -27,6 +27,7 @@ pub record Ready (D : Design) (S : GraphSlices) (t : ℕ) (lent : Verdict) : Typ
   pub early : Fit (D .early) S
   pub onward : Onward (graphOf S)
   pub allowed : t ≤ 1000000000
+  pub endpoints : length (S .endpoints) ≡ length (S .nodes)
   pub places : lent ≡ Passed
 
 next-weaker : {A : Type 0} (p q : A → A → Bool) → ((x y : A) → T (p x y) → T (q x y)) → (l : List A) → T (eachNext p l) → T (eachNext q l)
@@ -44,9 +45,9 @@ rises-end e f t =
     (or-cases (ltb (e .end) (f .end)) (eqb (e .end) (f .end) && ltb (e .name) (f .name)) t))
 
 -- of any delay of the design that is in range
-graph-fit : (D : Design) (S : GraphSlices) (delays : List ℤ) → ((k : ℕ) → k < length (D .starts) → natAbs (delayOf delays k) ≤ 1000000)
+graph-fit : (D : Design) (S : GraphSlices) (delays : List ℤ) → length delays ≡ length (D .starts) → ((k : ℕ) → k < length (D .starts) → natAbs (delayOf delays k) ≤ 1000000)
     → designSizes D ≡ Passed → designTests D ≡ Passed → graphSizes S ≡ Passed → T (wellFormed D (graphOf S)) → Fit delays S
-graph-fit D S delays range ds dt gs w =
+graph-fit D S delays size range ds dt gs w =
     let sizes = room-passed (roomOf S) gs in
     let f = formed D (graphOf S) w in
     let r = wellFormed-legal D (graphOf S) ds dt w .rising in
@@ -56,6 +57,7 @@ graph-fit D S delays range ds dt gs w =
       copies = leb→le (length (S .nodes)) 16384 (and-left (leb (length (S .nodes)) 16384) (leb (length (graphOf S .edges)) 65536) (f .few));
       up = r .up;
       inside = r .inside;
+      named = λ e m. omega (arith, f .fits e m .named, size);
       range = λ e m. range (e .name) (f .fits e m .named);
       order = next-weaker edgeRises (λ e f. leb (e .end) (f .end)) rises-end (graphOf S .edges) (f .rises);
     }
@@ -65,9 +67,10 @@ passed-ready D S t lent p =
     let x = timing-passed D S t lent p in
     let f = design-fits D (x .sizes) (x .tests) in
     record {
-      late = graph-fit D S (D .late) (f .slow) (x .sizes) (x .tests) (x .slices) (x .well);
-      early = graph-fit D S (D .early) (f .quick) (x .sizes) (x .tests) (x .slices) (x .well);
+      late = graph-fit D S (D .late) (f .late) (f .slow) (x .sizes) (x .tests) (x .slices) (x .well);
+      early = graph-fit D S (D .early) (f .early) (f .quick) (x .sizes) (x .tests) (x .slices) (x .well);
       onward = wellFormed-legal D (graphOf S) (x .sizes) (x .tests) (x .well) .onward;
       allowed = x .allowed;
+      endpoints = room-passed (roomOf S) (x .slices) .0;
       places = x .places;
     }

@@ -1,5 +1,5 @@
--- The passes over the edges come to the times of the definitions. Edges stand by end copy and rise: where an edge is met,
--- every edge into its start stands before it, and every edge out of its end after it.
+-- The pass back over the edges comes to the required times of the definition. Edges stand by end copy and rise: where an edge is met, every edge
+-- out of its end stands after it.
 use Prim.Native.Nat.{ℕ, suc, _+_, _-_, _≤_, _<_}
 use native.Mathlib.Omega.{arith}
 use native.Mathlib.Decide.{decLt}
@@ -9,55 +9,28 @@ use mathlib.Core.Logic.{⊎-elim}
 use mathlib.Core.Bool.{Bool, true, false, cond}
 use mathlib.Core.List.{List, [], _∷_, _++_, map, List·Memᴰ, List·Memᴰ·not-nil, List·Memᴰ·cases-cons, List·Memᴰ·append-cases, Memᴰ·append-left, Memᴰ·map}
 use lib.Dec.{T, eqb, leb, leb→le, le→leb}
-use lib.IntN.{ℤ, pos, negsuc, natAbs, _+ℤ_, _-ℤ_}
+use lib.IntN.{ℤ, pos, negsuc, natAbs, _-ℤ_}
 use lib.ListN.{length, getD, take, drop, take-append-drop, drop-of-length-le, List·getD-eq-default}
-use lib.Seq.{take-suc, drop-cons, take-all}
-use lib.Signed.{ltZ}
+use lib.Seq.{take-suc, drop-cons}
 use borrow.Author.Tests.{eq-eqb, ne-eqb}
 use Rattle.timing.specs.Lists.{keep, upto}
-use Rattle.timing.specs.Graphs.{Edge, edge, Graph, endpointOf, edgesIn, edgesOut, startsAt, endsAt, edgesOf, delayAlong}
+use Rattle.timing.specs.Graphs.{Edge, edge, Graph, endpointOf, edgesOut, endsAt, edgesOf, delayAlong}
 use Rattle.timing.specs.Times.{smaller, largest, smallest, arrivalAt, requiredAt, slackAt, earliestAt}
 use Rattle.timing.specs.Calls.{GraphSlices, graphSlices, graphOf}
-use Rattle.timing.proofs.Ints.{up, sub-parts, abs-is, eq-parts, ltZ-true, ltZ-false}
+use Rattle.timing.proofs.Ints.{up, sub-parts, abs-is}
 use Rattle.theorems.proofs.Sorting.{Sorted}
 use Rattle.theorems.proofs.Counting.{next-sorted}
-use Rattle.theorems.proofs.Lists.{getD-mem, nil-is}
+use Rattle.theorems.proofs.Lists.{getD-mem}
 use Rattle.theorems.proofs.Runs.{Rising, Onward, mem-out, runs-to-ends}
-use Rattle.theorems.proofs.Extremes.{AtMost, AtLeast, Picks, Some, nil-or-some, larges, smalls}
-use Rattle.theorems.proofs.Times.{Levels, copy-levels, arrival-size, required-size, earliest-size, arrival-source, arrival-edges, required-end, required-edges, earliest-source, earliest-edges}
-use Rattle.times.specs.Passes.{noArrival, noRequired, noEarliest, timeOr, firstRequired, Step, stepped, lowered, delayOf, edgeAt, Fit, Small}
+use Rattle.theorems.proofs.Extremes.{AtLeast, smalls}
+use Rattle.theorems.proofs.Times.{Levels, copy-levels, arrival-size, required-size, earliest-size, required-end, required-edges}
+use Rattle.times.specs.Passes.{noRequired, firstRequired, lowered, delayOf, Over, edgeAt, Fit, Small}
 use Rattle.theorems.proofs.Elements.{size-each, at-each, set-each, each-same}
-use Rattle.theorems.proofs.Splits.{keep-front, keep-back, keep-yes, keep-no, later, earlier, length-edges, getD-edges, best-snoc, best-cons, best-low, best-high}
+use Rattle.theorems.proofs.Splits.{keep-back, earlier, length-edges, getD-edges, best-cons, best-high}
 
--- a time that is there
-or-there : (none first z : ℤ) → (z ≡ none → ⊥) → timeOr none first z ≡ z
-or-there none first z f = go (ltZ z none) refl (ltZ none z) refl
-  where
-    go : (a : Bool) → ltZ z none ≡ a → (b : Bool) → ltZ none z ≡ b → cond a z (cond b z first) ≡ z
-    go true p b q = refl
-    go false p true q = refl
-    go false p false q = absurd (f (eq-parts z none (omega (arith, ltZ-false z none p, ltZ-false none z q))))
-
--- and one that is not
-or-first : (none first : ℤ) → timeOr none first none ≡ first
-or-first none first = go (ltZ none none) refl
-  where
-    go : (a : Bool) → ltZ none none ≡ a → cond a none (cond a none first) ≡ first
-    go true p = absurd (omega (arith, ltZ-true none none p))
-    go false p = refl
-
--- no time comes near the numbers that stand for none
-far-below : (z : ℤ) → natAbs z ≤ 20000000000 → AtMost noArrival z
-far-below z h = omega (arith, abs-is z)
-
+-- no time comes near the number that stands for none
 far-above : (z : ℤ) → natAbs z ≤ 20000000000 → AtLeast noRequired z
 far-above z h = omega (arith, abs-is z)
-
-not-below : (z : ℤ) → natAbs z ≤ 20000000000 → z ≡ noArrival → ⊥
-not-below z h e = omega (arith, ap natAbs e)
-
-not-above : (z : ℤ) → natAbs z ≤ 20000000000 → z ≡ noRequired → ⊥
-not-above z h e = omega (arith, ap natAbs e)
 
 near : (t z : ℤ) → natAbs z ≤ natAbs t + natAbs (t -ℤ z)
 near t (pos n) = omega (arith, sub-parts t (pos n), abs-is t, abs-is (t -ℤ pos n))
@@ -80,24 +53,12 @@ small-each f n h = record { bound = λ c. go c (decLt c n) }
 abbrev pub noLater : Edge → Edge → Bool
 noLater e f = leb (e .end) (f .end)
 
--- what an edge gives its end, where `at` is a time of each copy, and its start for required time
+-- what an edge gives its start
 module _ (delays : List ℤ) (S : GraphSlices) where
-  unfoldable pub overIn : (ℕ → ℤ) → Edge → ℤ
-  overIn at e = at (e .start) +ℤ delayOf delays (e .name)
-
   unfoldable pub overOut : ℕ → Edge → ℤ
   overOut t e = requiredAt (delayOf delays) (pos t) (graphOf S) (e .end) -ℤ delayOf delays (e .name)
 
-  -- the best time at copy c after the first k edges, where `none` stands for no time yet; and its required time after the edges from k on
-  abbrev pub bestAfter : (List ℤ → ℤ) → ℤ → (ℕ → ℤ) → ℕ → ℕ → ℤ
-  bestAfter best none at k c = best (none ∷ map (overIn at) (keep (λ e. eqb (e .end) c) (take k (graphOf S .edges))))
-
-  abbrev pub arrivalAfter : ℕ → ℕ → ℤ
-  arrivalAfter = bestAfter largest noArrival (arrivalAt (delayOf delays) (pos 0) (graphOf S))
-
-  abbrev pub earliestAfter : ℕ → ℕ → ℤ
-  earliestAfter = bestAfter smallest noEarliest (earliestAt (delayOf delays) (graphOf S))
-
+  -- the required time at copy c after the edges from k on
   abbrev pub requiredFrom : ℕ → ℕ → ℕ → ℤ
   requiredFrom t k c =
       smallest (map (overOut t) (keep (λ e. eqb (e .start) c) (drop k (graphOf S .edges))) ++ (firstRequired (endpointOf (graphOf S) c) (pos t) ∷ []))
@@ -141,32 +102,23 @@ module _ (delays : List ℤ) (S : GraphSlices) (F : Fit delays S) where
     pub start-in : getD (S .starts) k 0 < n
     start-in = omega (arith, F .up (edgeAt S k) edge-in, end-in)
 
-    pub delay-small : natAbs (d (getD (S .names) k 0)) ≤ 1000000
-    delay-small = F .range (edgeAt S k) edge-in
+    -- it can be passed, from the time at either of its copies
+    pub edge-over : (side : List ℕ) (times : List ℤ) → k < length side → getD side k 0 < length times → natAbs (getD times (getD side k 0) (pos 0)) ≤ 20000000000
+        → Over delays side (S .names) times k
+    edge-over side times i c t = record {
+      edge = i;
+      name = omega (arith, F .names, h);
+      copy-in = c;
+      name-in = F .named (edgeAt S k) edge-in;
+      time = t;
+      delay = F .range (edgeAt S k) edge-in;
+    }
 
     front : take (k + 1) (graphOf S .edges) ≡ take k (graphOf S .edges) ++ (edgeAt S k ∷ [])
     front = rw (add-one k) (take-suc (graphOf S .edges) k (edge 0 0 0) inner ∙ ap (λ (e : Edge). take k (graphOf S .edges) ++ (e ∷ [])) edge-is)
 
     back : drop k (graphOf S .edges) ≡ edgeAt S k ∷ drop (k + 1) (graphOf S .edges)
     back = rw (add-one k) (drop-cons (graphOf S .edges) k (edge 0 0 0) inner ∙ ap (λ (e : Edge). e ∷ drop (suc k) (graphOf S .edges)) edge-is)
-
-    -- every edge into its start stands before it
-    into-start : keep (λ e. eqb (e .end) (edgeAt S k .start)) (take k (graphOf S .edges)) ≡ edgesIn (graphOf S) (edgeAt S k .start)
-    unfolding edgesIn
-    into-start =
-        sym
-        (ap (keep p) (sym (take-append-drop k (graphOf S .edges)))
-        ∙ keep-front p (take k (graphOf S .edges)) (drop k (graphOf S .edges)) (λ y m. ne-eqb (y .end) (edgeAt S k .start) (λ q. omega (arith, after y m, F .up (edgeAt S k) edge-in))))
-      where
-        p : Edge → Bool
-        p e = eqb (e .end) (edgeAt S k .start)
-
-        after : (y : Edge) → List·Memᴰ y (drop k (graphOf S .edges)) → edgeAt S k .end ≤ y .end
-        after y m =
-            ⊎-elim
-            (λ (q : y ≡ edgeAt S k). rw q (omega arith))
-            (λ r. leb→le (edgeAt S k .end) (y .end) (subst (λ (e : Edge). T (noLater e y)) edge-is (later noLater (graphOf S .edges) k (edge 0 0 0) sorted inner y (subst (λ (i : ℕ). List·Memᴰ y (drop i (graphOf S .edges))) (add-one k) r))))
-            (List·Memᴰ·cases-cons (subst (λ (l : List Edge). List·Memᴰ y l) back m))
 
     -- every edge out of its end stands after it
     out-of-end : keep (λ e. eqb (e .start) (edgeAt S k .end)) (drop (k + 1) (graphOf S .edges)) ≡ edgesOut (graphOf S) (edgeAt S k .end)
@@ -186,109 +138,14 @@ module _ (delays : List ℤ) (S : GraphSlices) (F : Fit delays S) where
             (λ (r : List·Memᴰ y (edgeAt S k ∷ [])). ⊎-elim (λ (q : y ≡ edgeAt S k). rw q (omega arith, F .up (edgeAt S k) edge-in)) (λ z. absurd (List·Memᴰ·not-nil z)) (List·Memᴰ·cases-cons r))
             (List·Memᴰ·append-cases (take k (graphOf S .edges)) (subst (λ (l : List Edge). List·Memᴰ y l) front m))
 
-  -- A pass from the first edge to the last, which leaves at each copy the best delay of the runs to it, by any order: arrivals by the larger,
-  -- earliest arrivals by the smaller. `at` is the time of each copy by its definition; it is 0 where paths start and goes by its recurrence
-  -- elsewhere, and it never comes near `none`.
-  pub record Forward {le : ℤ → ℤ → Type 0} {pick : ℤ → ℤ → ℤ} {best : List ℤ → ℤ} (K : Picks le pick best) (none : ℤ) (at : ℕ → ℤ) : Type 0 where
-    far : (z : ℤ) → natAbs z ≤ 20000000000 → le none z
-    other : (z : ℤ) → natAbs z ≤ 20000000000 → z ≡ none → ⊥
-    pub small : (c : ℕ) → c < n → natAbs (at c) ≤ 20000000000
-    source : (c : ℕ) → c < n → T (startsAt (graphOf S) c) → at c ≡ pos 0
-    edges : (c : ℕ) → c < n → Some (edgesIn (graphOf S) c) → at c ≡ best (map (λ e. at (e .start) +ℤ d (e .name)) (edgesIn (graphOf S) c))
+  pub arrival-small : (t : ℤ) (c : ℕ) → c < n → natAbs (arrivalAt d t (graphOf S) c) ≤ 20000000000
+  arrival-small t c h = omega (arith, arrival-size d t (graphOf S) rising 1000000 (λ c. c) (n - 1) levels c h, F .copies)
 
-  module _ {le : ℤ → ℤ → Type 0} {pick : ℤ → ℤ → ℤ} {best : List ℤ → ℤ} {K : Picks le pick best} {none : ℤ} {at : ℕ → ℤ} (W : Forward K none at) where
-    abbrev inSum : Edge → ℤ
-    inSum = overIn delays S at
-
-    abbrev reached : ℕ → ℕ → ℤ
-    reached = bestAfter delays S best none at
-
-    settled-to : (c : ℕ) → c < n → timeOr none (pos 0) (best (none ∷ map inSum (edgesIn (graphOf S) c))) ≡ at c
-    unfolding overIn
-    settled-to c h = ⊎-elim first some (nil-or-some (edgesIn (graphOf S) c))
-      where
-        first : T (startsAt (graphOf S) c) → timeOr none (pos 0) (best (none ∷ map inSum (edgesIn (graphOf S) c))) ≡ at c
-        first s =
-            ap (λ (l : List Edge). timeOr none (pos 0) (best (none ∷ map inSum l))) (nil-is (edgesIn (graphOf S) c) s)
-            ∙ ap (timeOr none (pos 0)) (K .one none)
-            ∙ or-first none (pos 0)
-            ∙ sym (W .source c h s)
-
-        some : Some (edgesIn (graphOf S) c) → timeOr none (pos 0) (best (none ∷ map inSum (edgesIn (graphOf S) c))) ≡ at c
-        some s =
-            let e = W .edges c h s in
-            let l = subst (le none) e (W .far (at c) (W .small c h)) in
-            ap (timeOr none (pos 0)) (best-low K none (map inSum (edgesIn (graphOf S) c)) (inSum (s .0), Memᴰ·map inSum (s .1)) l ∙ sym e)
-            ∙ or-there none (pos 0) (at c) (W .other (at c) (W .small c h))
-
-    -- what the pass finds at the start of edge k
-    found-at : (k : ℕ) (h : k < length (S .starts)) → timeOr none (pos 0) (getD (map (reached k) (upto n 0)) (getD (S .starts) k 0) (pos 0)) ≡ at (getD (S .starts) k 0)
-    found-at k h =
-        ap (timeOr none (pos 0))
-        (at-each (pos 0) (reached k) n (getD (S .starts) k 0) (start-in k h) ∙ ap (λ (l : List Edge). best (none ∷ map inSum l)) (into-start k h))
-        ∙ settled-to (getD (S .starts) k 0) (start-in k h)
-
-    -- before the first edge
-    pub none-reached : map (λ (c : ℕ). none) (upto n 0) ≡ map (reached 0) (upto n 0)
-    none-reached = each-same (pos 0) (λ c. none) (reached 0) n (λ c l. sym (K .one none))
-
-    pub step-in : (k : ℕ) → k < length (S .starts)
-        → Step (timeOr none (pos 0)) (map (reached k) (upto n 0)) (getD (S .starts) k 0) (getD (S .ends) k 0) (d (getD (S .names) k 0))
-    step-in k h = record {
-      from-in = omega (arith, start-in k h, size-each (reached k) n);
-      to-in = omega (arith, end-in k h, size-each (reached k) n);
-      time = rw (found-at k h) (W .small (getD (S .starts) k 0) (start-in k h));
-      delay = delay-small k h;
-    }
-
-    pub stepped-next : (k : ℕ) → k < length (S .starts)
-        → stepped pick none (map (reached k) (upto n 0)) (getD (S .starts) k 0) (getD (S .ends) k 0) (d (getD (S .names) k 0)) ≡ map (reached (k + 1)) (upto n 0)
-    unfolding stepped overIn
-    stepped-next k h =
-        set-each (pos 0) (reached k) (reached (k + 1)) n (getD (S .ends) k 0) _ (end-in k h)
-        (ap₂ pick (at-each (pos 0) (reached k) n (getD (S .ends) k 0) (end-in k h)) (ap (λ (z : ℤ). z +ℤ d (getD (S .names) k 0)) (found-at k h))
-        ∙ sym (best-snoc K inSum none (keep (to (getD (S .ends) k 0)) (take k (graphOf S .edges))) (edgeAt S k))
-        ∙ ap (λ (l : List Edge). best (none ∷ map inSum l))
-        (sym (ap (keep (to (getD (S .ends) k 0))) (front k h) ∙ keep-yes (to (getD (S .ends) k 0)) (take k (graphOf S .edges)) (edgeAt S k) (eq-eqb (getD (S .ends) k 0) (getD (S .ends) k 0) refl))))
-        (λ c f. ap (λ (l : List Edge). best (none ∷ map inSum l))
-        (sym (ap (keep (to c)) (front k h) ∙ keep-no (to c) (take k (graphOf S .edges)) (edgeAt S k) (ne-eqb (getD (S .ends) k 0) c (λ q. f (sym q))))))
-      where
-        to : ℕ → Edge → Bool
-        to c e = eqb (e .end) c
-
-    -- after the last edge
-    pub all-settled : (k : ℕ) → length (S .starts) ≤ k
-        → map (λ c. timeOr none (pos 0) (getD (map (reached k) (upto n 0)) c (pos 0))) (upto n 0) ≡ map at (upto n 0)
-    unfolding edgesIn
-    all-settled k h =
-        each-same (pos 0) (λ c. timeOr none (pos 0) (getD (map (reached k) (upto n 0)) c (pos 0))) at n
-        (λ c l.
-        ap (timeOr none (pos 0))
-        (at-each (pos 0) (reached k) n c l
-        ∙ ap (λ (es : List Edge). best (none ∷ map inSum (keep (λ e. eqb (e .end) c) es))) (take-all k (graphOf S .edges) (omega (arith, edges-size))))
-        ∙ settled-to c l)
-
-  -- the two
-  pub arrivals-pass : Forward larges noArrival (arrivalAt d (pos 0) (graphOf S))
-  arrivals-pass = record {
-    far = far-below;
-    other = not-below;
-    small = λ c h. omega (arith, arrival-size d (pos 0) (graphOf S) rising 1000000 (λ c. c) (n - 1) levels c h, F .copies);
-    source = arrival-source d (pos 0) (graphOf S) rising;
-    edges = arrival-edges d (pos 0) (graphOf S) rising;
-  }
-
-  pub earliests-pass : Forward smalls noEarliest (earliestAt d (graphOf S))
-  earliests-pass = record {
-    far = far-above;
-    other = not-above;
-    small = λ c h. omega (arith, earliest-size d (pos 0) (graphOf S) rising 1000000 (λ c. c) (n - 1) levels c h, F .copies);
-    source = earliest-source d (graphOf S) rising;
-    edges = earliest-edges d (graphOf S) rising;
-  }
+  pub earliest-small : (c : ℕ) → c < n → natAbs (earliestAt d (graphOf S) c) ≤ 20000000000
+  earliest-small c h = omega (arith, earliest-size d (pos 0) (graphOf S) rising 1000000 (λ c. c) (n - 1) levels c h, F .copies)
 
   pub arrivals-small : Small (map (arrivalAt d (pos 0) (graphOf S)) (upto n 0))
-  arrivals-small = small-each (arrivalAt d (pos 0) (graphOf S)) n (arrivals-pass .small)
+  arrivals-small = small-each (arrivalAt d (pos 0) (graphOf S)) n (arrival-small (pos 0))
 
   -- required times
   module _ (onward : Onward (graphOf S)) (t : ℕ) (small : t ≤ 1000000000) where
@@ -337,13 +194,13 @@ module _ (delays : List ℤ) (S : GraphSlices) (F : Fit delays S) where
         ∙ settled-required (getD (S .ends) k 0) (end-in k h)
 
     pub lowers-in : (k : ℕ) → k < length (S .starts)
-        → Step (λ (z : ℤ). z) (map (left (k + 1)) (upto n 0)) (getD (S .ends) k 0) (getD (S .starts) k 0) (d (getD (S .names) k 0))
-    lowers-in k h = record {
-      from-in = omega (arith, end-in k h, size-each (left (k + 1)) n);
-      to-in = omega (arith, start-in k h, size-each (left (k + 1)) n);
-      time = rw (found-required k h) (required-small (getD (S .ends) k 0) (end-in k h));
-      delay = delay-small k h;
-    }
+        → Over delays (S .ends) (S .names) (map (left (k + 1)) (upto n 0)) k × (k < length (S .starts)) × (getD (S .starts) k 0 < length (map (left (k + 1)) (upto n 0)))
+    lowers-in k h =
+        let size = size-each (left (k + 1)) n in (
+          edge-over k h (S .ends) (map (left (k + 1)) (upto n 0)) (omega (arith, F .ends, h)) (omega (arith, end-in k h, size)) (rw (found-required k h) (required-small (getD (S .ends) k 0) (end-in k h))),
+          h,
+          omega (arith, start-in k h, size),
+        )
 
     pub lowered-next : (k : ℕ) → k < length (S .starts)
         → lowered (map (left (k + 1)) (upto n 0)) (getD (S .starts) k 0) (getD (S .ends) k 0) (d (getD (S .names) k 0)) ≡ map (left k) (upto n 0)
@@ -372,7 +229,7 @@ module _ (delays : List ℤ) (S : GraphSlices) (F : Fit delays S) where
 
 -- what the passes ask of a graph does not ask where paths end
 pub fit-ends : {delays : List ℤ} {nodes ends fins from to via : List ℕ} → Fit delays (graphSlices nodes ends from to via) → Fit delays (graphSlices nodes fins from to via)
-fit-ends F = record { ends = F .ends; names = F .names; copies = F .copies; up = F .up; inside = F .inside; range = F .range; order = F .order }
+fit-ends F = record { ends = F .ends; names = F .names; copies = F .copies; up = F .up; inside = F .inside; named = F .named; range = F .range; order = F .order }
 
 -- and neither do arrival and earliest arrival; arrival does not ask T; slack is of the other two
 module _ (delays : List ℤ) (nodes ends from to via : List ℕ) where

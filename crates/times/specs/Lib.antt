@@ -1,2 +1,3 @@
--- What the passes over edges ask and leave. The times themselves are defined in `timing`.
+-- What the passes ask and leave. The times themselves are defined in `timing`.
 pub mod Passes
+pub mod Fanins

@@ -1,51 +1,45 @@
-// The arrival and the earliest arrival of every copy, by one pass over the edges: the one is the
+// The arrival and the earliest arrival of every copy, by one pass over the copies: the one is the
 // largest late delay of a path to the copy, the other the smallest early delay.
 ghost use mathlib.Core.Path.{_≡_};
 ghost use mathlib.Core.List.{[], map};
 ghost use lib.IntN.{pos};
-ghost use lib.ListN.{length, getD};
+ghost use lib.ListN.{length, set};
 ghost use Rattle.timing.specs.Lists.{upto};
-ghost use Rattle.timing.specs.Times.{larger as largerTime, smaller as smallerTime, arrivalAt, earliestAt};
+ghost use Rattle.timing.specs.Times.{largest, smallest, arrivalAt, earliestAt};
 ghost use Rattle.timing.specs.Calls.{graphSlices, graphOf};
-ghost use Rattle.times.specs.Passes.{noArrival, noEarliest, timeOr, Step, stepped, delayOf, Fit};
+ghost use Rattle.times.specs.Passes.{delayOf, Over, Fit};
+ghost use Rattle.times.specs.Fanins.{over, bestOver, endsHere, Fanin, Ready};
 use crate::numbers::sum;
 use crate::numbers::time_of;
-use crate::places::settle;
-use crate::places::time_or;
-use entries::delay_at;
-use entries::fill;
-use entries::number_at;
+use entries::wide;
 use extremes::larger;
 use extremes::smaller;
 
-const NO_ARRIVAL: i64 = -9223372036854775808;
-
-const NO_EARLIEST: i64 = 9223372036854775807;
-
-// An edge from copy `a` to copy `b`: the arrival at its end is no less than over this edge.
-fn raise(arrivals: &mut [i64], a: usize, b: usize, d: i32)
-    requires { ⌜ Step (timeOr noArrival (pos 0)) (now arrivals) a b d ⌝ }
-    ensures { λ r. ⌜ now (arrivals .exit) ≡ stepped largerTime noArrival (now (arrivals .entry)) a b d ⌝ }
+// Edge `k` is there and ends at copy `c`.
+fn ends_at(to: &[u32], k: usize, c: usize) -> bool
+    ensures { λ r. ⌜ r ≡ endsHere (now (to .entry)) k c ⌝ }
 {
-    let s = time_or(arrivals[a], NO_ARRIVAL, 0);
-    let t = sum(s, time_of(d));
-    let u = larger(arrivals[b], t);
-    arrivals[b] = u;
+    if k < to.len() {
+        wide(to[k]) == c
+    } else {
+        false
+    }
 }
 
-// The same edge: the earliest arrival at its end is no more than over it.
-fn hasten(earliests: &mut [i64], a: usize, b: usize, d: i32)
-    requires { ⌜ Step (timeOr noEarliest (pos 0)) (now earliests) a b d ⌝ }
-    ensures { λ r. ⌜ now (earliests .exit) ≡ stepped smallerTime noEarliest (now (earliests .entry)) a b d ⌝ }
+// What edge `k` gives its end.
+fn over_edge(delays: &[i32], from: &[u32], via: &[u32], times: &[i64], k: usize) -> i64
+    requires { ⌜ Over (now delays) (now from) (now via) (now times) k ⌝ }
+    ensures { λ r. ⌜ r ≡ over (now (delays .entry)) (now (from .entry)) (now (via .entry)) (now (times .entry)) k ⌝ }
 {
-    let s = time_or(earliests[a], NO_EARLIEST, 0);
-    let t = sum(s, time_of(d));
-    let u = smaller(earliests[b], t);
-    earliests[b] = u;
+    let a = wide(from[k]);
+    let name = wide(via[k]);
+    sum(times[a], time_of(delays[name]))
 }
 
-// Edge `k` of the graph.
-fn pass_edge(
+// Gives copy `c` both times: the best over the edges into it, which stand from `first` on, or 0 where
+// there is none. Answers the place behind these. Both are kept in locals and stored once, and the first edge
+// counts by itself: there is no number that stands for none.
+fn arrive(
     early: &[i32],
     late: &[i32],
     from: &[u32],
@@ -53,31 +47,40 @@ fn pass_edge(
     via: &[u32],
     arrivals: &mut [i64],
     earliests: &mut [i64],
-    k: usize,
-)
-    requires { let a = getD (now from) k 0 in
-        let b = getD (now to) k 0 in
-        let name = getD (now via) k 0 in
-        ⌜ Step (timeOr noArrival (pos 0)) (now arrivals) a b (delayOf (now late) name)
-        × Step (timeOr noEarliest (pos 0)) (now earliests) a b (delayOf (now early) name) ⌝ }
+    c: usize,
+    first: usize,
+) -> usize
+    requires { ⌜ Ready (now late) (now from) (now to) (now via) (now arrivals) c first
+        × Ready (now early) (now from) (now to) (now via) (now earliests) c first ⌝ }
     ensures { λ r.
-        let a = getD (now (from .entry)) k 0 in
-        let b = getD (now (to .entry)) k 0 in
-        let name = getD (now (via .entry)) k 0 in
         let ats = now (arrivals .entry) in
         let ets = now (earliests .entry) in
-        ⌜ (now (arrivals .exit) ≡ stepped largerTime noArrival ats a b (delayOf (now (late .entry)) name))
-        × (now (earliests .exit) ≡ stepped smallerTime noEarliest ets a b (delayOf (now (early .entry)) name)) ⌝ }
+        let t = bestOver largest (now (late .entry)) (now (from .entry)) (now (via .entry)) ats first r in
+        let e = bestOver smallest (now (early .entry)) (now (from .entry)) (now (via .entry)) ets first r in
+        ⌜ Fanin (now (to .entry)) c first r
+        × (now (arrivals .exit) ≡ set ats c t)
+        × (now (earliests .exit) ≡ set ets c e) ⌝ }
 {
-    let a = number_at(from, k) as usize;
-    let b = number_at(to, k) as usize;
-    let name = number_at(via, k) as usize;
-    raise(arrivals, a, b, delay_at(late, name));
-    hasten(earliests, a, b, delay_at(early, name));
+    if ends_at(to, first, c) {
+        let mut t = over_edge(late, from, via, arrivals, first);
+        let mut e = over_edge(early, from, via, earliests, first);
+        let mut k = first + 1;
+        while ends_at(to, k, c) {
+            t = larger(t, over_edge(late, from, via, arrivals, k));
+            e = smaller(e, over_edge(early, from, via, earliests, k));
+            k += 1;
+        }
+        arrivals[c] = t;
+        earliests[c] = e;
+        return k;
+    }
+    arrivals[c] = 0;
+    earliests[c] = 0;
+    first
 }
 
-// Edges stand by end copy, and rise: where an edge is met, both times at its start are final. Where
-// paths end is not asked.
+// Edges stand by end copy, and rise: where a copy is met, both times at the starts of the edges into it are
+// final. Where paths end is not asked.
 pub(crate) fn fill_arrivals(
     early: &[i32],
     late: &[i32],
@@ -97,13 +100,10 @@ pub(crate) fn fill_arrivals(
         ⌜ (now (arrivals .exit) ≡ map (arrivalAt (delayOf (now (late .entry))) (pos 0) (graphOf S)) copies)
         × (now (earliests .exit) ≡ map (earliestAt (delayOf (now (early .entry))) (graphOf S)) copies) ⌝ }
 {
-    fill(arrivals, NO_ARRIVAL);
-    fill(earliests, NO_EARLIEST);
-    let mut k = 0;
-    while k < from.len() {
-        pass_edge(early, late, from, to, via, arrivals, earliests, k);
-        k += 1;
+    let mut c = 0;
+    let mut first = 0;
+    while c < nodes.len() {
+        first = arrive(early, late, from, to, via, arrivals, earliests, c, first);
+        c += 1;
     }
-    settle(arrivals, NO_ARRIVAL, 0);
-    settle(earliests, NO_EARLIEST, 0);
 }

@@ -14,12 +14,13 @@ ghost use Rattle.times.specs.Passes.{delayOf, Fit, Small};
 use crate::arrivals::fill_arrivals;
 use crate::numbers::less;
 use crate::requireds::fill_requireds;
-use entries::time_at;
 use timing::Verdict;
 
 // Slack is required time less arrival.
 fn fill_slacks(arrivals: &[i64], requireds: &[i64], slacks: &mut [i64])
     requires { ⌜ Small (now arrivals) × Small (now requireds) ⌝ }
+    requires { let copies = length (now slacks) in
+        ⌜ (length (now arrivals) ≡ copies) × (length (now requireds) ≡ copies) ⌝ }
     ensures { λ r.
         let ats = now (arrivals .entry) in
         let rts = now (requireds .entry) in
@@ -28,7 +29,7 @@ fn fill_slacks(arrivals: &[i64], requireds: &[i64], slacks: &mut [i64])
 {
     let mut i = 0;
     while i < slacks.len() {
-        let s = less(time_at(requireds, i), time_at(arrivals, i));
+        let s = less(requireds[i], arrivals[i]);
         slacks[i] = s;
         i += 1;
     }
@@ -50,7 +51,11 @@ fn fill_times(
     earliests: &mut [i64],
 )
     requires { let S = graphSlices (now nodes) (now endpoint) (now from) (now to) (now via) in
-        ⌜ Fit (now late) S × Fit (now early) S × Onward (graphOf S) × (allowed ≤ 1000000000) ⌝ }
+        ⌜ Fit (now late) S
+        × Fit (now early) S
+        × Onward (graphOf S)
+        × (allowed ≤ 1000000000)
+        × (length (now endpoint) ≡ length (now nodes)) ⌝ }
     requires { let copies = length (now nodes) in
         ⌜ (length (now arrivals) ≡ copies)
         × (length (now requireds) ≡ copies)

@@ -1,8 +1,8 @@
 // Times at copies.
 //
 // `times` tests what it is lent (`tests`), and then fills the four slices (`copies`): arrivals and
-// earliest arrivals by one pass over the edges (`arrivals`), required times by one pass back
-// (`requireds`), and slacks from arrivals and required times.
+// earliest arrivals by one pass over the copies, each with the edges into it (`arrivals`), required times by
+// one pass back over the edges (`requireds`), and slacks from arrivals and required times.
 ghost use mathlib.Core.Path.{_≡_};
 ghost use lib.ListN.{length};
 ghost use Rattle.timing.specs.Graphs.{design};
@@ -11,7 +11,6 @@ ghost use Rattle.timing.specs.Calls.{graphSlices, testTimes, arrivalsAfter, req
 mod arrivals;
 mod copies;
 mod numbers;
-mod places;
 mod requireds;
 mod tests;
 

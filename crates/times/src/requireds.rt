@@ -1,6 +1,6 @@
 // The required time of every copy, by one pass over the edges from the last to the first.
 ghost use mathlib.Core.Path.{_≡_};
-ghost use Prim.Native.Nat.{ℕ, _≤_};
+ghost use Prim.Native.Nat.{ℕ, _≤_, _<_};
 ghost use mathlib.Core.List.{map};
 ghost use lib.IntN.{ℤ, pos};
 ghost use lib.ListN.{length, getD};
@@ -8,12 +8,11 @@ ghost use Rattle.timing.specs.Lists.{upto};
 ghost use Rattle.timing.specs.Times.{requiredAt};
 ghost use Rattle.timing.specs.Calls.{graphSlices, graphOf};
 ghost use Rattle.theorems.proofs.Runs.{Onward};
-ghost use Rattle.times.specs.Passes.{firstRequired, Step, lowered, delayOf, Fit};
+ghost use Rattle.times.specs.Passes.{firstRequired, Over, lowered, delayOf, Fit};
 use crate::numbers::negated;
 use crate::numbers::signed;
 use crate::numbers::sum;
-use entries::delay_at;
-use entries::number_at;
+use entries::wide;
 use extremes::smaller;
 
 const NO_REQUIRED: i64 = 9223372036854775807;
@@ -27,29 +26,20 @@ fn first_required(endpoint: u32, allowed: i64) -> i64
 
 // The same for every copy.
 fn first_requireds(endpoint: &[u32], allowed: i64, requireds: &mut [i64])
+    requires { ⌜ length (now endpoint) ≡ length (now requireds) ⌝ }
     ensures { λ r.
         let first : ℕ → ℤ = λ c. firstRequired (getD (now (endpoint .entry)) c 0) allowed in
         ⌜ now (requireds .exit) ≡ map first (upto (length (now (requireds .entry))) 0) ⌝ }
 {
     let mut i = 0;
     while i < requireds.len() {
-        let t = first_required(number_at(endpoint, i), allowed);
+        let t = first_required(endpoint[i], allowed);
         requireds[i] = t;
         i += 1;
     }
 }
 
-// An edge from copy `a` to copy `b`: the required time at its start is no more than over this edge.
-fn lower(requireds: &mut [i64], a: usize, b: usize, d: i32)
-    requires { ⌜ Step (λ t. t) (now requireds) b a d ⌝ }
-    ensures { λ r. ⌜ now (requireds .exit) ≡ lowered (now (requireds .entry)) a b d ⌝ }
-{
-    let t = sum(requireds[b], negated(d));
-    let u = smaller(t, requireds[a]);
-    requireds[a] = u;
-}
-
-// Edge `k` of the graph.
+// Edge `k` of the graph: the required time at its start is no more than over this edge.
 fn lower_edge(
     delays: &[i32],
     from: &[u32],
@@ -58,20 +48,21 @@ fn lower_edge(
     requireds: &mut [i64],
     k: usize,
 )
-    requires { let a = getD (now from) k 0 in
-        let b = getD (now to) k 0 in
-        let d = delayOf (now delays) (getD (now via) k 0) in
-        ⌜ Step (λ t. t) (now requireds) b a d ⌝ }
+    requires { ⌜ Over (now delays) (now to) (now via) (now requireds) k
+        × (k < length (now from))
+        × (getD (now from) k 0 < length (now requireds)) ⌝ }
     ensures { λ r.
         let a = getD (now (from .entry)) k 0 in
         let b = getD (now (to .entry)) k 0 in
         let d = delayOf (now (delays .entry)) (getD (now (via .entry)) k 0) in
         ⌜ now (requireds .exit) ≡ lowered (now (requireds .entry)) a b d ⌝ }
 {
-    let a = number_at(from, k) as usize;
-    let b = number_at(to, k) as usize;
-    let name = number_at(via, k) as usize;
-    lower(requireds, a, b, delay_at(delays, name));
+    let a = wide(from[k]);
+    let b = wide(to[k]);
+    let name = wide(via[k]);
+    let t = sum(requireds[b], negated(delays[name]));
+    let u = smaller(t, requireds[a]);
+    requireds[a] = u;
 }
 
 // From the last edge to the first: where an edge is met, the required time at its end is final. From
@@ -88,7 +79,8 @@ pub(crate) fn fill_requireds(
 )
     requires { let S = graphSlices (now nodes) (now endpoint) (now from) (now to) (now via) in
         ⌜ Fit (now delays) S × Onward (graphOf S) ⌝ }
-    requires { ⌜ (allowed ≤ 1000000000) × (length (now requireds) ≡ length (now nodes)) ⌝ }
+    requires { let copies = length (now nodes) in
+        ⌜ (allowed ≤ 1000000000) × (length (now requireds) ≡ copies) × (length (now endpoint) ≡ copies) ⌝ }
     ensures { λ r.
         let S = graphSlices (now (nodes .entry)) (now (endpoint .entry))
         (now (from .entry)) (now (to .entry)) (now (via .entry)) in

@@ -34,7 +34,7 @@ returns c =
     sym (sym (l .loop .inv .1) ∙ walk-bad _ _ (l .loop .c) _ (l .loop .lowest) (c .before .before .loop-test .taken) (sym (c .before .copy-passes .ensures) ∙ not-true _ (c .if1 .taken)))
 
 lowest-after-requires : tie.Need-lowest-after-requires Inv-loop μ-loop
-lowest-after-requires c κs = search needs
+lowest-after-requires c κs = omega arith
 
 add-c : tie.Need-add-c Inv-loop μ-loop
 add-c c = omega arith

@@ -1,55 +1,44 @@
--- What the calls answer, put together.
-use mathlib.Core.Path.{_∙_}
-use mathlib.Core.Bool.{_&&_}
-use lib.Dec.{ltb, eqb}
-use lib.ListN.{length}
+-- Each test in turn.
+use borrow.Author.Tests.{lt-ltb, le-ltb}
 use borrow.Author.Needs.{needs}
 use Rattle.graph.proofs.edge_fits.Statement.{statement}
 use Rattle.graph.proofs.edge_fits.Tie as tie
 
-both-requires : tie.Need-both-requires
-both-requires c κs = search needs
-
-both-requires-2 : tie.Need-both-requires-2
-both-requires-2 c κs = search needs
-
-number-at-requires : tie.Need-number-at-requires
-number-at-requires c κs = search needs
-
-number-at-requires-2 : tie.Need-number-at-requires-2
-number-at-requires-2 c κs = search needs
-
-both-requires-3 : tie.Need-both-requires-3
-both-requires-3 c κs = search needs
-
-number-at-requires-3 : tie.Need-number-at-requires-3
-number-at-requires-3 c κs = search needs
-
-number-at-requires-4 : tie.Need-number-at-requires-4
-number-at-requires-4 c κs = search needs
-
-both-requires-4 : tie.Need-both-requires-4
-both-requires-4 c κs = search needs
-
 returns : tie.Need-returns
-returns c =
+returns c = rw (le-ltb _ _ (c .if1 .taken))
+
+returns-2 : tie.Need-returns-2
+returns-2 c = rw (lt-ltb _ _ (c .before .if1 .left), le-ltb _ _ (c .if2 .taken))
+
+mul-edge-is : tie.Need-mul-edge-is
+mul-edge-is c = search needs
+
+shared-slice-read-edge-is : tie.Need-shared-slice-read-edge-is
+shared-slice-read-edge-is c = search needs
+
+mul-edge-is-2 : tie.Need-mul-edge-is-2
+mul-edge-is-2 c = search needs
+
+shared-slice-read-edge-is-2 : tie.Need-shared-slice-read-edge-is-2
+shared-slice-read-edge-is-2 c = search needs
+
+edge-is-requires : tie.Need-edge-is-requires
+edge-is-requires c κs = search needs
+
+returns-3 : tie.Need-returns-3
+returns-3 c =
     let k = c .before .before .before in
-    let h = k .before .before .before in
-    let a = h .before .before .before .before .before .args in
-    let named = h .both2 .ensures ∙ (λ i. h .before .both .ensures i && ltb (a .k) (length (a .starts .now))) in
-    let leaves = k .both3 .ensures ∙ (λ i. named i && eqb (k .before .before .number-at .ensures i) (k .before .number-at2 .ensures i)) in
-    c .both4 .ensures ∙ (λ i. leaves i && eqb (c .before .before .number-at3 .ensures i) (c .before .number-at4 .ensures i))
+    rw (lt-ltb _ _ (k .before .if1 .left), lt-ltb _ _ (k .if2 .left)) (c .edge-is .ensures)
 
 pub edge-fits-spec : {M : Type 1} → statement M
 edge-fits-spec =
     tie.close
     (tie.spec
-    both-requires
-    both-requires-2
-    number-at-requires
-    number-at-requires-2
-    both-requires-3
-    number-at-requires-3
-    number-at-requires-4
-    both-requires-4
-    returns)
+    returns
+    returns-2
+    mul-edge-is
+    shared-slice-read-edge-is
+    mul-edge-is-2
+    shared-slice-read-edge-is-2
+    edge-is-requires
+    returns-3)

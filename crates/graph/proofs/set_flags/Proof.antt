@@ -17,11 +17,14 @@ abbrev μ-loop : tie.MeasureT-loop
 loop-holds : tie.Need-loop-holds Inv-loop μ-loop
 loop-holds c = (omega arith, flags-none _ _)
 
-number-at-requires : tie.Need-number-at-requires Inv-loop μ-loop
-number-at-requires c κs = search needs
+mul-wide : tie.Need-mul-wide Inv-loop μ-loop
+mul-wide c = search needs
 
-cast-set-flag : tie.Need-cast-set-flag Inv-loop μ-loop
-cast-set-flag c = search needs
+shared-slice-read-wide : tie.Need-shared-slice-read-wide Inv-loop μ-loop
+shared-slice-read-wide c = omega arith
+
+wide-requires : tie.Need-wide-requires Inv-loop μ-loop
+wide-requires c κs = search needs
 
 set-flag-requires : tie.Need-set-flag-requires Inv-loop μ-loop
 set-flag-requires c κs = search needs
@@ -35,9 +38,9 @@ loop-less c = omega arith
 loop-again : tie.Need-loop-again Inv-loop μ-loop
 loop-again c =
     let s = c .before .before in
-    let l = s .before .before .before .before in
+    let l = s .before .before .before .before .before in
     let a = l .before .before .before .args in
-    (omega arith, rw (s .set-flag .ensures, s .before .number-at .ensures) (flags-next (a .flags .now) (l .loop .flags) (a .list .now) (l .loop .k) (l .loop .inv .1)))
+    (omega arith, rw (s .set-flag .ensures, s .before .wide .ensures) (flags-next (a .flags .now) (l .loop .flags) (a .list .now) (l .loop .k) (l .loop .inv .1)))
 
 same-length : tie.Need-same-length Inv-loop μ-loop
 same-length c = c .before .loop .inv .1 .size
@@ -56,8 +59,9 @@ set-flags-spec =
     Inv-loop
     μ-loop
     loop-holds
-    number-at-requires
-    cast-set-flag
+    mul-wide
+    shared-slice-read-wide
+    wide-requires
     set-flag-requires
     add-k
     loop-less

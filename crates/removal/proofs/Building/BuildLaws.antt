@@ -1,5 +1,5 @@
 -- Laws of the layout and of filling the tables, one after the other: each later one leaves the earlier ones.
-use Prim.Native.Nat.{ℕ, zero, suc, _+_, _*_, _≤_, _<_}
+use Prim.Native.Nat.{ℕ, zero, suc, _+_, _-_, _*_, _≤_, _<_}
 use native.Mathlib.Omega.{arith}
 use native.Mathlib.Decide.{ℕ-discrete}
 use mathlib.Core.Path.{_≡_, refl, sym, _∙_, ap, subst}
@@ -7,38 +7,40 @@ use mathlib.Core.List.{List, [], _∷_, map, List·Memᴰ, Memᴰ·map}
 use lib.ListN.{length, getD, take, drop, replicate, getD-replicate}
 use lib.Seq.{take-take, length-take-le}
 use Rattle.timing.specs.Lists.{sum, upto}
-use Rattle.timing.specs.Graphs.{Design, Graph, Edge}
-use Rattle.timing.specs.Marks.{PathList, pathList}
+use Rattle.timing.specs.Graphs.{Design, Graph, Edge, nodeOf}
+use Rattle.timing.specs.Marks.{PathList, pathList, pathsOf}
 use Rattle.timing.specs.Tests.{candidates}
 use Rattle.theorems.proofs.Lists.{mem-upto, getD-mem}
 use Rattle.theorems.proofs.Tested.{ListFits}
+use Rattle.classes.specs.Table.{table, Frame}
+use Rattle.classes.specs.Classes.{classCount, marksAt, Root}
+use Rattle.classes.specs.Tables.{listWords, locIn, marksFor, marksBelow, Located, Stepped, Automaton, Listable, Makeable, Made}
+use Rattle.classes.proofs.Region.{table-at}
+use Rattle.classes.proofs.MarkLaws.{live-all}
+use Rattle.classes.proofs.WordLaws.{fit-stepped, root-fit}
+use Rattle.classes.proofs.KeptLaws.{automaton-same}
+use Rattle.classes.proofs.PlaceLaws.{marks-total}
+use Rattle.classes.proofs.FlatLaws.{edge-path}
 use Rattle.removal.specs.declared.rows.Layout.{Layout}
-use Rattle.removal.specs.Table.{table, Frame}
-use Rattle.removal.specs.Positions.{restAt, Ordered}
-use Rattle.removal.specs.Slots.{Bounds, Bounded, slots, slotBase}
+use Rattle.removal.specs.Slots.{slots, slotBase, slotsOf}
 use Rattle.removal.specs.Links.{Linkable, Chained, Linked}
 use Rattle.removal.specs.Names.{Named}
-use Rattle.removal.specs.Listed.{Rests, RestTable}
-use Rattle.removal.specs.Ranks.{RestsFall, Ranked}
-use Rattle.removal.specs.Tails.{LinkedTo, Orderable, Tabulated}
-use Rattle.removal.specs.Search.{ofStarts, ofNodes, boundsAt, Searchable, Fillable, Filled}
-use Rattle.removal.specs.Rows.{Laid, Tabled, Ready, boundsIn, orderIn, flagIn}
-use Rattle.removal.specs.Build.{tableWords, LaidOut, Given, Buildable, Built}
-use Rattle.removal.proofs.Building.Region.{table-at}
-use Rattle.removal.proofs.Listing.RestLaws.{rest-table}
+use Rattle.removal.specs.Counts.{ofStarts, ofNodes}
+use Rattle.removal.specs.Rows.{Laid, Tabled, Ready, slotsIn, flagIn}
+use Rattle.removal.specs.Build.{tableWords, LaidOut, slotsFrom, Baseable, Based, Defaultable, Defaulted, Given, Buildable, Built}
 use Rattle.removal.proofs.Showing.IntoLaws.{edgeAt, edges-map}
-use Rattle.removal.proofs.Building.FillLaws.{slotBase-suc}
-use Rattle.removal.proofs.Building.Candidates.{slots-candidates, bounded-starts}
+use Rattle.removal.proofs.Reaching.RowLaws.{base-next, slot-inside}
+use Rattle.removal.proofs.Building.Candidates.{slots-candidates}
 
 module _ (copies edges positions : ℕ) (l : Layout) (w : LaidOut copies edges positions l) where
   pub laid : (p : List ℕ) → length p ≡ l .slots → Laid l positions p
   laid p e = record {
-    rest = omega (arith, w .rest, w .order);
-    order = omega (arith, w .order, w .low);
-    rank = omega (arith, w .rank, w .low);
-    link = omega (arith, w .link, w .low);
-    low = omega (arith, w .low, w .into, w .copies);
-    into = omega (arith, w .into, w .named, w .copies, w .edges);
+    list-edges = w .list-edges;
+    list = omega (arith, w .first);
+    first = omega (arith, w .first, w .base, w .copies);
+    base = omega (arith, w .base, w .into, w .copies);
+    into = omega (arith, w .into, w .default, w .copies, w .edges);
+    default = omega (arith, w .default, w .named, w .edges);
     named = omega (arith, w .named, w .slots, w .edges);
     size = e;
   }
@@ -54,34 +56,15 @@ table-take : (n b m : ℕ) (s : List ℕ) → b + m ≤ n → table (take n s) b
 unfolding table
 table-take n b m s h = take-part n b m s h
 
--- bounds that agree at a copy
-bounded-agree : (D : Design) (L : PathList) (G : Graph) (o : List ℕ) (B C : Bounds) (c : ℕ)
-    → C .low c ≡ B .low c → C .middle c ≡ B .middle c → C .high c ≡ B .high c → Bounded D L G o B c → Bounded D L G o C c
-bounded-agree D L G o B C c x y z b = record {
-  tails-up = rw (x, y) (b .tails-up);
-  heads-up = rw (y, z) (b .heads-up);
-  within = rw z (b .within);
-  tails = λ t h. rw (x, y) (b .tails t h);
-  heads = λ t h. rw (y, z) (b .heads t h);
-}
+-- a word that stands in a table that stays
+word-kept : (s t : List ℕ) (i : ℕ) → table t i 1 ≡ table s i 1 → getD t i 0 ≡ getD s i 0
+word-kept s t i e =
+    let z : i + 0 ≡ i = omega arith in
+    rw z at (sym (table-at t i 1 0 (omega arith)) ∙ ap (λ (x : List ℕ). getD x 0 0) e ∙ table-at s i 1 0 (omega arith))
 
-base-agree : (B C : Bounds) (n : ℕ) → ((c : ℕ) → c < n → slots C c ≡ slots B c) → slotBase C n ≡ slotBase B n
+base-agree : (B C : ℕ → ℕ) (n : ℕ) → ((c : ℕ) → c < n → slots C c ≡ slots B c) → slotBase C n ≡ slotBase B n
 base-agree B C zero f = refl
-base-agree B C (suc n) f = omega (arith, slotBase-suc B n, slotBase-suc C n, f n (omega arith), base-agree B C n (λ c h. f c (omega arith)))
-
--- few slots for each copy
-base-small : (B : Bounds) (n : ℕ) → ((c : ℕ) → c < n → slots B c ≤ 8193) → slotBase B n ≤ 8193 * n
-base-small B zero f = omega arith
-base-small B (suc n) f = omega (arith, slotBase-suc B n, f n (omega arith), base-small B n (λ c h. f c (omega arith)))
-
--- a slot of a copy stands among all slots
-base-inside : (B : Bounds) (n c j : ℕ) → c < n → j < slots B c → slotBase B c + j < slotBase B n
-base-inside B zero c j h k = absurd (omega arith)
-base-inside B (suc n) c j h k = go (ℕ-discrete c n) (base-inside B n c j)
-  where
-    go : Dec (c ≡ n) → (c < n → j < slots B c → slotBase B c + j < slotBase B n) → slotBase B c + j < slotBase B (suc n)
-    go (yes q) f = omega (arith, slotBase-suc B c, ap (λ (i : ℕ). slotBase B (suc i)) q)
-    go (no q) f = omega (arith, slotBase-suc B n, f (omega (arith, q)) k)
+base-agree B C (suc n) f = omega (arith, base-next B n, base-next C n, f n (omega arith), base-agree B C n (λ c h. f c (omega arith)))
 
 -- each copy is a candidate
 copies-sum : (f : ℕ → ℕ) (nodes : List ℕ) → length nodes ≤ sum (map (λ v. 1 + f v) nodes)
@@ -98,10 +81,19 @@ chained-same ends f g f' g' n m m' p q r h = rw (p, q, r) h
 pub listed-few : (D : Design) (L : PathList) (G : Graph) (starts listed lengths nodes from to via : List ℕ) → Given D L G starts listed lengths nodes from to via → length listed ≤ 8192
 listed-few D L G starts listed lengths nodes from to via g = omega (arith, g .fits .fewEdges, ap (λ (K : PathList). length (K .edges)) (g .list))
 
--- What is asked of the scratch before each table, and what all of them are at the end. s₁ to s₆ are the scratch after the rests,
--- the order, the bounds, the chains into copies, the words of named edges, and the cleared slots.
+-- how many marks there are at the nodes below one and the next
+marks-next : (starts : List ℕ) (L : List (List ℕ)) (v : ℕ) → marksBelow starts L (suc v) ≡ marksBelow starts L v + marksFor starts L v
+marks-next starts L v = base-next (marksFor starts L) v
+
+marks-some : (starts : List ℕ) (L : List (List ℕ)) (v : ℕ) → suc (marksFor starts L v) ≡ length (marksAt starts L v)
+marks-some starts L v = omega (arith, live-all starts L v)
+
+-- What is asked of the scratch before each table, and what all of them are at the end. s₁ to s₆ are the scratch after the tables of the list, the bases, the
+-- chains into copies, the defaults, the words of named edges, and the cleared slots.
 module _ (D : Design) (L : PathList) (G : Graph) (starts listed lengths nodes from to via : List ℕ)
-    (g : Given D L G starts listed lengths nodes from to via) (l : Layout) (w : LaidOut (length nodes) (length from) (length listed) l) where
+    (g : Given D L G starts listed lengths nodes from to via) (l : Layout) (w : LaidOut (length nodes) (length from) (length listed) l)
+    (few-starts : length starts ≤ 16384) (starts-below : (k : ℕ) → getD starts k 0 < 4096) (nodes-below : (c : ℕ) → c < length nodes → getD nodes c 0 < 4096)
+    (s₀ roots₀ firsts₀ : List ℕ) (room : tableWords (length nodes) (length from) (length listed) + candidates D G L ≤ length s₀) where
   list-fits : ListFits D (pathList listed lengths)
   list-fits = subst (λ (K : PathList). ListFits D K) (g .list) (g .fits)
 
@@ -116,222 +108,260 @@ module _ (D : Design) (L : PathList) (G : Graph) (starts listed lengths nodes fr
   end-inside : (e : ℕ) → e < length from → getD to e 0 < length nodes
   end-inside e h = omega (arith, g .legal .rising .inside (edgeAt from to via e) (edge-in e h), ap length (g .copies))
 
-  ordered-list : (s t : List ℕ) → RestTable (pathList listed lengths) s (l .rest) → Tabulated starts listed s t (l .rest) (l .order) (l .rank) (l .link)
-      → Ordered D L (table t (l .order) (length listed))
-  ordered-list s t r a = a .ordered D L (g .design) is-listed (subst (λ (K : PathList). RestTable K s (l .rest)) (sym (g .list)) r)
+  name-inside : (e : ℕ) → e < length from → getD via e 0 < length starts
+  name-inside e h = omega (arith, g .legal .named (edgeAt from to via e) (edge-in e h), ap length (g .design))
 
-  bounded-given : (o : List ℕ) (B : Bounds) (c : ℕ) → Bounded (ofStarts starts) (pathList listed lengths) (ofNodes nodes) o B c → Bounded D L G o B c
-  bounded-given o B c b =
-      subst (λ (K : PathList). Bounded D K G o B c) (sym (g .list))
-      (bounded-starts D (pathList listed lengths) G o B c
-      (subst (λ (v : List ℕ). Bounded (ofStarts (D .starts)) (pathList listed lengths) (ofNodes v) o B c) (sym (g .copies))
-      (subst (λ (v : List ℕ). Bounded (ofStarts v) (pathList listed lengths) (ofNodes nodes) o B c) (sym (g .design)) b)))
+  enough : l .slots + candidates D G L ≤ length s₀
+  enough = omega (arith, room, w .slots)
 
-  module _ (s₀ : List ℕ) (room : tableWords (length nodes) (length from) (length listed) + candidates D G L ≤ length s₀) where
-    enough : l .slots + candidates D G L ≤ length s₀
-    enough = omega (arith, room, w .slots)
+  known : (i : ℕ) → i < length listed → getD listed i 0 < length starts
+  known =
+      edge-path (λ (k : ℕ). k < length starts) lengths listed (list-fits .total)
+      (λ p m k h. omega (arith, list-fits .named p m k h, ap length (g .design)))
 
-    pub rest-room : l .rest + sum lengths ≤ length s₀
-    rest-room = omega (arith, enough, w .rest, w .slots, list-fits .total)
-
-    module _ (s₁ : List ℕ) (r₁ : Rests lengths s₀ s₁ (l .rest)) where
-      rests-in : RestTable (pathList listed lengths) s₁ (l .rest)
-      rests-in = rest-table D (pathList listed lengths) s₀ s₁ (l .rest) list-fits r₁
-
-      pub orderable : ((k : ℕ) → getD starts k 0 < 4096) → Orderable starts listed lengths s₁ (l .rest) (l .order) (l .rank) (l .link)
-      orderable below = record {
-        rests = rests-in;
-        filled = list-fits .filled;
-        starts-below = below;
-        rest-before = omega (arith, w .rest, w .order);
-        order-before = omega (arith, w .order, w .rank);
-        rank-before = omega (arith, w .rank, w .link);
-        room = omega (arith, enough, r₁ .frame .size, w .link, w .slots);
-        few = list-fits .fewEdges;
+  pub makeable : length roots₀ ≡ 16384 → ((e : ℕ) → getD roots₀ e 0 ≡ 0) → length firsts₀ ≡ 4097 → ((v : ℕ) → getD firsts₀ v 0 ≡ 0)
+      → Makeable (l .lists) starts listed lengths s₀ roots₀ firsts₀
+  makeable a b c d =
+      record {
+        list = record {
+          total = list-fits .total;
+          filled = list-fits .filled;
+          few-paths = omega (arith, list-fits .fewPaths);
+          few-edges = omega (arith, list-fits .fewEdges);
+          edges-below = λ i h. omega (arith, known i h);
+        };
+        laid = w .lists;
+        size = w .list-edges;
+        room = omega (arith, enough, w .slots, w .list-edges);
+        known = known;
+        nodes = starts-below;
+        roots-room = omega arith;
+        roots-none = b;
+        first-room = c;
+        first-none = d;
       }
 
-      module _ (s₂ : List ℕ) (r₂ : Tabulated starts listed s₁ s₂ (l .rest) (l .order) (l .rank) (l .link)) where
-        pub searchable : Searchable starts listed lengths s₂ (l .rest) (l .order) (l .low)
-        searchable = record {
-          rest-room = omega (arith, w .rest, w .low);
-          order-room = omega (arith, w .order, w .low);
-          room = omega (arith, enough, r₁ .frame .size, r₂ .frame .size, w .low, w .slots);
-          total = list-fits .total;
-          filled = λ j h. rests-in .filled (getD lengths j 0) (getD-mem lengths j 0 h);
-          rests = r₂ .frame .below (l .rest) (length listed) (omega (arith, w .rest, w .order)) ∙ rests-in .rests;
-          ordered = r₂ .ordered (ofStarts starts) (pathList listed lengths) refl refl rests-in;
+  module _ (size-roots : length roots₀ ≡ 16384) (size-firsts : length firsts₀ ≡ 4097) (s₁ roots firsts : List ℕ) (r₁ : Made (l .lists) starts listed lengths s₀ roots₀ firsts₀ s₁ roots firsts) where
+    abbrev K : List (List ℕ)
+    K = pathsOf (pathList listed lengths)
+
+    first-is : (v : ℕ) → v ≤ 4096 → getD firsts v 0 ≡ marksBelow starts K v
+    first-is = r₁ .firsts
+
+    classes-few : classCount K ≤ 16384
+    classes-few = omega (arith, r₁ .automaton .search .held .few, r₁ .automaton .search .held .few-edges)
+
+    pub baseable : Baseable l nodes firsts s₁
+    baseable =
+        record {
+          copies = w .copies;
+          base = omega (arith, w .base, w .first, w .copies);
+          room = omega (arith, enough, w .base, w .slots, w .copies, r₁ .frame .size);
+          few-copies = g .few-copies;
+          size = r₁ .first-size ∙ size-firsts;
+          nodes-below = nodes-below;
+          rises = λ v h. omega (arith, first-is v (omega arith), first-is (suc v) (omega arith), marks-next starts K v);
+          few = λ v h. omega (arith, first-is v h, marks-total starts K v, classes-few);
         }
 
-        pub fillable : ((c : ℕ) → c < length nodes → getD nodes c 0 < 4096) → Fillable listed nodes s₂ (l .low)
-        fillable below = record {
-          nodes-below = below;
-          room = omega (arith, enough, r₁ .frame .size, r₂ .frame .size, w .low, w .slots);
-          copies = omega (arith, g .few-copies);
-          few = list-fits .fewEdges;
+    module _ (s₂ : List ℕ) (total : ℕ) (r₂ : Based l nodes firsts s₁ s₂ total) where
+      size₂ : length s₂ ≡ length s₀
+      size₂ = r₂ .frame .size ∙ r₁ .frame .size
+
+      pub linkable-into : Linkable s₂ to (l .into) (l .copies)
+      linkable-into = record {
+        room = omega (arith, enough, size₂, w .into, w .copies, w .slots, g .ends);
+        few = omega (arith, g .ends, g .few-edges);
+        inside = λ e h. omega (arith, end-inside e (omega (arith, g .ends)), w .copies);
+      }
+
+      module _ (s₃ : List ℕ) (r₃ : Linked to s₂ s₃ (l .into) (l .copies)) where
+        pub defaultable : Defaultable l via roots s₃
+        defaultable = record {
+          lists = w .lists;
+          names = g .names ∙ sym (w .edges);
+          list = omega (arith, w .default, w .list-edges);
+          room = omega (arith, enough, size₂, r₃ .frame .size, w .default, w .slots, w .edges);
+          names-below = λ e h. omega (arith, name-inside e (omega (arith, w .edges)), r₁ .roots-size);
+          roots-below = λ k h. omega (arith, r₁ .singles k h .inside, r₁ .automaton .search .held .few);
         }
 
-        module _ (s₃ : List ℕ) (total : ℕ) (r₃ : Filled starts listed lengths nodes s₂ s₃ (l .order) (l .low) total) where
-          ordered-in : Ordered D L (table s₃ (l .order) (length listed))
-          ordered-in =
-              subst (λ (o : List ℕ). Ordered D L o) (sym (r₃ .frame .below (l .order) (length listed) (omega (arith, w .order, w .low))))
-              (ordered-list s₁ s₂ rests-in r₂)
+        module _ (s₄ : List ℕ) (r₄ : Defaulted l via roots s₃ s₄) where
+          pub named-room : l .named + length via ≤ length s₄
+          named-room = omega (arith, enough, size₂, r₃ .frame .size, r₄ .frame .size, w .named, w .slots, g .names)
 
-          bounded-in : (c : ℕ) → c < length nodes → Bounded D L G (table s₃ (l .order) (length listed)) (boundsAt s₃ (l .low) (length nodes)) c
-          bounded-in c h = bounded-given (table s₃ (l .order) (length listed)) (boundsAt s₃ (l .low) (length nodes)) c (r₃ .bounded c h)
+          module _ (s₅ : List ℕ) (r₅ : Named listed via s₄ s₅ (l .named) (length via)) where
+            slots-node : (c : ℕ) → c < length nodes → slotsFrom firsts nodes c ≡ length (marksAt starts K (getD nodes c 0))
+            slots-node c h =
+                omega (
+                  arith,
+                  first-is (getD nodes c 0) (omega (arith, nodes-below c h)),
+                  first-is (suc (getD nodes c 0)) (omega (arith, nodes-below c h)),
+                  marks-next starts K (getD nodes c 0),
+                  marks-some starts K (getD nodes c 0),
+                )
 
-          total-is : total ≡ candidates D G L
-          total-is =
-              r₃ .slots
-              ∙ ap (slotBase (boundsAt s₃ (l .low) (length nodes))) (sym (ap length (g .copies)))
-              ∙ slots-candidates D L G (table s₃ (l .order) (length listed)) (boundsAt s₃ (l .low) (length nodes)) (g .fits .total) ordered-in
-              (λ c h. bounded-in c (omega (arith, ap length (g .copies))))
+            slots-is : (c : ℕ) → c < length nodes → slotsFrom firsts nodes c ≡ slotsOf D L G c
+            unfolding slotsOf
+            slots-is c h =
+                slots-node c h
+                ∙ ap (λ (x : List ℕ). length (marksAt starts K (getD x c 0))) (sym (g .copies))
+                ∙ ap (λ (x : List ℕ). length (marksAt x K (nodeOf G c))) (sym (g .design))
+                ∙ ap (λ (x : PathList). length (marksAt (D .starts) (pathsOf x) (nodeOf G c))) (sym (g .list))
 
-          pub size₃ : length s₃ ≡ length s₀
-          size₃ = r₃ .frame .size ∙ r₂ .frame .size ∙ r₁ .frame .size
+            total-few : total ≤ candidates D G L
+            total-few =
+                omega (
+                  arith,
+                  r₂ .total-is,
+                  ap (slotBase (slotsFrom firsts nodes)) (w .copies ∙ sym (ap length (g .copies))),
+                  slots-candidates D L G (slotsFrom firsts nodes) (g .fits .filled) (λ c h. slots-is c (omega (arith, ap length (g .copies)))),
+                )
 
-          pub linkable-into : Linkable s₃ to (l .into) (l .copies)
-          linkable-into = record {
-            room = omega (arith, enough, size₃, w .into, w .copies, w .slots, g .ends);
-            few = omega (arith, g .ends, g .few-edges);
-            inside = λ e h. omega (arith, end-inside e (omega (arith, g .ends)), w .copies);
-          }
+            pub clear-room : l .slots + total ≤ length s₅
+            clear-room = omega (arith, enough, size₂, r₃ .frame .size, r₄ .frame .size, r₅ .frame .size, total-few)
 
-          module _ (s₄ : List ℕ) (r₄ : Linked to s₃ s₄ (l .into) (l .copies)) where
-            pub named-room : l .named + length via ≤ length s₄
-            named-room = omega (arith, enough, size₃, r₄ .frame .size, w .named, w .slots, g .names)
+            module _ (s₆ : List ℕ) (z : table s₆ (l .slots) total ≡ replicate total 0) (r₆ : Frame s₅ s₆ (l .slots) total) where
+              pub size₆ : length s₆ ≡ length s₀
+              size₆ = r₆ .size ∙ r₅ .frame .size ∙ r₄ .frame .size ∙ r₃ .frame .size ∙ size₂
 
-            module _ (s₅ : List ℕ) (r₅ : Named listed via s₄ s₅ (l .named) (length via)) where
-              pub clear-room : l .slots + total ≤ length s₅
-              clear-room = omega (arith, enough, size₃, r₄ .frame .size, r₅ .frame .size, total-is)
+              abbrev p : List ℕ
+              p = take (l .slots) s₆
 
-              module _ (s₆ : List ℕ) (z : table s₆ (l .slots) total ≡ replicate total 0) (r₆ : Frame s₅ s₆ (l .slots) total) where
-                pub size₆ : length s₆ ≡ length s₀
-                size₆ = r₆ .size ∙ r₅ .frame .size ∙ r₄ .frame .size ∙ size₃
+              kept₅ : (b m : ℕ) → b + m ≤ l .slots → table p b m ≡ table s₅ b m
+              kept₅ b m h = table-take (l .slots) b m s₆ h ∙ r₆ .below b m h
 
-                kept₅ : (b m : ℕ) → b + m ≤ l .slots → table (take (l .slots) s₆) b m ≡ table s₅ b m
-                kept₅ b m h = table-take (l .slots) b m s₆ h ∙ r₆ .below b m h
+              kept₄ : (b m : ℕ) → b + m ≤ l .named → table p b m ≡ table s₄ b m
+              kept₄ b m h = kept₅ b m (omega (arith, w .named, w .slots)) ∙ r₅ .frame .below b m h
 
-                kept₄ : (b m : ℕ) → b + m ≤ l .named → table (take (l .slots) s₆) b m ≡ table s₄ b m
-                kept₄ b m h = kept₅ b m (omega (arith, w .named, w .slots)) ∙ r₅ .frame .below b m h
+              kept₃ : (b m : ℕ) → b + m ≤ l .default → table p b m ≡ table s₃ b m
+              kept₃ b m h = kept₄ b m (omega (arith, w .default, w .named)) ∙ r₄ .frame .below b m h
 
-                kept₃ : (b m : ℕ) → b + m ≤ l .into → table (take (l .slots) s₆) b m ≡ table s₃ b m
-                kept₃ b m h = kept₄ b m (omega (arith, w .into, w .named)) ∙ r₄ .frame .below b m h
+              kept₂ : (b m : ℕ) → b + m ≤ l .into → table p b m ≡ table s₂ b m
+              kept₂ b m h = kept₃ b m (omega (arith, w .into, w .default)) ∙ r₃ .frame .below b m h
 
-                kept₂ : (b m : ℕ) → b + m ≤ l .low → table (take (l .slots) s₆) b m ≡ table s₂ b m
-                kept₂ b m h = kept₃ b m (omega (arith, w .low, w .into)) ∙ r₃ .frame .below b m h
+              kept₁ : (b m : ℕ) → b + m ≤ l .first → table p b m ≡ table s₁ b m
+              kept₁ b m h = kept₂ b m (omega (arith, w .first, w .into)) ∙ r₂ .frame .below b m h
 
-                rests₂ : table (take (l .slots) s₆) (l .rest) (length listed) ≡ table s₂ (l .rest) (length listed)
-                rests₂ = kept₂ (l .rest) (length listed) (omega (arith, w .rest, w .low))
+              automaton : Automaton (D .starts) (pathsOf L) (l .lists) p
+              automaton =
+                  subst (λ (x : List ℕ). Automaton x (pathsOf L) (l .lists) p) (sym (g .design))
+                  (subst (λ (x : PathList). Automaton starts (pathsOf x) (l .lists) p) (sym (g .list))
+                  (automaton-same starts K (l .lists) s₁ p
+                  (λ b m h. kept₁ b m (omega (arith, w .first, w .list-edges)))
+                  (omega (arith, length-take-le (l .slots) s₆ (omega (arith, enough, size₆)), w .slots, w .list-edges)) (r₁ .automaton)))
 
-                word : (b c i : ℕ) → b + length nodes ≤ l .into → c < length nodes → i ≡ b + c
-                    → getD (take (l .slots) s₆) i 0 ≡ getD (table s₃ b (length nodes)) c 0
-                word b c i h k e =
-                    ap (λ (j : ℕ). getD (take (l .slots) s₆) j 0) e
-                    ∙ sym (table-at (take (l .slots) s₆) b (length nodes) c k)
-                    ∙ ap (λ (t : List ℕ). getD t c 0) (kept₃ b (length nodes) h)
+              base-word : (c : ℕ) → c ≤ length nodes → getD p (l .base + c) 0 ≡ slotBase (slotsFrom firsts nodes) c
+              base-word c h =
+                  word-kept s₂ p (l .base + c) (kept₂ (l .base + c) 1 (omega (arith, w .base, w .into))) ∙ r₂ .bases c (omega (arith, w .copies))
 
-                low-is : (c : ℕ) → c < length nodes → boundsIn l (take (l .slots) s₆) .low c ≡ boundsAt s₃ (l .low) (length nodes) .low c
-                low-is c h = word (l .low) c (l .low + c) (omega (arith, w .low, w .into)) h refl
+              slots-in : (c : ℕ) → c < length nodes → slotsIn l p c ≡ slotsFrom firsts nodes c
+              slots-in c h =
+                  omega (arith, base-word c (omega arith), base-word (suc c) (omega arith), base-next (slotsFrom firsts nodes) c)
 
-                middle-is : (c : ℕ) → c < length nodes → boundsIn l (take (l .slots) s₆) .middle c ≡ boundsAt s₃ (l .low) (length nodes) .middle c
-                middle-is c h = word (l .low + length nodes) c (l .low + l .copies + c) (omega (arith, w .low, w .into)) h (omega (arith, w .copies))
+              bases-are : (c : ℕ) → c ≤ length nodes → slotBase (slotsIn l p) c ≡ slotBase (slotsFrom firsts nodes) c
+              bases-are c h = base-agree (slotsFrom firsts nodes) (slotsIn l p) c (λ i k. slots-in i (omega arith))
 
-                high-is : (c : ℕ) → c < length nodes → boundsIn l (take (l .slots) s₆) .high c ≡ boundsAt s₃ (l .low) (length nodes) .high c
-                high-is c h = word (l .low + length nodes + length nodes) c (l .low + 2 * l .copies + c) (omega (arith, w .low, w .into)) h (omega (arith, w .copies))
+              base-is : slotBase (slotsIn l p) (l .copies) ≡ total
+              base-is = ap (slotBase (slotsIn l p)) (w .copies) ∙ bases-are (length nodes) (omega arith) ∙ ap (slotBase (slotsFrom firsts nodes)) (sym (w .copies)) ∙ sym (r₂ .total-is)
 
-                slots-are : (c : ℕ) → c < length nodes → slots (boundsIn l (take (l .slots) s₆)) c ≡ slots (boundsAt s₃ (l .low) (length nodes)) c
-                slots-are c h = omega (arith, low-is c h, middle-is c h)
+              pub all-clear : (c j : ℕ) → c < length nodes → j < slots (slotsIn l (take (l .slots) s₆)) c → flagIn l s₆ c j ≡ 0
+              all-clear c j h k =
+                  let B = slotsIn l (take (l .slots) s₆) in
+                  let i = slotBase B c + j in
+                  let m : i < total = omega (arith, slot-inside B c j (l .copies) (omega (arith, w .copies)) k, base-is) in
+                  let e : l .slots + slotBase B c + j ≡ l .slots + i = omega arith in
+                  ap (λ (n : ℕ). getD s₆ n 0) e
+                  ∙ sym (table-at s₆ (l .slots) total i m)
+                  ∙ ap (λ (t : List ℕ). getD t i 0) z
+                  ∙ getD-replicate total i 0 0 m
 
-                bases-are : (c : ℕ) → c ≤ length nodes → slotBase (boundsIn l (take (l .slots) s₆)) c ≡ slotBase (boundsAt s₃ (l .low) (length nodes)) c
-                bases-are c h = base-agree (boundsAt s₃ (l .low) (length nodes)) (boundsIn l (take (l .slots) s₆)) c (λ i k. slots-are i (omega arith))
+              first-word : (c : ℕ) → c < length nodes → getD p (l .first + c) 0 ≡ marksBelow (D .starts) (pathsOf L) (nodeOf G c)
+              first-word c h =
+                  word-kept s₂ p (l .first + c) (kept₂ (l .first + c) 1 (omega (arith, w .first, w .into)))
+                  ∙ r₂ .firsts-are c (omega (arith, w .copies))
+                  ∙ first-is (getD nodes c 0) (omega (arith, nodes-below c h))
+                  ∙ ap (λ (x : List ℕ). marksBelow starts K (getD x c 0)) (sym (g .copies))
+                  ∙ ap (λ (x : List ℕ). marksBelow x K (nodeOf G c)) (sym (g .design))
+                  ∙ ap (λ (x : PathList). marksBelow (D .starts) (pathsOf x) (nodeOf G c)) (sym (g .list))
 
-                base-is : slotBase (boundsIn l (take (l .slots) s₆)) (l .copies) ≡ total
-                base-is = ap (slotBase (boundsIn l (take (l .slots) s₆))) (w .copies) ∙ bases-are (length nodes) (omega arith) ∙ sym (r₃ .slots)
+              -- the default of an edge is the place of the class of its name alone
+              default-word : (e : ℕ) → e < length from → Stepped starts K (getD via e 0) [] (getD p (l .default + e) 0)
+              default-word e h =
+                  let k = getD via e 0 in
+                  let inside : k < length roots = omega (arith, name-inside e h, r₁ .roots-size) in
+                  let root = r₁ .singles k inside in
+                  let few : getD roots k 0 < l .lists .edges + 1 = omega (arith, root .inside, r₁ .automaton .search .held .few) in
+                  let below : l .lists .loc + getD roots k 0 + 1 ≤ l .first = omega (arith, few, w .lists .loc, w .first, w .list-edges) in
+                  let same : getD p (l .default + e) 0 ≡ getD (locIn (l .lists) s₁) (getD roots k 0) 0 =
+                  word-kept s₄ p (l .default + e) (kept₄ (l .default + e) 1 (omega (arith, w .default, w .named)))
+                  ∙ r₄ .defaults e (omega (arith, w .edges))
+                  ∙ sym (word-kept s₃ p (l .lists .loc + getD roots k 0) (kept₃ (l .lists .loc + getD roots k 0) 1 (omega (arith, below, w .first, w .default))))
+                  ∙ word-kept s₁ p (l .lists .loc + getD roots k 0) (kept₁ (l .lists .loc + getD roots k 0) 1 below)
+                  ∙ sym (table-at s₁ (l .lists .loc) (l .lists .edges + 1) (getD roots k 0) few) in
+                  subst (λ (x : ℕ). Stepped starts K k [] x) (sym same)
+                  (fit-stepped starts K (r₁ .automaton .search .filled) k [] (getD roots k 0) (getD (locIn (l .lists) s₁) (getD roots k 0) 0)
+                  (root-fit K k (getD roots k 0) root) (r₁ .automaton .locs (getD roots k 0) (root .inside)))
 
-                pub all-clear : (c j : ℕ) → c < length nodes → j < slots (boundsIn l (take (l .slots) s₆)) c → flagIn l s₆ c j ≡ 0
-                all-clear c j h k =
-                    let B = boundsIn l (take (l .slots) s₆) in
-                    let i = slotBase B c + j in
-                    let m : i < total = omega (arith, base-inside B (l .copies) c j (omega (arith, w .copies)) k, base-is) in
-                    let e : l .slots + slotBase B c + j ≡ l .slots + i = omega arith in
-                    ap (λ (n : ℕ). getD s₆ n 0) e
-                    ∙ sym (table-at s₆ (l .slots) total i m)
-                    ∙ ap (λ (t : List ℕ). getD t i 0) z
-                    ∙ getD-replicate total i 0 0 m
+              defaults : (e : ℕ) → e < length from → Stepped (D .starts) (pathsOf L) (getD via e 0) [] (getD p (l .default + e) 0)
+              defaults e h =
+                  subst (λ (x : List ℕ). Stepped x (pathsOf L) (getD via e 0) [] (getD p (l .default + e) 0)) (sym (g .design))
+                  (subst (λ (x : PathList). Stepped starts (pathsOf x) (getD via e 0) [] (getD p (l .default + e) 0)) (sym (g .list)) (default-word e h))
 
-                pub all-tabled : Tabled D L G l listed from to via (take (l .slots) s₆)
-                all-tabled = record {
-                  legal = g .legal;
-                  fits = g .fits;
-                  list-edges = is-listed;
-                  edges = g .edges;
-                  starts = sym (w .edges);
-                  ends = g .ends ∙ sym (w .edges);
-                  names = g .names ∙ sym (w .edges);
-                  copies = ap length (g .copies) ∙ sym (w .copies);
-                  few-copies = omega (arith, w .copies, g .few-copies);
-                  few-edges = omega (arith, w .edges, g .few-edges);
-                  laid = laid (length nodes) (length from) (length listed) l w (take (l .slots) s₆) (length-take-le (l .slots) s₆ (omega (arith, enough, size₆)));
-                  rests =
-                      kept₃ (l .rest) (length listed) (omega (arith, w .rest, w .into))
-                      ∙ r₃ .frame .below (l .rest) (length listed) (omega (arith, w .rest, w .low))
-                      ∙ r₂ .frame .below (l .rest) (length listed) (omega (arith, w .rest, w .order))
-                      ∙ rests-in .rests
-                      ∙ ap (λ (K : PathList). map (restAt K) (upto (length listed) 0)) (sym (g .list));
-                  ordered = subst (λ (o : List ℕ). Ordered D L o) (sym (kept₃ (l .order) (length listed) (omega (arith, w .order, w .into)))) ordered-in;
-                  falls = subst (RestsFall listed) (sym rests₂) (r₂ .falls);
-                  ranked = subst (λ (x : List ℕ). Ranked listed x (table (take (l .slots) s₆) (l .rank) (length listed))) (sym rests₂)
-                      (subst (Ranked listed (table s₂ (l .rest) (length listed))) (sym (kept₂ (l .rank) (length listed) (omega (arith, w .rank, w .low)))) (r₂ .ranked));
-                  links = λ n.
-                      subst (λ (x : List ℕ). LinkedTo listed x (table (take (l .slots) s₆) (l .link) (length listed)) n) (sym rests₂)
-                      (subst (λ (x : List ℕ). LinkedTo listed (table s₂ (l .rest) (length listed)) x n) (sym (kept₂ (l .link) (length listed) (omega (arith, w .link, w .low)))) (r₂ .links n));
-                  bounded = λ c h. bounded-here c (omega (arith, w .copies));
-                  bases = λ c h. bases-here c (omega (arith, w .copies));
-                  into =
-                      chained-same to (table s₄ (l .into) (l .copies)) (table s₄ (l .into + l .copies) (length to))
-                      (table (take (l .slots) s₆) (l .into) (l .copies)) (table (take (l .slots) s₆) (l .into + l .copies) (l .edges)) (l .copies) (length to) (l .edges)
-                      (kept₄ (l .into) (l .copies) (omega (arith, w .into, w .copies, w .named)))
-                      (kept₄ (l .into + l .copies) (l .edges) (omega (arith, w .into, w .copies, w .edges, w .named)) ∙ ap (table s₄ (l .into + l .copies)) edges-to)
-                      edges-to (r₄ .chains);
-                  named = λ e h z. r₅ .named e (omega (arith, w .edges, g .names)) (sym (named-word e h) ∙ z);
-                }
-                  where
-                    named-word : (e : ℕ) → e < l .edges → getD (take (l .slots) s₆) (l .named + e) 0 ≡ getD s₅ (l .named + e) 0
-                    named-word e h =
-                        sym (table-at (take (l .slots) s₆) (l .named) (l .edges) e h)
-                        ∙ ap (λ (t : List ℕ). getD t e 0) (kept₅ (l .named) (l .edges) (omega (arith, w .named, w .edges, w .slots)))
-                        ∙ table-at s₅ (l .named) (l .edges) e h
+              edges-to : l .edges ≡ length to
+              edges-to = w .edges ∙ sym (g .ends)
 
-                    edges-to : l .edges ≡ length to
-                    edges-to = w .edges ∙ sym (g .ends)
+              pub all-tabled : Tabled D L G l listed from to via (take (l .slots) s₆)
+              all-tabled = record {
+                legal = g .legal;
+                fits = g .fits;
+                list-edges = is-listed;
+                edges = g .edges;
+                starts = sym (w .edges);
+                ends = g .ends ∙ sym (w .edges);
+                names = g .names ∙ sym (w .edges);
+                copies = ap length (g .copies) ∙ sym (w .copies);
+                few-copies = omega (arith, w .copies, g .few-copies);
+                few-edges = omega (arith, w .edges, g .few-edges);
+                few-nodes = λ c h. omega (arith, nodes-below c (omega (arith, w .copies)), ap (λ (x : List ℕ). getD x c 0) (g .copies));
+                laid = laid (length nodes) (length from) (length listed) l w (take (l .slots) s₆) (length-take-le (l .slots) s₆ (omega (arith, enough, size₆)));
+                automaton = automaton;
+                firsts = λ c h. first-word c (omega (arith, w .copies));
+                slots-are = λ c h. slots-in c (omega (arith, w .copies)) ∙ slots-is c (omega (arith, w .copies));
+                bases = λ c h. base-word c (omega (arith, w .copies)) ∙ sym (bases-are c (omega (arith, w .copies)));
+                into =
+                    chained-same to (table s₃ (l .into) (l .copies)) (table s₃ (l .into + l .copies) (length to))
+                    (table (take (l .slots) s₆) (l .into) (l .copies)) (table (take (l .slots) s₆) (l .into + l .copies) (l .edges)) (l .copies) (length to) (l .edges)
+                    (kept₃ (l .into) (l .copies) (omega (arith, w .into, w .copies, w .default)))
+                    (kept₃ (l .into + l .copies) (l .edges) (omega (arith, w .into, w .copies, w .edges, w .default)) ∙ ap (table s₃ (l .into + l .copies)) edges-to)
+                    edges-to (r₃ .chains);
+                defaults = λ e h. defaults e (omega (arith, w .edges));
+                named = λ e h y.
+                    r₅ .named e (omega (arith, w .edges, g .names))
+                    (sym (word-kept s₅ (take (l .slots) s₆) (l .named + e) (kept₅ (l .named + e) 1 (omega (arith, w .named, w .edges, w .slots)))) ∙ y);
+              }
 
-                    bounded-here : (c : ℕ) → c < length nodes → Bounded D L G (orderIn l listed (take (l .slots) s₆)) (boundsIn l (take (l .slots) s₆)) c
-                    bounded-here c h =
-                        subst (λ (o : List ℕ). Bounded D L G o (boundsIn l (take (l .slots) s₆)) c)
-                        (sym (kept₃ (l .order) (length listed) (omega (arith, w .order, w .into))))
-                        (bounded-agree D L G (table s₃ (l .order) (length listed)) (boundsAt s₃ (l .low) (length nodes)) (boundsIn l (take (l .slots) s₆)) c
-                        (low-is c h) (middle-is c h) (high-is c h) (bounded-in c h))
+              slots-few : (n : ℕ) → n ≤ length nodes → slotBase (slotsFrom firsts nodes) n ≤ 16385 * n
+              slots-few zero h = omega arith
+              slots-few (suc n) h =
+                  omega (
+                    arith,
+                    base-next (slotsFrom firsts nodes) n,
+                    slots-few n (omega arith),
+                    first-is (suc (getD nodes n 0)) (omega (arith, nodes-below n (omega arith))),
+                    marks-total starts K (suc (getD nodes n 0)),
+                    classes-few,
+                  )
 
-                    bases-here : (c : ℕ) → c < length nodes → getD (take (l .slots) s₆) (l .low + 3 * l .copies + c) 0 ≡ slotBase (boundsIn l (take (l .slots) s₆)) c
-                    bases-here c h =
-                        word (l .low + length nodes + length nodes + length nodes) c (l .low + 3 * l .copies + c) (omega (arith, w .low, w .into)) h (omega (arith, w .copies))
-                        ∙ r₃ .bases c h
-                        ∙ sym (bases-are c (omega arith))
-
-                slots-few : (c : ℕ) → c < length nodes → slots (boundsAt s₃ (l .low) (length nodes)) c ≤ 8193
-                slots-few c h =
-                    let b = bounded-in c h in
-                    omega (arith, b .tails-up, b .heads-up, b .within, ordered-in .size, ap length is-listed, list-fits .fewEdges)
-
-                pub all-ready : Ready l listed from to via s₆
-                all-ready = record {
-                  design = D;
-                  list = L;
-                  graph = G;
-                  tabled = all-tabled;
-                  room = omega (arith, base-is, total-is, enough, size₆);
-                  few = omega (arith, base-is, r₃ .slots, base-small (boundsAt s₃ (l .low) (length nodes)) (length nodes) slots-few, g .few-copies);
-                }
+              pub all-ready : Ready l listed from to via s₆
+              all-ready = record {
+                design = D;
+                list = L;
+                graph = G;
+                tabled = all-tabled;
+                room = omega (arith, base-is, total-few, enough, size₆);
+                few = omega (arith, base-is, r₂ .total-is, ap (slotBase (slotsFrom firsts nodes)) (w .copies), slots-few (length nodes) (omega arith), g .few-copies);
+              }
 
 -- how many candidates there are goes by the lent slices alone
 candidates-plain : (D : Design) (G : Graph) (L : PathList) → candidates D G L ≡ candidates (ofStarts (D .starts)) (ofNodes (G .nodes)) L
@@ -355,19 +385,21 @@ module _ (starts listed lengths nodes from to via : List ℕ) where
       → Given D L G starts listed lengths nodes from to via → tableWords (length nodes) (length from) (length listed) + candidates D G L ≤ length s
   given-room s b D L G g = omega (arith, candidates-given D L G g, candidates-given (b .design) (b .list) (b .graph) (b .given), b .room)
 
-  pub built : (s₀ s₁ s₂ s₃ s₄ s₅ s₆ : List ℕ) (l : Layout) (total : ℕ) → Buildable starts listed lengths nodes from to via s₀
+  pub built : (s₀ roots₀ firsts₀ s₁ roots firsts s₂ s₃ s₄ s₅ s₆ : List ℕ) (l : Layout) (total : ℕ) → Buildable starts listed lengths nodes from to via s₀
       → LaidOut (length nodes) (length from) (length listed) l
-      → Rests lengths s₀ s₁ (l .rest)
-      → Tabulated starts listed s₁ s₂ (l .rest) (l .order) (l .rank) (l .link)
-      → Filled starts listed lengths nodes s₂ s₃ (l .order) (l .low) total
-      → Linked to s₃ s₄ (l .into) (l .copies)
+      → length roots₀ ≡ 16384
+      → length firsts₀ ≡ 4097
+      → Made (l .lists) starts listed lengths s₀ roots₀ firsts₀ s₁ roots firsts
+      → Based l nodes firsts s₁ s₂ total
+      → Linked to s₂ s₃ (l .into) (l .copies)
+      → Defaulted l via roots s₃ s₄
       → Named listed via s₄ s₅ (l .named) (length via)
       → (table s₆ (l .slots) total ≡ replicate total 0) × Frame s₅ s₆ (l .slots) total
       → Built starts listed lengths nodes from to via s₀ s₆ l
-  built s₀ s₁ s₂ s₃ s₄ s₅ s₆ l total b w r₁ r₂ r₃ r₄ r₅ r₆ = record {
-    size = size₆ (b .design) (b .list) (b .graph) starts listed lengths nodes from to via (b .given) l w s₀ (b .room) s₁ r₁ s₂ r₂ s₃ total r₃ s₄ r₄ s₅ r₅ s₆ (r₆ .0) (r₆ .1);
+  built s₀ roots₀ firsts₀ s₁ roots firsts s₂ s₃ s₄ s₅ s₆ l total b w a c r₁ r₂ r₃ r₄ r₅ r₆ = record {
+    size = size₆ (b .design) (b .list) (b .graph) starts listed lengths nodes from to via (b .given) l w (b .edges-below) (b .starts-below) (b .nodes-below) s₀ roots₀ firsts₀ (b .room) a c s₁ roots firsts r₁ s₂ total r₂ s₃ r₃ s₄ r₄ s₅ r₅ s₆ (r₆ .0) (r₆ .1);
     laid = w;
-    clear = all-clear (b .design) (b .list) (b .graph) starts listed lengths nodes from to via (b .given) l w s₀ (b .room) s₁ r₁ s₂ r₂ s₃ total r₃ s₄ r₄ s₅ r₅ s₆ (r₆ .0) (r₆ .1);
-    tabled = λ D L G g. all-tabled D L G starts listed lengths nodes from to via g l w s₀ (given-room s₀ b D L G g) s₁ r₁ s₂ r₂ s₃ total r₃ s₄ r₄ s₅ r₅ s₆ (r₆ .0) (r₆ .1);
-    ready = λ D L G g. all-ready D L G starts listed lengths nodes from to via g l w s₀ (given-room s₀ b D L G g) s₁ r₁ s₂ r₂ s₃ total r₃ s₄ r₄ s₅ r₅ s₆ (r₆ .0) (r₆ .1);
+    clear = all-clear (b .design) (b .list) (b .graph) starts listed lengths nodes from to via (b .given) l w (b .edges-below) (b .starts-below) (b .nodes-below) s₀ roots₀ firsts₀ (b .room) a c s₁ roots firsts r₁ s₂ total r₂ s₃ r₃ s₄ r₄ s₅ r₅ s₆ (r₆ .0) (r₆ .1);
+    tabled = λ D L G g. all-tabled D L G starts listed lengths nodes from to via g l w (b .edges-below) (b .starts-below) (b .nodes-below) s₀ roots₀ firsts₀ (given-room s₀ b D L G g) a c s₁ roots firsts r₁ s₂ total r₂ s₃ r₃ s₄ r₄ s₅ r₅ s₆ (r₆ .0) (r₆ .1);
+    ready = λ D L G g. all-ready D L G starts listed lengths nodes from to via g l w (b .edges-below) (b .starts-below) (b .nodes-below) s₀ roots₀ firsts₀ (given-room s₀ b D L G g) a c s₁ roots firsts r₁ s₂ total r₂ s₃ r₃ s₄ r₄ s₅ r₅ s₆ (r₆ .0) (r₆ .1);
   }

@@ -17,9 +17,9 @@ use Rattle.timing.specs.Tests.{candidates}
 use Rattle.theorems.proofs.Counting.{count-cons, count-append}
 use Rattle.theorems.proofs.Legal.{Legal}
 use Rattle.theorems.proofs.Tested.{DesignFits, ListFits}
-use Rattle.removal.specs.Search.{ofStarts, ofNodes}
+use Rattle.removal.specs.Counts.{ofStarts, ofNodes}
 use Rattle.removal.specs.Counts.{startsIn, inner, shares, ListCountable, CopiesCountable, Counting, Counted, Tallied}
-use Rattle.removal.proofs.Listing.RestLaws.{sum-step, sum-take, lengths-filled}
+use Rattle.removal.proofs.Building.SumLaws.{sum-step, sum-take, lengths-filled}
 use Rattle.theorems.proofs.Lists.{getD-mem}
 
 drop-cons : (l : List ℕ) (i : ℕ) → i < length l → drop i l ≡ getD l i 0 ∷ drop (suc i) l

@@ -6,9 +6,9 @@ use mathlib.Core.Path.{_≡_, refl, sym, _∙_, ap, subst}
 use mathlib.Core.List.{List}
 use lib.ListN.{length, getD, set, length-set}
 use lib.Seq.{getD-set-same, getD-set-other}
-use Rattle.removal.specs.Table.{Frame}
+use Rattle.classes.specs.Table.{Frame}
 use Rattle.removal.specs.Names.{Unlisted, Flagged, Noted, NotedAt, Named}
-use Rattle.removal.proofs.Building.Region.{frame-refl, frame-set}
+use Rattle.classes.proofs.Region.{frame-refl, frame-set}
 
 pub flagged-set : (a : List ℕ) (k : ℕ) → k < length a → Flagged a (set a k 1) k
 flagged-set a k h = record {

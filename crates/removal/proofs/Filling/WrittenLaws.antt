@@ -12,11 +12,11 @@ use Rattle.timing.specs.Graphs.{Edge, edgesIn, nodeOf}
 use Rattle.timing.specs.Marks.{pathsOf}
 use Rattle.timing.specs.TrueGraphs.{trueGraph}
 use Rattle.removal.specs.declared.rows.Layout.{Layout}
-use Rattle.removal.specs.Slots.{Bounds, slots}
-use Rattle.removal.specs.Rows.{orderIn, Ready, flagIn}
+use Rattle.removal.specs.Slots.{slots, slotMarks}
+use Rattle.removal.specs.Rows.{Ready, flagIn}
 use Rattle.removal.specs.Result.{Slot, slotAt, slotEndpoint, shownIn, shownBelow, shownSlots}
 use Rattle.removal.specs.Flags.{ShownRow}
-use Rattle.removal.specs.Fill.{put, Edged, boundsNow, shownNow, numberNow, ifShown, comesNow, fromNow, edgesNow, EdgesFilled, EdgesRoom, RowsShown, SlotsRoom, SlotsFilled, ResultFilled}
+use Rattle.removal.specs.Fill.{put, Edged, slotsNow, shownNow, numberNow, ifShown, comesNow, fromNow, edgesNow, EdgesFilled, EdgesRoom, RowsShown, SlotsRoom, SlotsFilled, ResultFilled}
 use Rattle.removal.proofs.Showing.ResultLaws.{shown-nodes, shown-endpoints, shown-edges}
 use Rattle.removal.proofs.Showing.GrowLaws.{flatMap-append, shown-next, shown-next-copy}
 use Rattle.removal.proofs.Showing.ShowLaws.{links}
@@ -37,7 +37,7 @@ grown F step grow (suc n) j h = go (decLt j n) (grown F step grow n j)
 
 -- one slot: where it is shown, its node and the edges into it are written
 module _ (l : Layout) (listed nodes endpoint from to via s : List ℕ) (c j : ℕ) (room-nodes room-endpoint room-from room-to room-via : List ℕ) (k : ℕ)
-    (copy : c < l .copies) (slot : j < slots (boundsNow l s) c)
+    (copy : c < l .copies) (slot : j < slots (slotsNow l s) c)
     (x : SlotsRoom l listed nodes endpoint from to via s (ifShown l s c j) (numberNow l s c j) room-nodes room-endpoint room-from room-to room-via k) where
   pub slot-hidden : flagIn l s c j < 2 → SlotsFilled l listed nodes endpoint from to via s (ifShown l s c j) (numberNow l s c j) room-nodes room-endpoint room-from room-to room-via room-nodes room-endpoint room-from room-to room-via k k
   unfolding EdgesFilled flatMap
@@ -70,11 +70,11 @@ module _ (l : Layout) (listed nodes endpoint from to via s : List ℕ) (c j : �
           is-shown = is-shown;
           same = x .same .1;
           fit = λ D L G t.
-              let a = ap (λ (b : Bool). length (flatMap (edgesNow l listed s L G) (cond b (slotAt c j ∷ []) []))) is-shown in
-              omega (arith, x .fit D L G t, a, length-append (edgesNow l listed s L G (slotAt c j)) []);
+              let a = ap (λ (b : Bool). length (flatMap (edgesNow l listed s D L G) (cond b (slotAt c j ∷ []) []))) is-shown in
+              omega (arith, x .fit D L G t, a, length-append (edgesNow l listed s D L G (slotAt c j)) []);
         }
 
-    pub slot-written : (room-from′ room-to′ room-via′ : List ℕ) (r : ℕ) → EdgesFilled l listed from to via s (λ L G. edgesNow l listed s L G (slotAt c j)) k room-from room-to room-via room-from′ room-to′ room-via′ r
+    pub slot-written : (room-from′ room-to′ room-via′ : List ℕ) (r : ℕ) → EdgesFilled l listed from to via s (λ D L G. edgesNow l listed s D L G (slotAt c j)) k room-from room-to room-via room-from′ room-to′ room-via′ r
         → SlotsFilled l listed nodes endpoint from to via s (ifShown l s c j) (numberNow l s c j) room-nodes room-endpoint room-from room-to room-via
         (set room-nodes (flagIn l s c j - 2) (getD nodes c 0)) (set room-endpoint (flagIn l s c j - 2) (slotEndpoint endpoint (slotAt c j))) room-from′ room-to′ room-via′ k r
     unfolding EdgesFilled flatMap
@@ -85,7 +85,7 @@ module _ (l : Layout) (listed nodes endpoint from to via s : List ℕ) (c j : �
           nodes-written = ap (λ (i : ℕ). set room-nodes i (getD nodes c 0)) slot-number;
           endpoints-written = ap (λ (i : ℕ). set room-endpoint i (slotEndpoint endpoint (slotAt c j))) slot-number;
           edges-written = λ D L G t.
-              subst (λ (es : List Edge). Edged es k room-from room-to room-via room-from′ room-to′ room-via′ r) (sym (append-nil (edgesNow l listed s L G (slotAt c j)))) (f D L G t);
+              subst (λ (es : List Edge). Edged es k room-from room-to room-via room-from′ room-to′ room-via′ r) (sym (append-nil (edgesNow l listed s D L G (slotAt c j)))) (f D L G t);
         })
 
 -- the rooms keep their lengths
@@ -100,7 +100,7 @@ module _ (l : Layout) (listed nodes endpoint from to via s : List ℕ) (sl : Lis
   pub edge-sizes : Sizes room-from room-to room-via room-from′ room-to′ room-via′
   unfolding EdgesFilled
   edge-sizes =
-      edged-sizes (flatMap (edgesNow l listed s (ready .list) (ready .graph)) sl) k r room-from room-to room-via room-from′ room-to′ room-via′
+      edged-sizes (flatMap (edgesNow l listed s (ready .design) (ready .list) (ready .graph)) sl) k r room-from room-to room-via room-from′ room-to′ room-via′
       (y .edges-written (ready .design) (ready .list) (ready .graph) (ready .tabled))
 
 -- a loop over pieces
@@ -126,7 +126,7 @@ module _ (l : Layout) (listed nodes endpoint from to via s : List ℕ) (F step :
           nodes-fit = omega (arith, x .nodes-fit, ap length (g .1), length-append (F j ++ step j) (g .0), length-append (F j) (step j), w .0);
           same = (w .1 ∙ x .same .0 ∙ sym (w .0), (z .ends ∙ x .same .1 .0 ∙ sym (z .starts), z .names ∙ x .same .1 .1 ∙ sym (z .starts)));
           fit = λ D L G t.
-              let e = edgesNow l listed s L G in
+              let e = edgesNow l listed s D L G in
               let a = ap (λ (sl : List Slot). length (flatMap e sl)) (g .1) in
               let b = ap length (flatMap-append e (F j ++ step j) (g .0)) in
               let c = ap length (flatMap-append e (F j) (step j)) in
@@ -153,7 +153,7 @@ module _ (l : Layout) (listed nodes endpoint from to via s : List ℕ) (F step :
           nodes-written = nodes-two (λ (t : Slot). getD nodes (t .copy) 0) number (F j) (step j) room-nodes₀ room-nodes room-nodes′ (y .nodes-written) (f .nodes-written);
           endpoints-written = nodes-two (slotEndpoint endpoint) number (F j) (step j) room-endpoint₀ room-endpoint room-endpoint′ (y .endpoints-written) (f .endpoints-written);
           edges-written = λ D L G t.
-              let e = edgesNow l listed s L G in
+              let e = edgesNow l listed s D L G in
               subst (λ (es : List Edge). Edged es k room-from₀ room-to₀ room-via₀ room-from′ room-to′ room-via′ r) (sym (flatMap-append e (F j) (step j)))
               (edged-more (flatMap e (F j)) (flatMap e (step j)) k at r room-from₀ room-to₀ room-via₀ room-from room-to room-via room-from′ room-to′ room-via′
               (y .edges-written D L G t) (f .edges-written D L G t));
@@ -163,10 +163,10 @@ module _ (l : Layout) (listed nodes endpoint from to via s : List ℕ) (F step :
 pub number-in : (l : Layout) (s : List ℕ) (c j : ℕ) → numberNow l s c 0 + length (shownIn (shownNow l s) c j) ≡ numberNow l s c j
 number-in l s c j = omega (arith, length-map (keep (shownNow l s c) (upto j 0)) (slotAt c))
 
-pub number-below : (l : Layout) (s : List ℕ) (c : ℕ) → 0 + length (shownBelow (boundsNow l s) (shownNow l s) c) ≡ numberNow l s c 0
+pub number-below : (l : Layout) (s : List ℕ) (c : ℕ) → 0 + length (shownBelow (slotsNow l s) (shownNow l s) c) ≡ numberNow l s c 0
 number-below l s c = omega arith
 
-pub below-none : (B : Bounds) (shown : ℕ → ℕ → Bool) → shownBelow B shown 0 ≡ []
+pub below-none : (B : ℕ → ℕ) (shown : ℕ → ℕ → Bool) → shownBelow B shown 0 ≡ []
 unfolding flatMap
 below-none B shown = refl
 
@@ -177,82 +177,82 @@ InCopy l listed nodes endpoint from to via s c k room-nodes₀ room-endpoint₀ 
 
 abbrev pub InAll : Layout → List ℕ → List ℕ → List ℕ → List ℕ → List ℕ → List ℕ → List ℕ → List ℕ → List ℕ → List ℕ → List ℕ → List ℕ → List ℕ → List ℕ → List ℕ → List ℕ → List ℕ → ℕ → ℕ → Type 0
 InAll l listed nodes endpoint from to via s room-nodes₀ room-endpoint₀ room-from₀ room-to₀ room-via₀ room-nodes room-endpoint room-from room-to room-via at c =
-    SlotsFilled l listed nodes endpoint from to via s (shownBelow (boundsNow l s) (shownNow l s) c) 0 room-nodes₀ room-endpoint₀ room-from₀ room-to₀ room-via₀ room-nodes room-endpoint room-from room-to room-via 0 at
+    SlotsFilled l listed nodes endpoint from to via s (shownBelow (slotsNow l s) (shownNow l s) c) 0 room-nodes₀ room-endpoint₀ room-from₀ room-to₀ room-via₀ room-nodes room-endpoint room-from room-to room-via 0 at
 
 module _ (l : Layout) (listed nodes endpoint from to via s : List ℕ) (c : ℕ) (room-nodes₀ room-endpoint₀ room-from₀ room-to₀ room-via₀ : List ℕ) (k : ℕ)
-    (x : SlotsRoom l listed nodes endpoint from to via s (shownIn (shownNow l s) c (slots (boundsNow l s) c)) (numberNow l s c 0) room-nodes₀ room-endpoint₀ room-from₀ room-to₀ room-via₀ k) where
+    (x : SlotsRoom l listed nodes endpoint from to via s (shownIn (shownNow l s) c (slots (slotsNow l s) c)) (numberNow l s c 0) room-nodes₀ room-endpoint₀ room-from₀ room-to₀ room-via₀ k) where
   grow : (j : ℕ) → shownIn (shownNow l s) c (suc j) ≡ shownIn (shownNow l s) c j ++ ifShown l s c j
-  grow = shown-next (boundsNow l s) (shownNow l s) c
+  grow = shown-next (slotsNow l s) (shownNow l s) c
 
   pub copy-start : InCopy l listed nodes endpoint from to via s c k room-nodes₀ room-endpoint₀ room-from₀ room-to₀ room-via₀ room-nodes₀ room-endpoint₀ room-from₀ room-to₀ room-via₀ k 0
-  copy-start = pieces-start l listed nodes endpoint from to via s (shownIn (shownNow l s) c) (ifShown l s c) grow (slots (boundsNow l s) c) (numberNow l s c 0) room-nodes₀ room-endpoint₀ room-from₀ room-to₀ room-via₀ k x refl
+  copy-start = pieces-start l listed nodes endpoint from to via s (shownIn (shownNow l s) c) (ifShown l s c) grow (slots (slotsNow l s) c) (numberNow l s c 0) room-nodes₀ room-endpoint₀ room-from₀ room-to₀ room-via₀ k x refl
 
   module _ (j : ℕ) (room-nodes room-endpoint room-from room-to room-via : List ℕ) (at : ℕ) (y : InCopy l listed nodes endpoint from to via s c k room-nodes₀ room-endpoint₀ room-from₀ room-to₀ room-via₀ room-nodes room-endpoint room-from room-to room-via at j) where
-    pub copy-room : j < slots (boundsNow l s) c → SlotsRoom l listed nodes endpoint from to via s (ifShown l s c j) (numberNow l s c j) room-nodes room-endpoint room-from room-to room-via at
+    pub copy-room : j < slots (slotsNow l s) c → SlotsRoom l listed nodes endpoint from to via s (ifShown l s c j) (numberNow l s c j) room-nodes room-endpoint room-from room-to room-via at
     copy-room h =
         subst (λ (i : ℕ). SlotsRoom l listed nodes endpoint from to via s (ifShown l s c j) i room-nodes room-endpoint room-from room-to room-via at) (number-in l s c j)
-        (pieces-room l listed nodes endpoint from to via s (shownIn (shownNow l s) c) (ifShown l s c) grow (slots (boundsNow l s) c) (numberNow l s c 0) room-nodes₀ room-endpoint₀ room-from₀ room-to₀ room-via₀ k x j room-nodes room-endpoint room-from room-to room-via at y h)
+        (pieces-room l listed nodes endpoint from to via s (shownIn (shownNow l s) c) (ifShown l s c) grow (slots (slotsNow l s) c) (numberNow l s c 0) room-nodes₀ room-endpoint₀ room-from₀ room-to₀ room-via₀ k x j room-nodes room-endpoint room-from room-to room-via at y h)
 
     pub copy-turn : (room-nodes′ room-endpoint′ room-from′ room-to′ room-via′ : List ℕ) (r : ℕ)
         → SlotsFilled l listed nodes endpoint from to via s (ifShown l s c j) (numberNow l s c j) room-nodes room-endpoint room-from room-to room-via room-nodes′ room-endpoint′ room-from′ room-to′ room-via′ at r
         → InCopy l listed nodes endpoint from to via s c k room-nodes₀ room-endpoint₀ room-from₀ room-to₀ room-via₀ room-nodes′ room-endpoint′ room-from′ room-to′ room-via′ r (suc j)
     copy-turn room-nodes′ room-endpoint′ room-from′ room-to′ room-via′ r f =
-        pieces-turn l listed nodes endpoint from to via s (shownIn (shownNow l s) c) (ifShown l s c) grow (slots (boundsNow l s) c) (numberNow l s c 0) room-nodes₀ room-endpoint₀ room-from₀ room-to₀ room-via₀ k x j room-nodes room-endpoint room-from room-to room-via at y
+        pieces-turn l listed nodes endpoint from to via s (shownIn (shownNow l s) c) (ifShown l s c) grow (slots (slotsNow l s) c) (numberNow l s c 0) room-nodes₀ room-endpoint₀ room-from₀ room-to₀ room-via₀ k x j room-nodes room-endpoint room-from room-to room-via at y
         room-nodes′ room-endpoint′ room-from′ room-to′ room-via′ r
         (subst (λ (i : ℕ). SlotsFilled l listed nodes endpoint from to via s (ifShown l s c j) i room-nodes room-endpoint room-from room-to room-via room-nodes′ room-endpoint′ room-from′ room-to′ room-via′ at r) (sym (number-in l s c j)) f)
 
 module _ (l : Layout) (listed nodes endpoint from to via s room-nodes₀ room-endpoint₀ room-from₀ room-to₀ room-via₀ : List ℕ)
-    (x : SlotsRoom l listed nodes endpoint from to via s (shownBelow (boundsNow l s) (shownNow l s) (l .copies)) 0 room-nodes₀ room-endpoint₀ room-from₀ room-to₀ room-via₀ 0) where
+    (x : SlotsRoom l listed nodes endpoint from to via s (shownBelow (slotsNow l s) (shownNow l s) (l .copies)) 0 room-nodes₀ room-endpoint₀ room-from₀ room-to₀ room-via₀ 0) where
   abbrev row : ℕ → List Slot
-  row c = shownIn (shownNow l s) c (slots (boundsNow l s) c)
+  row c = shownIn (shownNow l s) c (slots (slotsNow l s) c)
 
-  grow-all : (c : ℕ) → shownBelow (boundsNow l s) (shownNow l s) (suc c) ≡ shownBelow (boundsNow l s) (shownNow l s) c ++ row c
-  grow-all = shown-next-copy (boundsNow l s) (shownNow l s)
+  grow-all : (c : ℕ) → shownBelow (slotsNow l s) (shownNow l s) (suc c) ≡ shownBelow (slotsNow l s) (shownNow l s) c ++ row c
+  grow-all = shown-next-copy (slotsNow l s) (shownNow l s)
 
   pub all-start : InAll l listed nodes endpoint from to via s room-nodes₀ room-endpoint₀ room-from₀ room-to₀ room-via₀ room-nodes₀ room-endpoint₀ room-from₀ room-to₀ room-via₀ 0 0
   all-start =
-      pieces-start l listed nodes endpoint from to via s (shownBelow (boundsNow l s) (shownNow l s)) row grow-all (l .copies) 0 room-nodes₀ room-endpoint₀ room-from₀ room-to₀ room-via₀ 0 x
-      (below-none (boundsNow l s) (shownNow l s))
+      pieces-start l listed nodes endpoint from to via s (shownBelow (slotsNow l s) (shownNow l s)) row grow-all (l .copies) 0 room-nodes₀ room-endpoint₀ room-from₀ room-to₀ room-via₀ 0 x
+      (below-none (slotsNow l s) (shownNow l s))
 
   module _ (c : ℕ) (room-nodes room-endpoint room-from room-to room-via : List ℕ) (at : ℕ) (y : InAll l listed nodes endpoint from to via s room-nodes₀ room-endpoint₀ room-from₀ room-to₀ room-via₀ room-nodes room-endpoint room-from room-to room-via at c) where
-    pub all-room : c < l .copies → SlotsRoom l listed nodes endpoint from to via s (shownIn (shownNow l s) c (slots (boundsNow l s) c)) (numberNow l s c 0) room-nodes room-endpoint room-from room-to room-via at
+    pub all-room : c < l .copies → SlotsRoom l listed nodes endpoint from to via s (shownIn (shownNow l s) c (slots (slotsNow l s) c)) (numberNow l s c 0) room-nodes room-endpoint room-from room-to room-via at
     all-room h =
         subst (λ (i : ℕ). SlotsRoom l listed nodes endpoint from to via s (row c) i room-nodes room-endpoint room-from room-to room-via at) (number-below l s c)
-        (pieces-room l listed nodes endpoint from to via s (shownBelow (boundsNow l s) (shownNow l s)) row grow-all (l .copies) 0 room-nodes₀ room-endpoint₀ room-from₀ room-to₀ room-via₀ 0 x c room-nodes room-endpoint room-from room-to room-via at y h)
+        (pieces-room l listed nodes endpoint from to via s (shownBelow (slotsNow l s) (shownNow l s)) row grow-all (l .copies) 0 room-nodes₀ room-endpoint₀ room-from₀ room-to₀ room-via₀ 0 x c room-nodes room-endpoint room-from room-to room-via at y h)
 
     pub all-turn : (room-nodes′ room-endpoint′ room-from′ room-to′ room-via′ : List ℕ) (r : ℕ)
-        → SlotsFilled l listed nodes endpoint from to via s (shownIn (shownNow l s) c (slots (boundsNow l s) c)) (numberNow l s c 0) room-nodes room-endpoint room-from room-to room-via room-nodes′ room-endpoint′ room-from′ room-to′ room-via′ at r
+        → SlotsFilled l listed nodes endpoint from to via s (shownIn (shownNow l s) c (slots (slotsNow l s) c)) (numberNow l s c 0) room-nodes room-endpoint room-from room-to room-via room-nodes′ room-endpoint′ room-from′ room-to′ room-via′ at r
         → InAll l listed nodes endpoint from to via s room-nodes₀ room-endpoint₀ room-from₀ room-to₀ room-via₀ room-nodes′ room-endpoint′ room-from′ room-to′ room-via′ r (suc c)
     all-turn room-nodes′ room-endpoint′ room-from′ room-to′ room-via′ r f =
-        pieces-turn l listed nodes endpoint from to via s (shownBelow (boundsNow l s) (shownNow l s)) row grow-all (l .copies) 0 room-nodes₀ room-endpoint₀ room-from₀ room-to₀ room-via₀ 0 x c room-nodes room-endpoint room-from room-to room-via at y
+        pieces-turn l listed nodes endpoint from to via s (shownBelow (slotsNow l s) (shownNow l s)) row grow-all (l .copies) 0 room-nodes₀ room-endpoint₀ room-from₀ room-to₀ room-via₀ 0 x c room-nodes room-endpoint room-from room-to room-via at y
         room-nodes′ room-endpoint′ room-from′ room-to′ room-via′ r
         (subst (λ (i : ℕ). SlotsFilled l listed nodes endpoint from to via s (row c) i room-nodes room-endpoint room-from room-to room-via room-nodes′ room-endpoint′ room-from′ room-to′ room-via′ at r) (sym (number-below l s c)) f)
 
 -- what is written is the result
 module _ (l : Layout) (listed nodes endpoint from to via s room-nodes room-endpoint room-from room-to room-via room-nodes′ room-endpoint′ room-from′ room-to′ room-via′ : List ℕ) (r : ℕ)
-    (x : SlotsRoom l listed nodes endpoint from to via s (shownBelow (boundsNow l s) (shownNow l s) (l .copies)) 0 room-nodes room-endpoint room-from room-to room-via 0)
+    (x : SlotsRoom l listed nodes endpoint from to via s (shownBelow (slotsNow l s) (shownNow l s) (l .copies)) 0 room-nodes room-endpoint room-from room-to room-via 0)
     (rows : RowsShown l listed endpoint from to via s)
-    (y : SlotsFilled l listed nodes endpoint from to via s (shownBelow (boundsNow l s) (shownNow l s) (l .copies)) 0 room-nodes room-endpoint room-from room-to room-via room-nodes′ room-endpoint′ room-from′ room-to′ room-via′ 0 r) where
+    (y : SlotsFilled l listed nodes endpoint from to via s (shownBelow (slotsNow l s) (shownNow l s) (l .copies)) 0 room-nodes room-endpoint room-from room-to room-via room-nodes′ room-endpoint′ room-from′ room-to′ room-via′ 0 r) where
   pub result-filled : ResultFilled l listed nodes endpoint from to via s room-nodes room-endpoint room-from room-to room-via room-nodes′ room-endpoint′ room-from′ room-to′ room-via′
   unfolding ResultFilled EdgesFilled RowsShown
   result-filled D L G t q ends into =
-      let order = orderIn l listed (take (l .slots) s) in
-      let B = boundsNow l s in
+      let marks = slotMarks D L G in
+      let B = slotsNow l s in
       let shown = shownNow l s in
       let S = setting-of D L G l listed from to via (take (l .slots) s) t in
-      let right : (c : ℕ) → c < length (G .nodes) → ShownRow G L order B shown c = λ c h. rows D L G t ends c (omega (arith, t .copies)) in
+      let right : (c : ℕ) → c < length (G .nodes) → ShownRow G L marks B shown c = λ c h. rows D L G t ends c (omega (arith, t .copies)) in
       let sl = shownBelow B shown (l .copies) in
-      let e = edgesNow l listed s L G in
+      let e = edgesNow l listed s D L G in
       let same : shownSlots G B shown ≡ sl = ap (shownBelow B shown) (t .copies) in
       let N : map (λ (t : Slot). getD nodes (t .copy) 0) sl ≡ trueGraph G (pathsOf L) .nodes =
       ap (λ (ns : List ℕ). map (λ (t : Slot). getD ns (t .copy) 0) sl) (sym q) ∙ ap (map (λ (t : Slot). nodeOf G (t .copy))) (sym same)
-      ∙ shown-nodes D G L order B S shown right in
+      ∙ shown-nodes D G L marks B S shown right in
       let P : map (slotEndpoint endpoint) sl ≡ trueGraph G (pathsOf L) .endpoints =
       ap (λ (ns : List ℕ). map (slotEndpoint ns) sl) (sym ends) ∙ ap (map (slotEndpoint (G .endpoints))) (sym same)
-      ∙ shown-endpoints D G L order B S shown right in
+      ∙ shown-endpoints D G L marks B S shown right in
       let E : flatMap e sl ≡ trueGraph G (pathsOf L) .edges =
       ap (flatMap e) (sym same)
-      ∙ shown-edges D G L order B S shown right (edgesIn G) into (comesNow l listed s L) (fromNow l listed s L) (links D G L order B S shown right) in
+      ∙ shown-edges D G L marks B S shown right (edgesIn G) into (comesNow l listed s D L G) (fromNow l listed s D L G) (links D G L marks B S shown right) in
       let w = y .edges-written D L G t in
       let fit = x .fit D L G t in
       let placing : (f : Edge → ℕ) (a : List ℕ) → length a ≡ length room-from → put 0 (map f (flatMap e sl)) a ≡ placed (map f (trueGraph G (pathsOf L) .edges)) a =

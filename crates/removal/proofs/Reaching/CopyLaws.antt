@@ -15,16 +15,16 @@ use Rattle.timing.specs.Marks.{PathList}
 use Rattle.theorems.proofs.Lists.{holds}
 use Rattle.theorems.proofs.Runs.{mem-out}
 use Rattle.removal.specs.declared.rows.Layout.{Layout}
-use Rattle.removal.specs.Table.{table}
+use Rattle.classes.specs.Table.{table}
 use Rattle.removal.specs.Chains.{Chain, edgesAt}
-use Rattle.removal.specs.Slots.{slots, slotBase, slotMark, Used}
-use Rattle.removal.specs.Rows.{boundsIn, orderIn, Tabled, slotPlace, flagIn}
+use Rattle.removal.specs.Slots.{slots, slotBase, Used, slotMarks}
+use Rattle.removal.specs.Rows.{slotsIn, Tabled, slotPlace, flagIn}
 use Rattle.removal.specs.Flags.{ReachedRow, StepBack, Backward}
 use Rattle.removal.specs.Reach.{flagOf, reachedOf, SlotsOnly, Pushes, Flagging, FromSlot, FromList, FromAll, endSet, RowsReached, AllZero}
-use Rattle.removal.proofs.Building.Region.{table-at}
+use Rattle.classes.proofs.Region.{table-at}
 use Rattle.removal.proofs.Building.ChainLaws.{RisesIn, edges-rise, edges-member, chain-ends, chain-goes, chainLeft, chain-falls}
 use Rattle.removal.proofs.Showing.IntoLaws.{edgeAt, edges-out-at}
-use Rattle.removal.proofs.Reaching.SlotLaws.{used-empty}
+use Rattle.removal.proofs.Reaching.SlotLaws.{used-empty, setting-of}
 use Rattle.removal.proofs.Reaching.FlagLaws.{reached-same, reached-row}
 use Rattle.removal.proofs.Stepping.AlongLaws.{edge-mem, edge-up, end-inside}
 use Rattle.removal.proofs.Reaching.ReachLaws.{only-refl, only-trans, flagging-same, flagging-keeps, flagging-join, into-end, flag-here, flag-other, stored-only}
@@ -54,7 +54,7 @@ module _ (D : Design) (L : PathList) (G : Graph) (l : Layout) (listed from to vi
 
   pub chaining-start : (s : List ℕ) (h : ℕ) → take (l .slots) s ≡ p → h ≡ getD s (l .into + c) 0 → Chaining l listed from to via p s s c j h
   chaining-start s h e q =
-      let r : h ≡ getD (table p (l .into) (l .copies)) c 0 = q ∙ read-table s p (l .slots) (l .into) (l .copies) c e copy (omega (arith, x .laid .into, x .laid .named)) in
+      let r : h ≡ getD (table p (l .into) (l .copies)) c 0 = q ∙ read-table s p (l .slots) (l .into) (l .copies) c e copy (omega (arith, x .laid .into, x .laid .default, x .laid .named)) in
       record {
         done = [];
         left = edgesAt to c (l .edges) 0;
@@ -79,11 +79,11 @@ module _ (D : Design) (L : PathList) (G : Graph) (l : Layout) (listed from to vi
         (Memᴰ·append-right (g .done) (subst (λ (es : List ℕ). List·Memᴰ e es) (sym (goes .1)) (List·Memᴰ·head refl))))
 
     -- what following the edge asks: slot j at its end is there, and still reached
-    pub chaining-slot : j < slots (boundsIn l p) c → take (l .slots) t ≡ p → 0 < flagOf l p s c j
-        → (j < slots (boundsIn l (take (l .slots) t)) (getD to e 0)) × (0 < flagIn l t (getD to e 0) j)
+    pub chaining-slot : j < slots (slotsIn l p) c → take (l .slots) t ≡ p → 0 < flagOf l p s c j
+        → (j < slots (slotsIn l (take (l .slots) t)) (getD to e 0)) × (0 < flagIn l t (getD to e 0) j)
     chaining-slot slot same on =
-        subst (λ (q : List ℕ). (j < slots (boundsIn l q) (getD to e 0)) × (0 < flagOf l q t (getD to e 0) j)) (sym same)
-        (subst (λ (d : ℕ). (j < slots (boundsIn l p) d) × (0 < flagOf l p t d j)) (sym (chaining-edge .1))
+        subst (λ (q : List ℕ). (j < slots (slotsIn l q) (getD to e 0)) × (0 < flagOf l q t (getD to e 0) j)) (sym same)
+        (subst (λ (d : ℕ). (j < slots (slotsIn l p) d) × (0 < flagOf l p t d j)) (sym (chaining-edge .1))
         (slot, omega (arith, on, g .marks .higher c j (omega arith) copy slot)))
 
     pub chaining-less : chainLeft (l .edges) (getD nexts e 0) < chainLeft (l .edges) h
@@ -140,9 +140,9 @@ ends-only G endpoint c q t = ap (λ (k : List ℕ). getD k c 0) (sym q) ∙ eqb�
 -- Slot 0 of copy c was set if its endpoint number is 1, and nothing else.
 pub record EndMarked (l : Layout) (endpoint p s t : List ℕ) (c : ℕ) : Type 0 where
   pub only : SlotsOnly l p s t
-  pub others : (d i : ℕ) → d < l .copies → i < slots (boundsIn l p) d → (d ≡ c → ⊥) → flagOf l p t d i ≡ flagOf l p s d i
-  pub small : (i : ℕ) → i < slots (boundsIn l p) c → (flagOf l p t c i ≡ flagOf l p s c i) ⊎ (flagOf l p t c i ≡ 1)
-  pub sound : (i : ℕ) → i < slots (boundsIn l p) c → 0 < flagOf l p t c i → (0 < flagOf l p s c i) ⊎ ((getD endpoint c 0 ≡ 1) × (i ≡ 0))
+  pub others : (d i : ℕ) → d < l .copies → i < slots (slotsIn l p) d → (d ≡ c → ⊥) → flagOf l p t d i ≡ flagOf l p s d i
+  pub small : (i : ℕ) → i < slots (slotsIn l p) c → (flagOf l p t c i ≡ flagOf l p s c i) ⊎ (flagOf l p t c i ≡ 1)
+  pub sound : (i : ℕ) → i < slots (slotsIn l p) c → 0 < flagOf l p t c i → (0 < flagOf l p s c i) ⊎ ((getD endpoint c 0 ≡ 1) × (i ≡ 0))
   pub complete : getD endpoint c 0 ≡ 1 → 0 < flagOf l p t c 0
 
 module _ (l : Layout) (endpoint p s : List ℕ) (c : ℕ) where
@@ -156,7 +156,7 @@ module _ (l : Layout) (endpoint p s : List ℕ) (c : ℕ) where
         complete = λ z. absurd (not-one z);
       }
 
-  end-stored : getD endpoint c 0 ≡ 1 → c < l .copies → l .slots + slotBase (boundsIn l p) (l .copies) ≤ length s
+  end-stored : getD endpoint c 0 ≡ 1 → c < l .copies → l .slots + slotBase (slotsIn l p) (l .copies) ≤ length s
       → EndMarked l endpoint p s (set s (slotPlace l p c 0) 1) c
   end-stored is-one copy room =
       record {
@@ -173,11 +173,11 @@ module _ (l : Layout) (endpoint p s : List ℕ) (c : ℕ) where
       here : flagOf l p t c 0 ≡ 1
       here = flag-here l p s room c 0 1 copy (omega arith)
 
-      other : (i : ℕ) → i < slots (boundsIn l p) c → (i ≡ 0 → ⊥) → flagOf l p t c i ≡ flagOf l p s c i
+      other : (i : ℕ) → i < slots (slotsIn l p) c → (i ≡ 0 → ⊥) → flagOf l p t c i ≡ flagOf l p s c i
       other i h f = flag-other l p s room c 0 1 copy (omega arith) c i h (λ q. f (q .1))
 
 pub end-marked : (l : Layout) (endpoint p : List ℕ) (c : ℕ) → c < l .copies
-    → (s t : List ℕ) → take (l .slots) s ≡ p → l .slots + slotBase (boundsIn l p) (l .copies) ≤ length s → t ≡ endSet l endpoint s c → EndMarked l endpoint p s t c
+    → (s t : List ℕ) → take (l .slots) s ≡ p → l .slots + slotBase (slotsIn l p) (l .copies) ≤ length s → t ≡ endSet l endpoint s c → EndMarked l endpoint p s t c
 end-marked l endpoint p c copy s t same room q =
     subst (λ (u : List ℕ). EndMarked l endpoint p s u c) (sym q) (go (ℕ-discrete (getD endpoint c 0) 1))
   where
@@ -192,10 +192,10 @@ FromEnds l to c = λ e k. (e < l .edges) × (c ≤ getD to e 0)
 -- The rows from copy c on are right, and the flags of the copies below c are what the edges to those rows set.
 pub record RowsPushed (l : Layout) (listed endpoint from to via p s t : List ℕ) (c : ℕ) : Type 0 where
   pub reached : RowsReached l listed endpoint from to via p s t c
-  pub sound : (D : Design) (L : PathList) (G : Graph) → Tabled D L G l listed from to via p → (d i : ℕ) → d < c → d < l .copies → i < slots (boundsIn l p) d → 0 < flagOf l p t d i
-      → (e : ℕ) × (k : ℕ) × Pushes l listed from to via p t L (FromEnds l to c) d i e k
+  pub sound : (D : Design) (L : PathList) (G : Graph) → Tabled D L G l listed from to via p → (d i : ℕ) → d < c → d < l .copies → i < slots (slotsIn l p) d → 0 < flagOf l p t d i
+      → (e : ℕ) × (k : ℕ) × Pushes l listed from to via p t D L G (FromEnds l to c) d i e k
   pub complete : (D : Design) (L : PathList) (G : Graph) → Tabled D L G l listed from to via p → (d i e k : ℕ) → d < c → d < l .copies
-      → Pushes l listed from to via p t L (FromEnds l to c) d i e k → 0 < flagOf l p t d i
+      → Pushes l listed from to via p t D L G (FromEnds l to c) d i e k → 0 < flagOf l p t d i
 
 pub rows-start : (l : Layout) (listed endpoint from to via p s : List ℕ) → AllZero l p s → RowsPushed l listed endpoint from to via p s s (l .copies)
 rows-start l listed endpoint from to via p s z =
@@ -209,14 +209,14 @@ rows-start l listed endpoint from to via p s z =
 module _ (l : Layout) (listed endpoint from to via p s t v u : List ℕ) (c : ℕ) (copy : c < l .copies) (a : RowsPushed l listed endpoint from to via p s t (suc c))
     (m : EndMarked l endpoint p t v c) (b : Flagging l listed from to via p v u c (FromAll (edgesAt to c (l .edges) 0))) where
   -- the flags of the higher copies stay, and those of lower ones until c's slots are followed
-  still : (d i : ℕ) → c < d → d < l .copies → i < slots (boundsIn l p) d → flagOf l p u d i ≡ flagOf l p t d i
+  still : (d i : ℕ) → c < d → d < l .copies → i < slots (slotsIn l p) d → flagOf l p u d i ≡ flagOf l p t d i
   still d i h k n = b .higher d i (omega arith) k n ∙ m .others d i k n (λ q. omega arith)
 
-  lower : (d i : ℕ) → d < c → i < slots (boundsIn l p) d → flagOf l p v d i ≡ flagOf l p t d i
+  lower : (d i : ℕ) → d < c → i < slots (slotsIn l p) d → flagOf l p v d i ≡ flagOf l p t d i
   lower d i h n = m .others d i (omega arith) n (λ q. omega arith)
 
   -- a flag of copy c that was set stays so
-  kept : (i : ℕ) → i < slots (boundsIn l p) c → 0 < flagOf l p t c i → 0 < flagOf l p u c i
+  kept : (i : ℕ) → i < slots (slotsIn l p) c → 0 < flagOf l p t c i → 0 < flagOf l p u c i
   kept i n f =
       ⊎-elim
       (λ (q : flagOf l p v c i ≡ flagOf l p t c i). omega (arith, b .higher c i (omega arith) copy n))
@@ -225,38 +225,38 @@ module _ (l : Layout) (listed endpoint from to via p s t v u : List ℕ) (c : �
 
   module _ (D : Design) (L : PathList) (G : Graph) (x : Tabled D L G l listed from to via p) where
     -- an edge out of copy c goes to a higher one
-    end-still : (e k : ℕ) → e < l .edges → getD from e 0 ≡ c → k < slots (boundsIn l p) (getD to e 0) → flagOf l p u (getD to e 0) k ≡ flagOf l p t (getD to e 0) k
+    end-still : (e k : ℕ) → e < l .edges → getD from e 0 ≡ c → k < slots (slotsIn l p) (getD to e 0) → flagOf l p u (getD to e 0) k ≡ flagOf l p t (getD to e 0) k
     end-still e k h q n = still (getD to e 0) k (omega (arith, edge-up D L G l listed from to via p x e h)) (end-inside D L G l listed from to via p x e h) n
 
-    step-from : (i e k : ℕ) → Pushes l listed from to via p t L (FromEnds l to (suc c)) c i e k
-        → StepBack G L (orderIn l listed p) (boundsIn l p) (reachedOf l p u) c (edgeAt from to via e) k (slotMark L (orderIn l listed p) (boundsIn l p) c i)
+    step-from : (i e k : ℕ) → Pushes l listed from to via p t D L G (FromEnds l to (suc c)) c i e k
+        → StepBack G L (slotMarks D L G) (slotsIn l p) (reachedOf l p u) c (edgeAt from to via e) k (slotMarks D L G c i)
     step-from i e k y = (
       edge-mem D L G l listed from to via p x e (y .0 .0),
       y .1,
       y .2,
       lt-ltb 0 (flagOf l p u (getD to e 0) k) (omega (arith, y .3, end-still e k (y .0 .0) (y .1) (y .2))),
       y .4 .alive,
-      y .4 .marks,
+      y .4 .is,
     )
 
-    step-sets : (e : Edge) (k i : ℕ) → i < slots (boundsIn l p) c → Used L (orderIn l listed p) (boundsIn l p) c i
-        → StepBack G L (orderIn l listed p) (boundsIn l p) (reachedOf l p u) c e k (slotMark L (orderIn l listed p) (boundsIn l p) c i) → 0 < flagOf l p t c i
+    step-sets : (e : Edge) (k i : ℕ) → i < slots (slotsIn l p) c → Used (slotMarks D L G) c i
+        → StepBack G L (slotMarks D L G) (slotsIn l p) (reachedOf l p u) c e k (slotMarks D L G c i) → 0 < flagOf l p t c i
     step-sets e k i h w b =
         let r = out-edge D L G l listed from to via p x c e (b .0) (b .1) in
         let n : ℕ = r .0 in
-        let y = subst (λ (d : Edge). StepBack G L (orderIn l listed p) (boundsIn l p) (reachedOf l p u) c d k (slotMark L (orderIn l listed p) (boundsIn l p) c i)) (sym (r .2)) b in
+        let y = subst (λ (d : Edge). StepBack G L (slotMarks D L G) (slotsIn l p) (reachedOf l p u) c d k (slotMarks D L G c i)) (sym (r .2)) b in
         let o = edges-member from c (l .edges) n .0 (r .1) in
         a .complete D L G x c i n k (omega arith) copy (
           (o .0, omega (arith, o .1, edge-up D L G l listed from to via p x n (o .0))),
           o .1,
           y .2,
           omega (arith, ltb-true 0 (flagOf l p u (getD to n 0) k) (y .3), end-still n k (o .0) (o .1) (y .2)),
-          record { alive = y .4; inside = h; marks = y .5; used = w },
+          record { alive = y .4; inside = h; is = y .5; used = w },
         )
 
     module _ (q : G .endpoints ≡ endpoint) where
       -- so the row of copy c is what pass 1 makes of the higher rows
-      backward : Backward G L (orderIn l listed p) (boundsIn l p) (reachedOf l p u) c
+      backward : Backward G L (slotMarks D L G) (slotsIn l p) (reachedOf l p u) c
       backward =
           record {
             sound = λ i h f.
@@ -265,7 +265,7 @@ module _ (l : Layout) (listed endpoint from to via p s t v u : List ℕ) (c : �
                 let z = a .sound D L G x c i (omega arith) copy h y in
                 (z .2 .4 .used, inr (edgeAt from to via (z .0), z .1, step-from i (z .0) (z .1) (z .2))))
                 (λ (y : (getD endpoint c 0 ≡ 1) × (i ≡ 0)). (
-                  subst (λ (j : ℕ). Used L (orderIn l listed p) (boundsIn l p) c j) (sym (y .1)) (used-empty L (orderIn l listed p) (boundsIn l p) c),
+                  subst (λ (j : ℕ). Used (slotMarks D L G) c j) (sym (y .1)) (used-empty (slotMarks D L G) c),
                   inl (ends-if G endpoint c q (y .0), y .1),
                 ))
                 (m .sound i h (omega (arith, ltb-true 0 (flagOf l p u c i) f, b .higher c i (omega arith) copy h)));
@@ -273,41 +273,41 @@ module _ (l : Layout) (listed endpoint from to via p s t v u : List ℕ) (c : �
             steps = λ e k i h w y. lt-ltb 0 (flagOf l p u c i) (kept i h (step-sets e k i h w y));
           }
 
-      higher : (d : ℕ) → c < d → d < l .copies → ReachedRow G L (orderIn l listed p) (boundsIn l p) (reachedOf l p u) d
+      higher : (d : ℕ) → c < d → d < l .copies → ReachedRow G L (slotMarks D L G) (slotsIn l p) (reachedOf l p u) d
       higher d h k =
-          reached-same G L (orderIn l listed p) (boundsIn l p) (reachedOf l p t) (reachedOf l p u) d
+          reached-same G L (slotMarks D L G) (slotsIn l p) (reachedOf l p t) (reachedOf l p u) d
           (λ j n. ap (λ (w : ℕ). ltb 0 w) (still d j h k n))
           (a .reached .rows D L G x q d (omega arith) k)
 
-      here : ReachedRow G L (orderIn l listed p) (boundsIn l p) (reachedOf l p u) c
+      here : ReachedRow G L (slotMarks D L G) (slotsIn l p) (reachedOf l p u) c
       here =
-          reached-row D G L (orderIn l listed p) (boundsIn l p)
-          (record { legal = x .legal; fits = x .fits; ordered = x .ordered; bounded = λ d h. x .bounded d (omega (arith, x .copies)) })
+          reached-row D G L (slotMarks D L G) (slotsIn l p)
+          (setting-of D L G l listed from to via p x)
           (reachedOf l p u) c (omega (arith, x .copies))
           (λ d h k. higher d h (omega (arith, x .copies)))
           backward
 
-      rows : (d : ℕ) → c ≤ d → d < l .copies → ReachedRow G L (orderIn l listed p) (boundsIn l p) (reachedOf l p u) d
+      rows : (d : ℕ) → c ≤ d → d < l .copies → ReachedRow G L (slotMarks D L G) (slotsIn l p) (reachedOf l p u) d
       rows d h k =
           elim (ℕ-discrete c d) [
-            | yes e ↦ subst (λ (y : ℕ). ReachedRow G L (orderIn l listed p) (boundsIn l p) (reachedOf l p u) y) e here
+            | yes e ↦ subst (λ (y : ℕ). ReachedRow G L (slotMarks D L G) (slotsIn l p) (reachedOf l p u) y) e here
             | no f ↦ higher d (omega arith) k
           ]
 
-    sound : (d i : ℕ) → d < c → d < l .copies → i < slots (boundsIn l p) d → 0 < flagOf l p u d i → (e : ℕ) × (k : ℕ) × Pushes l listed from to via p u L (FromEnds l to c) d i e k
+    sound : (d i : ℕ) → d < c → d < l .copies → i < slots (slotsIn l p) d → 0 < flagOf l p u d i → (e : ℕ) × (k : ℕ) × Pushes l listed from to via p u D L G (FromEnds l to c) d i e k
     sound d i h k n f =
         ⊎-elim
         (λ (y : 0 < flagOf l p v d i).
         let z = a .sound D L G x d i (omega arith) k n (omega (arith, y, lower d i h n)) in
         let w = z .2 in
         (z .0, z .1, ((w .0 .0, omega (arith, w .0 .1)), w .1, w .2, omega (arith, w .3, still (getD to (z .0) 0) (z .1) (omega (arith, w .0 .1)) (end-inside D L G l listed from to via p x (z .0) (w .0 .0)) (w .2)), w .4)))
-        (λ (z : (e : ℕ) × (k : ℕ) × Pushes l listed from to via p u L (FromAll (edgesAt to c (l .edges) 0)) d i e k).
+        (λ (z : (e : ℕ) × (k : ℕ) × Pushes l listed from to via p u D L G (FromAll (edgesAt to c (l .edges) 0)) d i e k).
         let w = z .2 in
         let o = edges-member to c (l .edges) (z .0) .0 (w .0) in
         (z .0, z .1, ((o .0, omega (arith, o .1)), w .1, w .2, w .3, w .4)))
         (b .sound D L G x d i k n f)
 
-    complete : (d i e k : ℕ) → d < c → d < l .copies → Pushes l listed from to via p u L (FromEnds l to c) d i e k → 0 < flagOf l p u d i
+    complete : (d i e k : ℕ) → d < c → d < l .copies → Pushes l listed from to via p u D L G (FromEnds l to c) d i e k → 0 < flagOf l p u d i
     complete d i e k h n y =
         elim (ℕ-discrete (getD to e 0) c) [
           | yes q ↦ b .complete D L G x d i e k n (edges-member to c (l .edges) e .1 (y .0 .0, q), y .1, y .2, y .3, y .4)
@@ -322,12 +322,12 @@ module _ (l : Layout) (listed endpoint from to via p s t v u : List ℕ) (c : �
               ))
         ]
 
-  low : (d i : ℕ) → d < l .copies → i < slots (boundsIn l p) d → flagOf l p v d i ≤ 1
+  low : (d i : ℕ) → d < l .copies → i < slots (slotsIn l p) d → flagOf l p v d i ≤ 1
   low d i h n =
       elim (ℕ-discrete d c) [
         | yes q ↦
-            subst (λ (y : ℕ). i < slots (boundsIn l p) y → flagOf l p v y i ≤ 1) (sym q)
-            (λ (o : i < slots (boundsIn l p) c).
+            subst (λ (y : ℕ). i < slots (slotsIn l p) y → flagOf l p v y i ≤ 1) (sym q)
+            (λ (o : i < slots (slotsIn l p) c).
             ⊎-elim
             (λ (y : flagOf l p v c i ≡ flagOf l p t c i). omega (arith, a .reached .small c i copy o))
             (λ (y : flagOf l p v c i ≡ 1). omega arith)
@@ -336,7 +336,7 @@ module _ (l : Layout) (listed endpoint from to via p s t v u : List ℕ) (c : �
         | no f ↦ omega (arith, m .others d i h n f, a .reached .small d i h n)
       ]
 
-  small : (d i : ℕ) → d < l .copies → i < slots (boundsIn l p) d → flagOf l p u d i ≤ 1
+  small : (d i : ℕ) → d < l .copies → i < slots (slotsIn l p) d → flagOf l p u d i ≤ 1
   small d i h n =
       ⊎-elim
       (λ (y : flagOf l p u d i ≡ flagOf l p v d i). omega (arith, low d i h n))

@@ -9,7 +9,7 @@ use Rattle.timing.specs.Lists.{oneIf, keep, countOf, upto}
 use Rattle.theorems.proofs.Lists.{of-upto}
 use Rattle.theorems.proofs.Counting.{count-cons, count-append}
 use Rattle.theorems.proofs.Splits.{upto-next}
-use Rattle.removal.specs.Slots.{Bounds, slots}
+use Rattle.removal.specs.Slots.{slots}
 use Rattle.removal.proofs.Showing.ResultLaws.{Slot, slotAt, shownIn, shownBelow, numberOf}
 
 -- one element more
@@ -48,7 +48,7 @@ flatMap-same f g [] h = refl
 flatMap-same {A} {B} f g (x ∷ l) h =
     ap₂ (λ (j k : List B). j ++ k) (h x (List·Memᴰ·head refl)) (flatMap-same f g l (λ y m. h y (List·Memᴰ·tail m)))
 
-module _ (B : Bounds) (shown : ℕ → ℕ → Bool) where
+module _ (B : ℕ → ℕ) (shown : ℕ → ℕ → Bool) where
   -- one slot more, one copy more
   pub shown-next : (c j : ℕ) → shownIn shown c (suc j) ≡ shownIn shown c j ++ cond (shown c j) (slotAt c j ∷ []) []
   shown-next c j =
@@ -84,7 +84,7 @@ module _ (B : Bounds) (shown : ℕ → ℕ → Bool) where
       omega (arith, a, length-map (keep (shown c) (upto (slots B c) 0)) (slotAt c))
 
 -- a number depends on the flags of the slots before it
-module _ (B : Bounds) (shown after : ℕ → ℕ → Bool) (c : ℕ) (below : (d k : ℕ) → d < c → k < slots B d → after d k ≡ shown d k) where
+module _ (B : ℕ → ℕ) (shown after : ℕ → ℕ → Bool) (c : ℕ) (below : (d k : ℕ) → d < c → k < slots B d → after d k ≡ shown d k) where
   pub below-same : shownBelow B after c ≡ shownBelow B shown c
   below-same =
       flatMap-same (λ d. shownIn after d (slots B d)) (λ d. shownIn shown d (slots B d)) (upto c 0)

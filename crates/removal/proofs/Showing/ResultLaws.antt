@@ -20,7 +20,7 @@ use Rattle.theorems.proofs.Sorting.{place-getD, place-less}
 use Rattle.theorems.proofs.Copies.{Shown, Joined, Link, copy-order, mem-copies, joined-link, link-joined}
 use Rattle.theorems.proofs.Stands.{passes-inside, copies-sorted}
 use Rattle.theorems.proofs.Back.{copies-are, edges-are, ends-locally}
-use Rattle.removal.specs.Slots.{Bounds, slots, slotMark, Used}
+use Rattle.removal.specs.Slots.{slots, Used}
 pub use Rattle.removal.specs.Result.{Slot, slotAt, slotEndpoint, shownIn, shownBelow, numberOf, shownSlots, numberedEdge, slotEdges, shownEdges, Linking}
 pub use Rattle.removal.specs.Fill.{EdgesInto}
 use Rattle.removal.proofs.Reaching.SlotLaws.{Setting, before-skip, slots-rise}
@@ -32,8 +32,8 @@ abbrev pub SlotLower : Slot → Slot → Type 0
 SlotLower s t = (s .copy < t .copy) ⊎ ((s .copy ≡ t .copy) × (s .slot < t .slot))
 
 -- the copy that a slot stands for
-abbrev pub copyOf : PathList → List ℕ → Bounds → Slot → Copy
-copyOf L order B s = record { at = s .copy; mark = slotMark L order B (s .copy) (s .slot) }
+abbrev pub copyOf : PathList → (ℕ → ℕ → List ℕ) → (ℕ → ℕ) → Slot → Copy
+copyOf L marks B s = record { at = s .copy; mark = marks (s .copy) (s .slot) }
 
 is-true : (b : Bool) → T b → b ≡ true
 is-true true t = refl
@@ -49,7 +49,7 @@ map-same : {A B : Type 0} (f g : A → B) (l : List A) → ((x : A) → List·Me
 map-same f g [] h = refl
 map-same f g (x ∷ l) h = ap₂ (λ (y : _) (k : List _). y ∷ k) (h x (List·Memᴰ·head refl)) (map-same f g l (λ y m. h y (List·Memᴰ·tail m)))
 
-module _ (B : Bounds) (shown : ℕ → ℕ → Bool) where
+module _ (B : ℕ → ℕ) (shown : ℕ → ℕ → Bool) where
   -- what is listed
   pub mem-shown : (n c j : ℕ) → c < n → j < slots B c → shown c j ≡ true → List·Memᴰ (slotAt c j) (shownBelow B shown n)
   mem-shown n c j h k f =
@@ -106,19 +106,19 @@ lower-name e f q h =
     subst T (sym (before-skip (e .end) (f .end) (e .name ∷ e .start ∷ []) (f .name ∷ f .start ∷ []) q))
     (or-left (ltb (e .name) (f .name)) (eqb (e .name) (f .name) && before (e .start ∷ []) (f .start ∷ [])) (lt→ltb (e .name) (f .name) h))
 
-module _ (D : Design) (G : Graph) (L : PathList) (order : List ℕ) (B : Bounds) (S : Setting D G L order B)
-    (shown : ℕ → ℕ → Bool) (right : (c : ℕ) → c < length (G .nodes) → ShownRow G L order B shown c) where
+module _ (D : Design) (G : Graph) (L : PathList) (marks : ℕ → ℕ → List ℕ) (B : ℕ → ℕ) (S : Setting D G L marks B)
+    (shown : ℕ → ℕ → Bool) (right : (c : ℕ) → c < length (G .nodes) → ShownRow G L marks B shown c) where
   -- a shown slot shows its copy, and a shown copy has a shown slot
-  slot-shown : (c j : ℕ) → c < length (G .nodes) → j < slots B c → shown c j ≡ true → Shown G (pathsOf L) (copyOf L order B (slotAt c j))
+  slot-shown : (c j : ℕ) → c < length (G .nodes) → j < slots B c → shown c j ≡ true → Shown G (pathsOf L) (copyOf L marks B (slotAt c j))
   slot-shown c j h k f = right c h j k .0 f .1
 
   shown-inside : (p : Copy) → Shown G (pathsOf L) p → p .at < length (G .nodes)
   shown-inside p s = passes-inside (S .legal .rising) (s .1)
 
-  pub find-shown : (p : Copy) → Shown G (pathsOf L) p → (j : ℕ) × (j < slots B (p .at)) × (slotMark L order B (p .at) j ≡ p .mark) × (shown (p .at) j ≡ true)
+  pub find-shown : (p : Copy) → Shown G (pathsOf L) p → (j : ℕ) × (j < slots B (p .at)) × (marks (p .at) j ≡ p .mark) × (shown (p .at) j ≡ true)
   find-shown p s =
       let h = shown-inside p s in
-      let r = shown-slot D G L order B S p h s in (
+      let r = shown-slot D G L marks B S p h s in (
         r .0,
         r .1,
         r .2,
@@ -126,44 +126,44 @@ module _ (D : Design) (G : Graph) (L : PathList) (order : List ℕ) (B : Bounds)
       )
 
   -- the order of slots is that of copies
-  slots-order : (s t : Slot) → List·Memᴰ s (shownSlots G B shown) → List·Memᴰ t (shownSlots G B shown) → SlotLower s t → T (copyBefore (copyOf L order B s) (copyOf L order B t))
-  slots-order s t m k (inl h) = lower-before (copyOf L order B s) (copyOf L order B t) h
+  slots-order : (s t : Slot) → List·Memᴰ s (shownSlots G B shown) → List·Memᴰ t (shownSlots G B shown) → SlotLower s t → T (copyBefore (copyOf L marks B s) (copyOf L marks B t))
+  slots-order s t m k (inl h) = lower-before (copyOf L marks B s) (copyOf L marks B t) h
   slots-order s t m k (inr h) =
       let o = of-shown B shown (length (G .nodes)) t k in
       let u = right (t .copy) (o .0) (t .slot) (o .1) .0 (o .2) .0 in
-      subst (λ (c : ℕ). T (copyBefore (record { at = c; mark = slotMark L order B c (s .slot) }) (copyOf L order B t))) (sym (h .0))
-      (slots-rise D G L order B S (t .copy) (o .0) (s .slot) (t .slot) (h .1) (o .1) u)
+      subst (λ (c : ℕ). T (copyBefore (record { at = c; mark = marks c (s .slot) }) (copyOf L marks B t))) (sym (h .0))
+      (slots-rise D G L marks B S (t .copy) (o .0) (s .slot) (t .slot) (h .1) (o .1))
 
   -- the shown slots are the copies
-  pub shown-copies : map (copyOf L order B) (shownSlots G B shown) ≡ copies (pathsOf L) G
+  pub shown-copies : map (copyOf L marks B) (shownSlots G B shown) ≡ copies (pathsOf L) G
   shown-copies =
-      copies-are G (pathsOf L) (S .legal .rising) (map (copyOf L order B) (shownSlots G B shown))
-      (ascending-sorted copyBefore (map (copyOf L order B) (shownSlots G B shown))
-      (ascending-map SlotLower (λ (p q : Copy). T (copyBefore p q)) (copyOf L order B) (shownSlots G B shown) (shown-ascending B shown (length (G .nodes))) slots-order))
+      copies-are G (pathsOf L) (S .legal .rising) (map (copyOf L marks B) (shownSlots G B shown))
+      (ascending-sorted copyBefore (map (copyOf L marks B) (shownSlots G B shown))
+      (ascending-map SlotLower (λ (p q : Copy). T (copyBefore p q)) (copyOf L marks B) (shownSlots G B shown) (shown-ascending B shown (length (G .nodes))) slots-order))
       (λ p. (there p, back p))
     where
-      there : (p : Copy) → List·Memᴰ p (map (copyOf L order B) (shownSlots G B shown)) → Shown G (pathsOf L) p
+      there : (p : Copy) → List·Memᴰ p (map (copyOf L marks B) (shownSlots G B shown)) → Shown G (pathsOf L) p
       there p m =
-          let r = Memᴰ·of-map (copyOf L order B) (shownSlots G B shown) m in
+          let r = Memᴰ·of-map (copyOf L marks B) (shownSlots G B shown) m in
           let o = of-shown B shown (length (G .nodes)) (r .0) (r .1) in
           subst (Shown G (pathsOf L)) (r .2) (slot-shown (r .0 .copy) (r .0 .slot) (o .0) (o .1) (o .2))
 
-      back : (p : Copy) → Shown G (pathsOf L) p → List·Memᴰ p (map (copyOf L order B) (shownSlots G B shown))
+      back : (p : Copy) → Shown G (pathsOf L) p → List·Memᴰ p (map (copyOf L marks B) (shownSlots G B shown))
       back p s =
           let r = find-shown p s in
-          let e : p ≡ copyOf L order B (slotAt (p .at) (r .0)) = λ i. record { at = p .at; mark = sym (r .2) i } in
-          Memᴰ·cast e (Memᴰ·map (copyOf L order B) (mem-shown B shown (length (G .nodes)) (p .at) (r .0) (shown-inside p s) (r .1) (r .3)))
+          let e : p ≡ copyOf L marks B (slotAt (p .at) (r .0)) = λ i. record { at = p .at; mark = sym (r .2) i } in
+          Memᴰ·cast e (Memᴰ·map (copyOf L marks B) (mem-shown B shown (length (G .nodes)) (p .at) (r .0) (shown-inside p s) (r .1) (r .3)))
 
   -- the number of a shown slot is that of its copy
   pub shown-number : (c j : ℕ) → c < length (G .nodes) → j < slots B c → shown c j ≡ true
-      → numberOf B shown c j ≡ place copyBefore (copyOf L order B (slotAt c j)) (copies (pathsOf L) G)
+      → numberOf B shown c j ≡ place copyBefore (copyOf L marks B (slotAt c j)) (copies (pathsOf L) G)
   shown-number c j h k f =
       let d : Copy = record { at = 0; mark = [] } in
-      let p : Copy = copyOf L order B (slotAt c j) in
+      let p : Copy = copyOf L marks B (slotAt c j) in
       let n : ℕ = numberOf B shown c j in
       let s : Stand p n (copies (pathsOf L) G) =
       subst (λ (l : List Copy). Stand p n l) shown-copies
-      (stand-map (copyOf L order B) (slotAt c j) n (shownSlots G B shown) (shown-stands B shown (length (G .nodes)) c j h k f)) in
+      (stand-map (copyOf L marks B) (slotAt c j) n (shownSlots G B shown) (shown-stands B shown (length (G .nodes)) c j h k f)) in
       let r = stand-getD p d n (copies (pathsOf L) G) s in
       sym (place-getD copyBefore copy-order (copies (pathsOf L) G) d n (copies-sorted G (pathsOf L) (S .legal .rising)) (r .0))
       ∙ ap (λ (x : Copy). place copyBefore x (copies (pathsOf L) G)) (r .1)
@@ -172,31 +172,33 @@ module _ (D : Design) (G : Graph) (L : PathList) (order : List ℕ) (B : Bounds)
   pub shown-nodes : map (λ (s : Slot). nodeOf G (s .copy)) (shownSlots G B shown) ≡ trueGraph G (pathsOf L) .nodes
   unfolding trueGraph
   shown-nodes =
-      sym (map-map (λ (p : Copy). nodeOf G (p .at)) (copyOf L order B) (shownSlots G B shown)) ∙ ap (map (λ (p : Copy). nodeOf G (p .at))) shown-copies
+      sym (map-map (λ (p : Copy). nodeOf G (p .at)) (copyOf L marks B) (shownSlots G B shown)) ∙ ap (map (λ (p : Copy). nodeOf G (p .at))) shown-copies
 
   -- and so are the endpoint numbers: paths end at the slot of the empty mark, where they end at its copy
-  slot-ends : (s : Slot) → List·Memᴰ s (shownSlots G B shown) → slotEndpoint (G .endpoints) s ≡ oneIf (pathEnds (pathsOf L) G (copyOf L order B s))
+  slot-ends : (s : Slot) → List·Memᴰ s (shownSlots G B shown) → slotEndpoint (G .endpoints) s ≡ oneIf (pathEnds (pathsOf L) G (copyOf L marks B s))
   slot-ends s m =
       let o = of-shown B shown (length (G .nodes)) s m in
       let r = right (s .copy) (o .0) (s .slot) (o .1) .0 (o .2) in
-      go (s .slot) (r .0) (ends-locally G (pathsOf L) (S .legal .rising) (copyOf L order B s) (r .1))
+      go (s .slot) (r .0) (ends-locally G (pathsOf L) (S .legal .rising) (copyOf L marks B s) (r .1))
     where
       some : (k : List ℕ) → (k ≡ [] → ⊥) → isNil k ≡ false
       some [] f = absurd (f refl)
       some (x ∷ k) f = refl
 
-      go : (j : ℕ) → Used L order B (s .copy) j → pathEnds (pathsOf L) G (copyOf L order B (slotAt (s .copy) j)) ≡ (isNil (slotMark L order B (s .copy) j) && endsAt G (s .copy))
-          → slotEndpoint (G .endpoints) (slotAt (s .copy) j) ≡ oneIf (pathEnds (pathsOf L) G (copyOf L order B (slotAt (s .copy) j)))
-      go zero u e = one-if (endpointOf G (s .copy)) (S .legal .flags (s .copy)) ∙ ap oneIf (sym e)
+      go : (j : ℕ) → Used marks (s .copy) j → pathEnds (pathsOf L) G (copyOf L marks B (slotAt (s .copy) j)) ≡ (isNil (marks (s .copy) j) && endsAt G (s .copy))
+          → slotEndpoint (G .endpoints) (slotAt (s .copy) j) ≡ oneIf (pathEnds (pathsOf L) G (copyOf L marks B (slotAt (s .copy) j)))
+      go zero u e =
+          one-if (endpointOf G (s .copy)) (S .legal .flags (s .copy))
+          ∙ ap oneIf (sym (e ∙ ap (λ (k : List ℕ). isNil k && endsAt G (s .copy)) (S .empty (s .copy))))
       go (suc j) u e =
           ap (λ (b : Bool). cond b (endpointOf G (s .copy)) 0) (ne-eqb (suc j) 0 (λ q. omega arith))
-          ∙ ap oneIf (sym (e ∙ ap (λ (b : Bool). b && endsAt G (s .copy)) (some (slotMark L order B (s .copy) (suc j)) (λ q. u 0 (omega arith) (sym q)))))
+          ∙ ap oneIf (sym (e ∙ ap (λ (b : Bool). b && endsAt G (s .copy)) (some (marks (s .copy) (suc j)) (λ q. u 0 (omega arith) (S .empty (s .copy) ∙ sym q)))))
 
   pub shown-endpoints : map (slotEndpoint (G .endpoints)) (shownSlots G B shown) ≡ trueGraph G (pathsOf L) .endpoints
   unfolding trueGraph
   shown-endpoints =
-      map-same (slotEndpoint (G .endpoints)) (λ (s : Slot). oneIf (pathEnds (pathsOf L) G (copyOf L order B s))) (shownSlots G B shown) slot-ends
-      ∙ sym (map-map (λ (p : Copy). oneIf (pathEnds (pathsOf L) G p)) (copyOf L order B) (shownSlots G B shown))
+      map-same (slotEndpoint (G .endpoints)) (λ (s : Slot). oneIf (pathEnds (pathsOf L) G (copyOf L marks B s))) (shownSlots G B shown) slot-ends
+      ∙ sym (map-map (λ (p : Copy). oneIf (pathEnds (pathsOf L) G p)) (copyOf L marks B) (shownSlots G B shown))
       ∙ ap (map (λ (p : Copy). oneIf (pathEnds (pathsOf L) G p))) shown-copies
 
   -- numbers keep the order of slots
@@ -205,12 +207,12 @@ module _ (D : Design) (G : Graph) (L : PathList) (order : List ℕ) (B : Bounds)
   numbers-rise s t m k h =
       let o = of-shown B shown (length (G .nodes)) s m in
       let q = of-shown B shown (length (G .nodes)) t k in
-      let r = place-less copyBefore copy-order (copyOf L order B s) (copyOf L order B t) (copies (pathsOf L) G) (copies-sorted G (pathsOf L) (S .legal .rising))
-      (mem-copies G (pathsOf L) (S .legal .rising) (copyOf L order B s) .1 (slot-shown (s .copy) (s .slot) (o .0) (o .1) (o .2)))
+      let r = place-less copyBefore copy-order (copyOf L marks B s) (copyOf L marks B t) (copies (pathsOf L) G) (copies-sorted G (pathsOf L) (S .legal .rising))
+      (mem-copies G (pathsOf L) (S .legal .rising) (copyOf L marks B s) .1 (slot-shown (s .copy) (s .slot) (o .0) (o .1) (o .2)))
       (slots-order s t m k h) in
       omega (arith, r, shown-number (s .copy) (s .slot) (o .0) (o .1) (o .2), shown-number (t .copy) (t .slot) (q .0) (q .1) (q .2))
 
-  module _ (ins : ℕ → List Edge) (into : EdgesInto G ins) (test : ℕ → ℕ → Edge → Bool) (from : ℕ → ℕ → Edge → ℕ) (linking : Linking G L order B shown test from) where
+  module _ (ins : ℕ → List Edge) (into : EdgesInto G ins) (test : ℕ → ℕ → Edge → Bool) (from : ℕ → ℕ → Edge → ℕ) (linking : Linking G L marks B shown test from) where
     start-inside : (e : Edge) → List·Memᴰ e (G .edges) → e .start < length (G .nodes)
     start-inside e m = omega (arith, S .legal .rising .up e m, S .legal .rising .inside e m)
 
@@ -235,7 +237,7 @@ module _ (D : Design) (G : Graph) (L : PathList) (order : List ℕ) (B : Bounds)
         let i = into .members (s .copy) e .0 (t .0) in
         let x = linking .sound (s .copy) (s .slot) (o .0) (o .1) (o .2) e (i .0) (i .1) (is-true (test (s .copy) (s .slot) e) (t .1)) in
         let f : ℕ = from (s .copy) (s .slot) e in
-        let j : Join = record { start = copyOf L order B (slotAt (e .start) f); end = copyOf L order B s; name = e .name } in
+        let j : Join = record { start = copyOf L marks B (slotAt (e .start) f); end = copyOf L marks B s; name = e .name } in
         let h = start-inside e (i .0) in
         let a = shown-number (e .start) f h (x .3) (x .5) in
         let b = shown-number (s .copy) (s .slot) (o .0) (o .1) (o .2) in (
@@ -260,7 +262,7 @@ module _ (D : Design) (G : Graph) (L : PathList) (order : List ℕ) (B : Bounds)
         let g = shown-inside (j .start) (l .from) in
         let t = find-shown (j .end) (l .to) in
         let u = find-shown (j .start) (l .from) in
-        let step : StepOn G L order B shown c (t .0) e (u .0) = (
+        let step : StepOn G L marks B shown c (t .0) e (u .0) = (
           l .along,
           refl,
           ap (λ (y : List ℕ). begins (pathsOf L) (j .name ∷ y)) (t .2) ∙ l .live,
@@ -271,9 +273,9 @@ module _ (D : Design) (G : Graph) (L : PathList) (order : List ℕ) (B : Bounds)
         let p = linking .complete c (t .0) h (t .1) (t .3) e (u .0) step in
         let x = linking .sound c (t .0) h (t .1) (t .3) e (l .along) refl p in
         let f : ℕ = from c (t .0) e in
-        let starts : copyOf L order B (slotAt (j .start .at) f) ≡ j .start =
+        let starts : copyOf L marks B (slotAt (j .start .at) f) ≡ j .start =
         λ i. record { at = j .start .at; mark = (x .4 ∙ ap (λ (y : List ℕ). mark (pathsOf L) (j .name ∷ y)) (t .2) ∙ sym (l .marks)) i } in
-        let ends : copyOf L order B (slotAt c (t .0)) ≡ j .end = λ i. record { at = c; mark = t .2 i } in
+        let ends : copyOf L marks B (slotAt c (t .0)) ≡ j .end = λ i. record { at = c; mark = t .2 i } in
         let a = shown-number (j .start .at) f g (x .3) (x .5) ∙ ap (λ (y : Copy). place copyBefore y (copies (pathsOf L) G)) starts in
         let b = shown-number c (t .0) h (t .1) (t .3) ∙ ap (λ (y : Copy). place copyBefore y (copies (pathsOf L) G)) ends in
         let same : numbered (copies (pathsOf L) G) j ≡ numberedEdge B shown from (slotAt c (t .0)) e = λ i. edge (sym a i) (sym b i) (j .name) in

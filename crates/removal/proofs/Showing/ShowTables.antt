@@ -14,24 +14,19 @@ use Rattle.timing.specs.Marks.{PathList}
 use Rattle.theorems.proofs.Lists.{of-keep}
 use Rattle.theorems.proofs.Counting.{count-cons}
 use Rattle.removal.specs.declared.rows.Layout.{Layout}
-use Rattle.removal.specs.declared.step.Step.the-variants.{Dead, Live}
-use Rattle.removal.specs.Table.{table}
-use Rattle.removal.specs.Slots.{slots}
+use Rattle.removal.specs.declared.rows.Step.the-variants.{Dead, Live}
+use Rattle.classes.specs.Table.{table}
+use Rattle.removal.specs.Slots.{slots, slotMarks}
 use Rattle.removal.specs.Chains.{Chain, edgesAt}
-use Rattle.removal.specs.Rows.{boundsIn, orderIn, Tabled, Ready, flagIn}
+use Rattle.removal.specs.Rows.{slotsIn, Tabled, Ready, flagIn}
 use Rattle.removal.specs.Along.{StepAlong}
 use Rattle.removal.specs.Result.{edgeAt}
 use Rattle.removal.specs.Show.{fromShown, shownBy, edgesTo, StartMeets, EdgesMeet}
-use Rattle.removal.proofs.Building.Region.{table-at}
+use Rattle.classes.proofs.Region.{table-at}
 use Rattle.removal.proofs.Building.ChainLaws.{RisesIn, edges-rise, chain-ends, chain-goes, chainLeft, chain-falls}
-use Rattle.removal.proofs.Reaching.SlotLaws.{Setting}
+pub use Rattle.removal.proofs.Reaching.SlotLaws.{setting-of}
 use Rattle.removal.proofs.Showing.IntoLaws.{edges-in-at}
 use Rattle.removal.proofs.Showing.ShowLaws.{slot-of, start-dead, start-live, start-shown}
-
-pub setting-of : (D : Design) (L : PathList) (G : Graph) (l : Layout) (listed from to via p : List ℕ) → Tabled D L G l listed from to via p
-    → Setting D G L (orderIn l listed p) (boundsIn l p)
-setting-of D L G l listed from to via p t =
-    record { legal = t .legal; fits = t .fits; ordered = t .ordered; bounded = λ c h. t .bounded c (omega (arith, t .copies)) }
 
 -- the edges into a copy, by their numbers
 pub edges-listed : (D : Design) (L : PathList) (G : Graph) (l : Layout) (listed from to via p : List ℕ) → Tabled D L G l listed from to via p
@@ -47,7 +42,7 @@ module _ (l : Layout) (listed from to via s : List ℕ) (e j : ℕ) where
   pub dead-start : StepAlong l listed from to via (take (l .slots) s) e j Dead → StartMeets l listed from to via s e j 0
   unfolding StepAlong StartMeets
   dead-start h D L G t =
-      sym (start-dead L (orderIn l listed (take (l .slots) s)) (boundsIn l (take (l .slots) s)) (flagIn l s) (getD to e 0) j (edgeAt from to via e) (h D L G t))
+      sym (start-dead L (slotMarks D L G) (slotsIn l (take (l .slots) s)) (flagIn l s) (getD to e 0) j (edgeAt from to via e) (h D L G t))
 
   module _ (k : ℕ) (h : StepAlong l listed from to via (take (l .slots) s) e j (Live k)) where
     live-start : StartMeets l listed from to via s e j (cond (ltb 1 (flagIn l s (getD from e 0) k)) (flagIn l s (getD from e 0) k) 0)
@@ -55,8 +50,8 @@ module _ (l : Layout) (listed from to via s : List ℕ) (e j : ℕ) where
     live-start D L G t =
         let x = h D L G t in
         let p = take (l .slots) s in
-        sym (start-live L (orderIn l listed p) (boundsIn l p) (flagIn l s) (getD to e 0) j (edgeAt from to via e) k (x .alive)
-        (slot-of L (orderIn l listed p) (boundsIn l p) (getD from e 0) k _ (x .inside) (x .marks) (x .used)))
+        sym (start-live L (slotMarks D L G) (slotsIn l p) (flagIn l s) (getD to e 0) j (edgeAt from to via e) k (x .alive)
+        (slot-of (slotMarks D L G) (slotsIn l p) (getD from e 0) k _ (x .inside) (x .is) (x .used)))
 
     pub live-shown : 2 ≤ flagIn l s (getD from e 0) k → StartMeets l listed from to via s e j (flagIn l s (getD from e 0) k)
     live-shown g =
@@ -67,7 +62,7 @@ module _ (l : Layout) (listed from to via s : List ℕ) (e j : ℕ) where
         subst (λ (b : Bool). StartMeets l listed from to via s e j (cond b (flagIn l s (getD from e 0) k) 0)) (le-ltb 1 (flagIn l s (getD from e 0) k) (omega arith)) live-start
 
     -- the slot is one of the start
-    pub live-inside : Ready l listed from to via s → k < slots (boundsIn l (take (l .slots) s)) (getD from e 0)
+    pub live-inside : Ready l listed from to via s → k < slots (slotsIn l (take (l .slots) s)) (getD from e 0)
     unfolding StepAlong
     live-inside r = h (r .design) (r .list) (r .graph) (r .tabled) .inside
 
@@ -81,22 +76,22 @@ pub record Counting (l : Layout) (listed from to via s : List ℕ) (c j count h 
   pub chain : Chain (table (take (l .slots) s) (l .into + l .copies) (l .edges)) h left
   pub ends : (e : ℕ) → List·Memᴰ e left → getD to e 0 ≡ c
   pub counts : (D : Design) (L : PathList) (G : Graph) → Tabled D L G l listed from to via (take (l .slots) s)
-      → count + countOf (fromShown L (orderIn l listed (take (l .slots) s)) (boundsIn l (take (l .slots) s)) (shownBy (flagIn l s)) c j) (map (edgeAt from to via) left)
-      ≡ edgesTo G L (orderIn l listed (take (l .slots) s)) (boundsIn l (take (l .slots) s)) (shownBy (flagIn l s)) c j
+      → count + countOf (fromShown L (slotMarks D L G) (slotsIn l (take (l .slots) s)) (shownBy (flagIn l s)) c j) (map (edgeAt from to via) left)
+      ≡ edgesTo G L (slotMarks D L G) (slotsIn l (take (l .slots) s)) (shownBy (flagIn l s)) c j
 
 -- the words of the chains
 module _ (l : Layout) (listed from to via s : List ℕ) (r : Ready l listed from to via s) where
   pub chain-room : l .into + (l .copies + l .edges) ≤ length s
-  chain-room = omega (arith, r .tabled .laid .into, r .tabled .laid .named, r .room)
+  chain-room = omega (arith, r .tabled .laid .into, r .tabled .laid .default, r .tabled .laid .named, r .room)
 
   pub first-read : (c : ℕ) → c < l .copies → getD (table (take (l .slots) s) (l .into) (l .copies)) c 0 ≡ getD s (l .into + c) 0
   first-read c h =
-      table-at (take (l .slots) s) (l .into) (l .copies) c h ∙ getD-take (l .slots) s (l .into + c) 0 (omega (arith, r .tabled .laid .into, r .tabled .laid .named))
+      table-at (take (l .slots) s) (l .into) (l .copies) c h ∙ getD-take (l .slots) s (l .into + c) 0 (omega (arith, r .tabled .laid .into, r .tabled .laid .default, r .tabled .laid .named))
 
   pub next-read : (e : ℕ) → e < l .edges → getD (table (take (l .slots) s) (l .into + l .copies) (l .edges)) e 0 ≡ getD s (l .into + l .copies + e) 0
   next-read e h =
       table-at (take (l .slots) s) (l .into + l .copies) (l .edges) e h
-      ∙ getD-take (l .slots) s (l .into + l .copies + e) 0 (omega (arith, r .tabled .laid .into, r .tabled .laid .named))
+      ∙ getD-take (l .slots) s (l .into + l .copies + e) 0 (omega (arith, r .tabled .laid .into, r .tabled .laid .default, r .tabled .laid .named))
 
   -- no edge comes into a copy where its chain is empty
   pub first-chain : (c : ℕ) → c < l .copies → Chain (table (take (l .slots) s) (l .into + l .copies) (l .edges)) (getD s (l .into + c) 0) (edgesAt to c (l .edges) 0)
@@ -115,7 +110,7 @@ module _ (l : Layout) (listed from to via s : List ℕ) (r : Ready l listed from
           chain = first-chain c inside;
           ends = λ e m. eqb→eq (getD to e 0) c (of-keep (λ i. eqb (getD to i 0) c) (upto (l .edges) 0) m .1);
           counts = λ D L G t.
-              let f = fromShown L (orderIn l listed (take (l .slots) s)) (boundsIn l (take (l .slots) s)) (shownBy (flagIn l s)) c j in
+              let f = fromShown L (slotMarks D L G) (slotsIn l (take (l .slots) s)) (shownBy (flagIn l s)) c j in
               omega (arith, ap (countOf f) (edges-listed D L G l listed from to via (take (l .slots) s) t c));
         }
 
@@ -127,7 +122,7 @@ module _ (l : Layout) (listed from to via s : List ℕ) (r : Ready l listed from
           record {
             few = omega (arith, x .few, x .within);
             counts = λ D L G t.
-                let f = fromShown L (orderIn l listed (take (l .slots) s)) (boundsIn l (take (l .slots) s)) (shownBy (flagIn l s)) c j in
+                let f = fromShown L (slotMarks D L G) (slotsIn l (take (l .slots) s)) (shownBy (flagIn l s)) c j in
                 omega (arith, x .counts D L G t, ap (λ (k : List ℕ). countOf f (map (edgeAt from to via) k)) none);
           }
 
@@ -159,7 +154,7 @@ module _ (l : Layout) (listed from to via s : List ℕ) (r : Ready l listed from
 
         counting-more : (more : ℕ) (b : Bool)
             → ((D : Design) (L : PathList) (G : Graph) → Tabled D L G l listed from to via (take (l .slots) s)
-            → fromShown L (orderIn l listed (take (l .slots) s)) (boundsIn l (take (l .slots) s)) (shownBy (flagIn l s)) c j (edgeAt from to via (h - 1)) ≡ b)
+            → fromShown L (slotMarks D L G) (slotsIn l (take (l .slots) s)) (shownBy (flagIn l s)) c j (edgeAt from to via (h - 1)) ≡ b)
             → more ≡ count + oneIf b → more ≤ count + 1
             → Counting l listed from to via s c j more (getD s (l .into + l .copies + (h - 1)) 0)
         counting-more more b test q small =
@@ -172,7 +167,7 @@ module _ (l : Layout) (listed from to via s : List ℕ) (r : Ready l listed from
               chain = subst (λ (y : ℕ). Chain (table (take (l .slots) s) (l .into + l .copies) (l .edges)) y (goes .0)) (next-read (h - 1) (counting-edge .0)) (goes .2);
               ends = λ e m. x .ends e (subst (λ (k : List ℕ). List·Memᴰ e k) (sym (goes .1)) (List·Memᴰ·tail m));
               counts = λ D L G t.
-                  let f = fromShown L (orderIn l listed (take (l .slots) s)) (boundsIn l (take (l .slots) s)) (shownBy (flagIn l s)) c j in
+                  let f = fromShown L (slotMarks D L G) (slotsIn l (take (l .slots) s)) (shownBy (flagIn l s)) c j in
                   omega (
                     arith,
                     x .counts D L G t,
@@ -185,12 +180,12 @@ module _ (l : Layout) (listed from to via s : List ℕ) (r : Ready l listed from
         -- one edge more, whose start has this flag
         test-is : (v : ℕ) (b : Bool) → ltb 0 v ≡ b → StartMeets l listed from to via s (h - 1) j v
             → (D : Design) (L : PathList) (G : Graph) → Tabled D L G l listed from to via (take (l .slots) s)
-            → fromShown L (orderIn l listed (take (l .slots) s)) (boundsIn l (take (l .slots) s)) (shownBy (flagIn l s)) c j (edgeAt from to via (h - 1)) ≡ b
+            → fromShown L (slotMarks D L G) (slotsIn l (take (l .slots) s)) (shownBy (flagIn l s)) c j (edgeAt from to via (h - 1)) ≡ b
         unfolding StartMeets
         test-is v b q m D L G t =
             let p = take (l .slots) s in
-            subst (λ (d : ℕ). fromShown L (orderIn l listed p) (boundsIn l p) (shownBy (flagIn l s)) d j (edgeAt from to via (h - 1)) ≡ b) (counting-edge .1)
-            (sym (start-shown L (orderIn l listed p) (boundsIn l p) (flagIn l s) (getD to (h - 1) 0) j (edgeAt from to via (h - 1))) ∙ ap (ltb 0) (sym (m D L G t)) ∙ q)
+            subst (λ (d : ℕ). fromShown L (slotMarks D L G) (slotsIn l p) (shownBy (flagIn l s)) d j (edgeAt from to via (h - 1)) ≡ b) (counting-edge .1)
+            (sym (start-shown L (slotMarks D L G) (slotsIn l p) (flagIn l s) (getD to (h - 1) 0) j (edgeAt from to via (h - 1))) ∙ ap (ltb 0) (sym (m D L G t)) ∙ q)
 
         pub counting-take : (v more : ℕ) → StartMeets l listed from to via s (h - 1) j v → (v ≡ 0 → ⊥) → more ≡ count + 1
             → Counting l listed from to via s c j more (getD s (l .into + l .copies + (h - 1)) 0)

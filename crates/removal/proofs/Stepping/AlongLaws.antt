@@ -1,28 +1,34 @@
--- The step against an edge of the graph: its ends are copies, what the searches ask is there, and what they find is the step.
-use Prim.Native.Nat.{ℕ, _+_, _≤_, _<_}
+-- The step against an edge of the graph: its ends are copies, and what the tables of the list say is the step.
+use Prim.Native.Nat.{ℕ, suc, _+_, _-_, _≤_, _<_}
 use native.Mathlib.Omega.{arith}
-use mathlib.Core.Path.{_≡_, sym, _∙_, ap, subst}
-use mathlib.Core.List.{List, _∷_, map, List·Memᴰ, Memᴰ·map}
-use lib.ListN.{length, getD, take, drop}
+use mathlib.Core.Path.{_≡_, refl, sym, _∙_, ap, subst}
+use mathlib.Core.Logic.{⊎-elim}
+use mathlib.Core.Bool.{Bool, true, false}
+use mathlib.Core.List.{List, [], _∷_, map, List·Memᴰ, List·Memᴰ·not-nil, Memᴰ·map}
+use lib.Dec.{T}
+use lib.ListN.{length, getD, take}
 use lib.Seq.{getD-take, ext-getD, length-take-le}
 use Rattle.timing.specs.Lists.{upto}
-use Rattle.timing.specs.Graphs.{Design, Edge, Graph}
-use Rattle.timing.specs.Marks.{PathList}
-use Rattle.theorems.proofs.Lists.{mem-upto}
+use Rattle.timing.specs.Graphs.{Design, Edge, Graph, nodeOf}
+use Rattle.timing.specs.Marks.{PathList, pathsOf, mark}
+use Rattle.theorems.proofs.Lists.{holds, fails, mem-upto}
+use Rattle.theorems.proofs.Marks.{Prefix, begins}
+use Rattle.classes.specs.Table.{table}
+use Rattle.classes.specs.Classes.{marksAt}
+use Rattle.classes.specs.Tables.{deadWord, listWords, marksFor, marksBelow, Stepped, Automaton}
+use Rattle.classes.specs.Step.{Marked}
+use Rattle.classes.proofs.Region.{table-at, table-length}
+use Rattle.classes.proofs.KeptLaws.{automaton-same}
 use Rattle.removal.specs.declared.rows.Layout.{Layout}
-use Rattle.removal.specs.declared.step.Step.{Step}
-use Rattle.removal.specs.Table.{table}
-use Rattle.removal.specs.Positions.{restAt, Ordered}
-use Rattle.removal.specs.Slots.{Bounded, slots, slotMark}
-use Rattle.removal.specs.Step.{SlotTables, SpanRoom, SpanIs, PlacesRoom, StepMeets, StepIs, LiveIs}
-use Rattle.removal.specs.Names.{Unlisted}
-use Rattle.removal.specs.Ranks.{RestsFall, Ranked}
-use Rattle.removal.specs.Tails.{LinkedTo, MarkAt, Findable}
-use Rattle.removal.specs.declared.step.Step.the-variants.{Live}
-use Rattle.removal.specs.Rows.{boundsIn, orderIn, Tabled}
-use Rattle.removal.proofs.Building.Region.{table-at, table-length}
+use Rattle.removal.specs.declared.rows.Step.{Step}
+use Rattle.removal.specs.declared.rows.Step.the-variants.{Dead, Live}
+use Rattle.removal.specs.Slots.{slots, slotMarks, slotsOf}
+use Rattle.removal.specs.Rows.{slotsIn, Tabled}
+use Rattle.removal.specs.Along.{LiveIs, StepIs, StepSays}
 use Rattle.removal.proofs.Showing.IntoLaws.{edgeAt, edges-map}
-use Rattle.removal.proofs.Stepping.StepMarks.{places-room, bounds-inside, span-room, span-mark, span-inside, span-whole, step-unlisted}
+use Rattle.removal.specs.Names.{Unlisted}
+use Rattle.removal.proofs.Reaching.SlotLaws.{setting-of, used-all}
+use Rattle.removal.proofs.Stepping.UnlistedLaws.{unlisted-stepped}
 
 -- a table that lies in the first k words
 pub table-prefix : (s : List ℕ) (k base n : ℕ) → base + n ≤ k → k ≤ length s → table (take k s) base n ≡ table s base n
@@ -50,115 +56,102 @@ module _ (D : Design) (L : PathList) (G : Graph) (l : Layout) (listed from to vi
   pub start-inside : (e : ℕ) → e < l .edges → getD from e 0 < l .copies
   start-inside e h = omega (arith, edge-up e h, end-inside e h)
 
+  -- what the word of a step says is the step
+  word-live : (e j w : ℕ) → e < l .edges → Stepped (D .starts) (pathsOf L) (getD via e 0) (slotMarks D L G (getD to e 0) j) w
+      → begins (pathsOf L) (getD via e 0 ∷ slotMarks D L G (getD to e 0) j) ≡ false
+      → LiveIs L (slotMarks D L G) (slotsIn l p) (getD from e 0) (getD via e 0 ∷ slotMarks D L G (getD to e 0) j) w
+  unfolding slotMarks slotsOf
+  word-live e j w h x b =
+      let at : getD (D .starts) (getD via e 0) 0 ≡ nodeOf G (getD from e 0) = sym (t .legal .starts (edgeAt from to via e) (edge-mem e h)) in
+      let q : (w < length (marksAt (D .starts) (pathsOf L) (nodeOf G (getD from e 0))))
+      × (getD (marksAt (D .starts) (pathsOf L) (nodeOf G (getD from e 0))) w [] ≡ mark (pathsOf L) (getD via e 0 ∷ slotMarks D L G (getD to e 0) j)) =
+      subst (λ (v : ℕ). (w < length (marksAt (D .starts) (pathsOf L) v))
+      × (getD (marksAt (D .starts) (pathsOf L) v) w [] ≡ mark (pathsOf L) (getD via e 0 ∷ slotMarks D L G (getD to e 0) j))) at (x .stands b) in
+      let inside : w < slots (slotsIn l p) (getD from e 0) = omega (arith, q .0, t .slots-are (getD from e 0) (start-inside e h)) in
+      record {
+        alive = b;
+        inside = inside;
+        is = q .1;
+        used = used-all D G L (slotMarks D L G) (slotsIn l p) (setting-of D L G l listed from to via p t) (getD from e 0) (omega (arith, start-inside e h, t .copies)) w inside;
+      }
+
+  pub word-step : (e j w : ℕ) (r : Step) → e < l .edges → Stepped (D .starts) (pathsOf L) (getD via e 0) (slotMarks D L G (getD to e 0) j) w → StepSays w r
+      → StepIs L (slotMarks D L G) (slotsIn l p) (getD from e 0) (getD via e 0 ∷ slotMarks D L G (getD to e 0) j) r
+  word-step e j w Dead h x q = go (begins (pathsOf L) (getD via e 0 ∷ slotMarks D L G (getD to e 0) j)) refl
+    where
+      go : (b : Bool) → begins (pathsOf L) (getD via e 0 ∷ slotMarks D L G (getD to e 0) j) ≡ b → begins (pathsOf L) (getD via e 0 ∷ slotMarks D L G (getD to e 0) j) ≡ true
+      go true y = y
+      go false y = absurd (omega (arith, x .alive y, q))
+  word-step e j w (Live k) h x (q, f) = go (begins (pathsOf L) (getD via e 0 ∷ slotMarks D L G (getD to e 0) j)) refl
+    where
+      go : (b : Bool) → begins (pathsOf L) (getD via e 0 ∷ slotMarks D L G (getD to e 0) j) ≡ b
+          → LiveIs L (slotMarks D L G) (slotsIn l p) (getD from e 0) (getD via e 0 ∷ slotMarks D L G (getD to e 0) j) k
+      go true y = absurd (f (x .dead y))
+      go false y = subst (λ (i : ℕ). LiveIs L (slotMarks D L G) (slotsIn l p) (getD from e 0) (getD via e 0 ∷ slotMarks D L G (getD to e 0) j) i) q (word-live e j w h x y)
+
+  -- the empty mark has the word of the edge alone
+  pub word-empty : (e : ℕ) → e < l .edges → Stepped (D .starts) (pathsOf L) (getD via e 0) (slotMarks D L G (getD to e 0) 0) (getD p (l .default + e) 0)
+  word-empty e h =
+      subst (λ (m : List ℕ). Stepped (D .starts) (pathsOf L) (getD via e 0) m (getD p (l .default + e) 0))
+      (sym (setting-of D L G l listed from to via p t .empty (getD to e 0))) (t .defaults e h)
+
+-- the number of a mark
 module _ (D : Design) (L : PathList) (G : Graph) (l : Layout) (listed from to via s : List ℕ)
     (t : Tabled D L G l listed from to via (take (l .slots) s)) (room : l .slots ≤ length s) where
-  pub slot-tables : (c : ℕ) → c < l .copies → SlotTables D L G (boundsIn l (take (l .slots) s)) s (l .rest) (l .order) c
-  slot-tables c h =
-      let n : length (L .edges) ≡ length listed = ap length (t .list-edges) in
-      let inside : l .order + length listed ≤ l .slots = omega (arith, t .laid .order, t .laid .low, t .laid .into, t .laid .named) in
-      let first : l .rest + length listed ≤ l .slots = omega (arith, t .laid .rest) in
-      let order = table-prefix s (l .slots) (l .order) (length listed) inside room in
-      let rests = table-prefix s (l .slots) (l .rest) (length listed) first room in
+  pub automaton-in : Automaton (D .starts) (pathsOf L) (l .lists) s
+  automaton-in =
+      let inside : listWords (l .lists .edges) ≤ l .slots =
+      omega (arith, t .laid .list, t .laid .list-edges, t .laid .first, t .laid .base, t .laid .into, t .laid .default, t .laid .named) in
+      automaton-same (D .starts) (pathsOf L) (l .lists) (take (l .slots) s) s
+      (λ b m h. sym (table-prefix s (l .slots) b m (omega arith) room)) (omega arith) (t .automaton)
+
+  pub mark-number : (c j f : ℕ) → c < l .copies → 0 < j → j < slots (slotsIn l (take (l .slots) s)) c → f ≡ getD s (l .first + c) 0 + j
+      → Marked (D .starts) (pathsOf L) (l .lists) s (nodeOf G c) (j - 1) f
+  unfolding slotsOf
+  mark-number c j f h some k q =
+      let first : getD s (l .first + c) 0 ≡ marksBelow (D .starts) (pathsOf L) (nodeOf G c) =
+      sym (getD-take (l .slots) s (l .first + c) 0 (omega (arith, t .laid .first, t .laid .base, t .laid .into, t .laid .default, t .laid .named))) ∙ t .firsts c h in
       record {
-        total = t .fits .total;
-        filled = t .fits .filled;
-        rest-room = omega arith;
-        order-room = omega arith;
-        rests = subst (λ (k : ℕ). table s (l .rest) k ≡ map (restAt L) (upto k 0)) (sym n) (sym rests ∙ t .rests);
-        ordered = subst (λ (k : ℕ). Ordered D L (table s (l .order) k)) (sym n) (subst (λ (o : List ℕ). Ordered D L o) order (t .ordered));
-        bounded = subst (λ (k : ℕ). Bounded D L G (table s (l .order) k) (boundsIn l (take (l .slots) s)) c) (sym n)
-            (subst (λ (o : List ℕ). Bounded D L G o (boundsIn l (take (l .slots) s)) c) order (t .bounded c h));
+        tables = automaton-in;
+        node = t .few-nodes c h;
+        there = omega (arith, t .slots-are c h);
+        number = omega (arith, first);
       }
 
-  -- what the searches ask
-  pub span-asked : (c low j : ℕ) → c < l .copies → low ≡ boundsIn l (take (l .slots) s) .low c → j < slots (boundsIn l (take (l .slots) s)) c
-      → SpanRoom s (l .rest) (l .order) low j
-  span-asked c low j h e k =
-      subst (λ (x : ℕ). SpanRoom s (l .rest) (l .order) x j) (sym e) (span-room D L G (boundsIn l (take (l .slots) s)) s (l .rest) (l .order) c (slot-tables c h) j k)
+  -- so what the tables of the list answer is the step
+  pub listed-step : (e j c first default w : ℕ) (r : Step) → e < l .edges → 0 < j → j < slots (slotsIn l (take (l .slots) s)) (getD to e 0)
+      → c ≡ getD to e 0 → first ≡ getD s (l .first + c) 0 → default ≡ getD s (l .default + e) 0
+      → ((starts : List ℕ) (K : List (List ℕ)) (v i : ℕ) → Marked starts K (l .lists) s v i (first + j) → Stepped starts K (getD via e 0) [] default
+      → Stepped starts K (getD via e 0) (getD (marksAt starts K v) (suc i) []) w)
+      → StepSays w r
+      → StepIs L (slotMarks D L G) (slotsIn l (take (l .slots) s)) (getD from e 0) (getD via e 0 ∷ slotMarks D L G (getD to e 0) j) r
+  unfolding slotMarks
+  listed-step e j c first default w r h some k qc qf qd answer says =
+      let inside : c < l .copies = omega (arith, end-inside D L G l listed from to via (take (l .slots) s) t e h, qc) in
+      let number = mark-number c j (first + j) inside some (subst (λ (x : ℕ). j < slots (slotsIn l (take (l .slots) s)) x) (sym qc) k) (omega (arith, qf)) in
+      let alone : Stepped (D .starts) (pathsOf L) (getD via e 0) [] default =
+      subst (λ (x : ℕ). Stepped (D .starts) (pathsOf L) (getD via e 0) [] x)
+      (getD-take (l .slots) s (l .default + e) 0 (omega (arith, t .laid .default, t .laid .named)) ∙ sym qd) (t .defaults e h) in
+      let q : suc (j - 1) ≡ j = omega arith in
+      let word : Stepped (D .starts) (pathsOf L) (getD via e 0) (getD (marksAt (D .starts) (pathsOf L) (nodeOf G (getD to e 0))) j []) w =
+      subst (λ (x : ℕ). Stepped (D .starts) (pathsOf L) (getD via e 0) (getD (marksAt (D .starts) (pathsOf L) (nodeOf G x)) j []) w) qc
+      (subst (λ (x : ℕ). Stepped (D .starts) (pathsOf L) (getD via e 0) (getD (marksAt (D .starts) (pathsOf L) (nodeOf G c)) x []) w) q
+      (answer (D .starts) (pathsOf L) (nodeOf G c) (j - 1) number alone)) in
+      word-step D L G l listed from to via (take (l .slots) s) t e j w r h word says
 
-  pub span-within : (c low j at len : ℕ) → c < l .copies → low ≡ boundsIn l (take (l .slots) s) .low c → j < slots (boundsIn l (take (l .slots) s)) c
-      → SpanIs s (l .rest) (l .order) low j at len → at + len ≤ length listed
-  span-within c low j at len h e k is =
-      let r = span-inside D L G (boundsIn l (take (l .slots) s)) s (l .rest) (l .order) c (slot-tables c h) j at len k
-      (subst (λ (x : ℕ). SpanIs s (l .rest) (l .order) x j at len) e is) in
-      omega (arith, r, ap length (t .list-edges))
+  -- the empty mark leads where the edge alone does, and an edge that is not listed to the empty mark
+  pub empty-step : (e w : ℕ) (r : Step) → e < l .edges → w ≡ getD s (l .default + e) 0 → StepSays w r
+      → StepIs L (slotMarks D L G) (slotsIn l (take (l .slots) s)) (getD from e 0) (getD via e 0 ∷ slotMarks D L G (getD to e 0) 0) r
+  empty-step e w r h q says =
+      word-step D L G l listed from to via (take (l .slots) s) t e 0 w r h
+      (subst (λ (x : ℕ). Stepped (D .starts) (pathsOf L) (getD via e 0) (slotMarks D L G (getD to e 0) 0) x)
+      (getD-take (l .slots) s (l .default + e) 0 (omega (arith, t .laid .default, t .laid .named)) ∙ sym q)
+      (word-empty D L G l listed from to via (take (l .slots) s) t e h)) says
 
-  pub find-asked : (c low j at len : ℕ) → c < l .copies → low ≡ boundsIn l (take (l .slots) s) .low c → j < slots (boundsIn l (take (l .slots) s)) c
-      → SpanIs s (l .rest) (l .order) low j at len → Findable listed s (l .rest) (l .rank) (l .link) at len
-  find-asked c low j at len h e k is =
-      let first : l .rest + length listed ≤ l .slots = omega (arith, t .laid .rest, t .laid .order, t .laid .low, t .laid .into, t .laid .named) in
-      let second : l .rank + length listed ≤ l .slots = omega (arith, t .laid .rank, t .laid .low, t .laid .into, t .laid .named) in
-      let third : l .link + length listed ≤ l .slots = omega (arith, t .laid .link, t .laid .low, t .laid .into, t .laid .named) in
-      let rests = table-prefix s (l .slots) (l .rest) (length listed) first room in
-      let ranks = table-prefix s (l .slots) (l .rank) (length listed) second room in
-      let links = table-prefix s (l .slots) (l .link) (length listed) third room in
-      record {
-        compare = record {
-          rest-room = omega arith;
-          rank-room = omega arith;
-          falls = subst (RestsFall listed) rests (t .falls);
-          ranked = subst (λ (x : List ℕ). Ranked listed x (table s (l .rank) (length listed))) rests (subst (Ranked listed (table (take (l .slots) s) (l .rest) (length listed))) ranks (t .ranked));
-        };
-        link-room = omega arith;
-        links = subst (λ (x : List ℕ). LinkedTo listed x (table s (l .link) (length listed)) len) rests
-            (subst (λ (x : List ℕ). LinkedTo listed (table (take (l .slots) s) (l .rest) (length listed)) x len) links (t .links len));
-        mark = subst (λ (f : List ℕ). MarkAt f (table s (l .rest) (length f)) at len) (t .list-edges)
-            (span-whole D L G (boundsIn l (take (l .slots) s)) s (l .rest) (l .order) c (slot-tables c h) j at len k
-            (subst (λ (x : ℕ). SpanIs s (l .rest) (l .order) x j at len) e is));
-      }
-
-  pub places-asked : (a low middle high at len : ℕ) → a < l .copies → low ≡ boundsIn l (take (l .slots) s) .low a
-      → middle ≡ boundsIn l (take (l .slots) s) .middle a → high ≡ boundsIn l (take (l .slots) s) .high a → at + len ≤ length listed
-      → PlacesRoom listed s (l .rest) (l .order) low high at len × ((low ≤ middle) × (middle ≤ high))
-  places-asked a low middle high at len h x y z k =
-      let g = slot-tables a h in
-      let b = bounds-inside D L G (boundsIn l (take (l .slots) s)) s (l .rest) (l .order) a g in
-      let n : length (L .edges) ≡ length listed = ap length (t .list-edges) in (
-        subst (λ (f : List ℕ). PlacesRoom f s (l .rest) (l .order) low high at len) (t .list-edges)
-            (places-room D L G (boundsIn l (take (l .slots) s)) s (l .rest) (l .order) a g low high at len (omega (arith, b .0, b .1)) (omega (arith, b .2)) (omega arith)),
-        (omega (arith, b .0), omega (arith, b .1)),
-      )
-
-  -- and what they find is the step
-  pub along-is : (e j a c low middle high first at len : ℕ) (r : Step) → e < l .edges → a ≡ getD from e 0 → c ≡ getD to e 0
-      → j < slots (boundsIn l (take (l .slots) s)) (getD to e 0)
-      → first ≡ boundsIn l (take (l .slots) s) .low c → SpanIs s (l .rest) (l .order) first j at len
-      → low ≡ boundsIn l (take (l .slots) s) .low a → middle ≡ boundsIn l (take (l .slots) s) .middle a → high ≡ boundsIn l (take (l .slots) s) .high a
-      → StepMeets listed s (l .rest) (l .order) low middle high (getD via e 0) at len r
-      → StepIs L (orderIn l listed (take (l .slots) s)) (boundsIn l (take (l .slots) s)) (getD from e 0)
-      (getD via e 0 ∷ slotMark L (orderIn l listed (take (l .slots) s)) (boundsIn l (take (l .slots) s)) (getD to e 0) j) r
-  unfolding StepMeets
-  along-is e j a c low middle high first at len r h qa qc k f is x y z m =
-      let B = boundsIn l (take (l .slots) s) in
-      let start = start-inside D L G l listed from to via (take (l .slots) s) t e h in
-      let end = end-inside D L G l listed from to via (take (l .slots) s) t e h in
-      let n : length (L .edges) ≡ length listed = ap length (t .list-edges) in
-      let inside : l .order + length listed ≤ l .slots = omega (arith, t .laid .order, t .laid .low, t .laid .into, t .laid .named) in
-      let order : table s (l .order) (length (L .edges)) ≡ orderIn l listed (take (l .slots) s) =
-      ap (table s (l .order)) n ∙ sym (table-prefix s (l .slots) (l .order) (length listed) inside room) in
-      let marks : take len (drop at (L .edges)) ≡ slotMark L (table s (l .order) (length (L .edges))) B (getD to e 0) j =
-      span-mark D L G B s (l .rest) (l .order) (getD to e 0) (slot-tables (getD to e 0) end) j at len k
-      (subst (λ (i : ℕ). SpanIs s (l .rest) (l .order) i j at len) (f ∙ ap (B .low) qc) is) in
-      let meets : StepMeets (L .edges) s (l .rest) (l .order) low middle high (getD via e 0) at len r =
-      subst (λ (g : List ℕ). StepMeets g s (l .rest) (l .order) low middle high (getD via e 0) at len r) (sym (t .list-edges)) m in
-      let step = meets D (L .lengths) G B (getD from e 0) (slot-tables (getD from e 0) start) (x ∙ ap (B .low) qa) (y ∙ ap (B .middle) qa) (z ∙ ap (B .high) qa)
-      (sym (t .legal .starts (edgeAt from to via e) (edge-mem D L G l listed from to via (take (l .slots) s) t e h))) in
-      subst (λ (o : List ℕ). StepIs L o B (getD from e 0) (getD via e 0 ∷ slotMark L o B (getD to e 0) j) r) order
-      (subst (λ (w : List ℕ). StepIs L (table s (l .order) (length (L .edges))) B (getD from e 0) (getD via e 0 ∷ w) r) marks step)
-
-  -- an edge that names no listed one leads to the empty mark
-  pub along-unlisted : (e j : ℕ) → e < l .edges → getD s (l .named + e) 0 ≡ 0
-      → StepIs L (orderIn l listed (take (l .slots) s)) (boundsIn l (take (l .slots) s)) (getD from e 0)
-      (getD via e 0 ∷ slotMark L (orderIn l listed (take (l .slots) s)) (boundsIn l (take (l .slots) s)) (getD to e 0) j) (Live 0)
-  along-unlisted e j h z =
-      let B = boundsIn l (take (l .slots) s) in
-      let start = start-inside D L G l listed from to via (take (l .slots) s) t e h in
-      let n : length (L .edges) ≡ length listed = ap length (t .list-edges) in
-      let inside : l .order + length listed ≤ l .slots = omega (arith, t .laid .order, t .laid .low, t .laid .into, t .laid .named) in
-      let order : table s (l .order) (length (L .edges)) ≡ orderIn l listed (take (l .slots) s) =
-      ap (table s (l .order)) n ∙ sym (table-prefix s (l .slots) (l .order) (length listed) inside room) in
-      let unlisted : Unlisted listed (getD via e 0) = t .named e h (getD-take (l .slots) s (l .named + e) 0 (omega (arith, t .laid .named)) ∙ z) in
-      subst (λ (o : List ℕ). LiveIs L o B (getD from e 0) (getD via e 0 ∷ slotMark L (orderIn l listed (take (l .slots) s)) B (getD to e 0) j) 0) order
-      (step-unlisted D L G B s (l .rest) (l .order) (getD from e 0) (slot-tables (getD from e 0) start) (getD via e 0) (slotMark L (orderIn l listed (take (l .slots) s)) B (getD to e 0) j)
-      (sym (t .legal .starts (edgeAt from to via e) (edge-mem D L G l listed from to via (take (l .slots) s) t e h)))
-      (subst (λ (f : List ℕ). Unlisted f (getD via e 0)) (sym (t .list-edges)) unlisted))
+  pub unlisted-step : (e j : ℕ) → e < l .edges → getD s (l .named + e) 0 ≡ 0
+      → StepIs L (slotMarks D L G) (slotsIn l (take (l .slots) s)) (getD from e 0) (getD via e 0 ∷ slotMarks D L G (getD to e 0) j) (Live 0)
+  unlisted-step e j h z =
+      let none : Unlisted listed (getD via e 0) = t .named e h (getD-take (l .slots) s (l .named + e) 0 (omega (arith, t .laid .named)) ∙ z) in
+      word-step D L G l listed from to via (take (l .slots) s) t e j 0 (Live 0) h
+      (unlisted-stepped L (getD via e 0) (slotMarks D L G (getD to e 0) j) (subst (λ (f : List ℕ). Unlisted f (getD via e 0)) (sym (t .list-edges)) none) (t .fits .filled) (D .starts))
+      (refl, λ q. omega arith)

@@ -1,10 +1,10 @@
 -- What a removal answers, from the counts of what was found: 31, 33 and 34 as `timing` states them, the room and the scratch.
-use Prim.Native.Nat.{ℕ, _+_, _≤_, min}
+use Prim.Native.Nat.{ℕ, _+_, _≤_, min, _<_}
 use native.Mathlib.Omega.{arith}
 use mathlib.Core.Path.{_≡_, refl, sym, ap, _∙_, subst}
 use mathlib.Core.Bool.{Bool, true, false}
-use mathlib.Core.List.{List, [], _∷_, map}
-use lib.Dec.{leb, leb→le}
+use mathlib.Core.List.{List, [], _∷_, map, flatMap}
+use lib.Dec.{leb, leb→le, le→leb}
 use lib.ListN.{length, take, replicate}
 use Rattle.timing.specs.declared.Refusal.{Refusal}
 use Rattle.timing.specs.declared.Verdict.{Verdict}
@@ -12,19 +12,21 @@ use Rattle.timing.specs.declared.Verdict.the-variants.{Passed, Refused}
 use Rattle.timing.specs.declared.GraphMade.{GraphMade}
 use Rattle.timing.specs.declared.GraphMade.the-variants.{Counts}
 use Rattle.timing.specs.declared.GraphMade.the-variants.{Refused as NoGraph}
-use Rattle.timing.specs.Graphs.{Design, Graph, edgesIn}
-use Rattle.timing.specs.Marks.{PathList, pathsOf, pathList}
-use Rattle.timing.specs.TrueGraphs.{trueGraph}
+use Rattle.timing.specs.Lists.{oneIf, keep, upto}
+use Rattle.timing.specs.Graphs.{Design, Graph, graph, edgesIn, nodeOf, startsAt, runsFrom, completeRuns, names}
+use Rattle.timing.specs.Marks.{PathList, pathsOf, pathList, permitted}
+use Rattle.timing.specs.Sorting.{sort}
+use Rattle.timing.specs.TrueGraphs.{copyBefore, edgeBefore, copiesOn, joinsOn, permittedRuns, copies, pathEnds, joins, numbered, trueGraph}
 use Rattle.timing.specs.Refusals.{unless, _then_}
 use Rattle.timing.specs.Tests.{candidates, scratchWords, wordsTest, scratchTest, countTests, Room, roomTests}
 use Rattle.timing.specs.Calls.{Outcome, refused, outcome, graphSlices, roomOf, largestRoom, countsAnswer, graphAnswer, scratchAfter}
 use Rattle.theorems.proofs.Lists.{holds}
 use Rattle.timing.proofs.Verdicts.{then-passed, unless-passed, unless-refused}
-use Rattle.theorems.proofs.Tested.{ListFits}
+use Rattle.theorems.proofs.Tested.{ListFits, fit-passed}
 use Rattle.removal.specs.declared.rows.Layout.{Layout}
 use Rattle.removal.specs.Rows.{Tabled}
 use Rattle.removal.specs.Fill.{EdgesInto, ResultFilled}
-use Rattle.removal.specs.Search.{ofStarts, ofNodes}
+use Rattle.removal.specs.Counts.{ofStarts, ofNodes}
 use Rattle.removal.specs.Build.{tableWords, Given}
 use Rattle.removal.specs.Counts.{ListCountable, CopiesCountable}
 use Rattle.removal.specs.Remove.{Worked, Workable, WorkableIn, AllFound, Found, wordsFor, Answered, roomOutcome, RoomAnswered, removalOutcome, Removed, AllRemoved, Sized, AllSized}
@@ -127,9 +129,24 @@ module _ (starts listed lengths nodes endpoint from to via s t t′ : List ℕ) 
   search-sized R r e =
       (e ∙ answer-is l listed nodes endpoint from to via t copies edges (f .all) R D L G (f .tabled D L G (w .given)) (w .endpoints) (w .into), scratch-zero R)
 
--- What 31 asks is enough for the tables: each copy is a candidate, so that with its slot it takes six words of its eight.
-tables-fit : (copies count listed edges : ℕ) → copies ≤ count → tableWords copies edges listed + count ≤ scratchWords count listed edges
-tables-fit copies count listed edges h = omega arith
+-- What 31 asks is enough for the tables, where there is a copy: each is a candidate, so that with its slot it takes four words of its eight, and four more are
+-- there for no copy.
+tables-fit : (copies count listed edges : ℕ) → 0 < copies → copies ≤ count → tableWords copies edges listed + count ≤ scratchWords count listed edges
+tables-fit copies count listed edges some h = omega arith
+
+none-fit : (nodes starts : ℕ) → countTests 0 0 nodes starts ≡ Passed
+none-fit nodes starts =
+    λ i. fit-passed 33 (leb 0 (min nodes 16384)) (le→leb 0 (min nodes 16384) (omega arith)) i then fit-passed 34 (leb 0 (min starts 65536)) (le→leb 0 (min starts 65536) (omega arith)) i
+
+-- without a copy there is no path, and nothing is left
+pub true-none : (G : Graph) (L : List (List ℕ)) → length (G .nodes) ≡ 0 → trueGraph G L ≡ graph [] [] []
+unfolding trueGraph copies joins permittedRuns completeRuns flatMap
+true-none G L e =
+    let runs : permittedRuns L G ≡ [] =
+    ap (λ (n : ℕ). keep (λ r. permitted L (names (r .edges))) (flatMap (λ c. map (λ r. record { first = c; edges = r }) (runsFrom G (length (G .nodes)) c)) (keep (startsAt G) (upto n 0)))) e in
+    λ i. graph (map (λ c. nodeOf G (c .at)) (sort copyBefore (flatMap (λ r. copiesOn L (r .first) (r .edges)) (runs i))))
+    (map (λ c. oneIf (pathEnds L G c)) (sort copyBefore (flatMap (λ r. copiesOn L (r .first) (r .edges)) (runs i))))
+    (sort edgeBefore (map (numbered (sort copyBefore (flatMap (λ r. copiesOn L (r .first) (r .edges)) (runs i)))) (flatMap (λ r. joinsOn L (r .first) (r .edges)) (runs i))))
 
 -- 31, from the count of candidates
 module _ (starts listed lengths nodes endpoint from to via : List ℕ) where
@@ -149,14 +166,14 @@ module _ (starts listed lengths nodes endpoint from to via : List ℕ) where
   count-is : (D : Design) (L : PathList) (G : Graph) → Given D L G starts listed lengths nodes from to via → count ≡ candidates D G L
   count-is D L G g = sym (candidates-slices D L G starts listed lengths nodes (g .design) (g .list) (g .copies))
 
-  pub work-in : (s : List ℕ) → Workable starts listed lengths nodes endpoint from to via → words s ≡ Passed → WorkableIn starts listed lengths nodes endpoint from to via s
-  work-in s x p =
+  pub work-in : (s : List ℕ) → Workable starts listed lengths nodes endpoint from to via → words s ≡ Passed → 0 < length nodes → WorkableIn starts listed lengths nodes endpoint from to via s
+  work-in s x p some =
       let g = x .worked .given in
       let asked = scratchWords count (length listed) (length from) in
       let long = leb→le asked (length s) (holds (leb asked (length s)) (unless-passed 31 (leb asked (length s)) p)) in
       let is = count-is (x .design) (x .list) (x .graph) g in
       let copies : length nodes ≤ count = omega (arith, is, copies-candidates (x .design) (x .graph) (x .list), ap length (g .copies)) in
-      record { work = x; room = omega (arith, long, is, tables-fit (length nodes) count (length listed) (length from) copies) }
+      record { work = x; room = omega (arith, long, is, tables-fit (length nodes) count (length listed) (length from) some copies) }
 
   scratch-is : (s : List ℕ) (D : Design) (L : PathList) (G : Graph) → Worked D L G starts listed lengths nodes endpoint from to via
       → words s ≡ scratchTest D G L (length s)
@@ -187,6 +204,31 @@ module _ (starts listed lengths nodes endpoint from to via : List ℕ) where
     unfolding AllSized
     sized-refused r t f q D L G w =
         words-are (λ o. Sized o (NoGraph r) s t) largestRoom s D L G w (Refused r) f (refl, q ∙ kept s r f)
+
+    -- without a copy nothing is found, and the result is empty
+    module _ (t t′ : List ℕ) (enough : words s ≡ Passed) (none : length nodes ≡ 0) (same : t ≡ s) (z : t′ ≡ replicate (length t) 0) where
+      cleared : t′ ≡ map (λ (w : ℕ). 0) s
+      cleared = z ∙ ap (λ (u : List ℕ). replicate (length u) 0) same ∙ zeros s
+
+      empty : (D : Design) (L : PathList) (G : Graph) → Worked D L G starts listed lengths nodes endpoint from to via → trueGraph G (pathsOf L) ≡ graph [] [] []
+      empty D L G w = true-none G (pathsOf L) (ap length (w .given .copies) ∙ none)
+
+      pub removed-none : (room-nodes room-endpoint room-from room-to room-via : List ℕ)
+          → AllRemoved starts listed lengths nodes endpoint from to via (Counts 0 0) room-nodes room-endpoint room-from room-to room-via s room-nodes room-endpoint room-from room-to room-via t′
+      unfolding AllRemoved roomTests
+      removed-none room-nodes room-endpoint room-from room-to room-via D L G w =
+          words-are (λ o. Removed o (Counts 0 0) room-nodes room-endpoint room-from room-to room-via s room-nodes room-endpoint room-from room-to room-via t′)
+          (roomOf (graphSlices room-nodes room-endpoint room-from room-to room-via)) s D L G w Passed enough
+          (subst (λ (H : Graph). Removed (outcome (countTests (length (H .nodes)) (length (H .edges)) (length room-nodes) (length room-from)) H) (Counts 0 0) room-nodes room-endpoint room-from room-to room-via s room-nodes room-endpoint room-from room-to room-via t′) (sym (empty D L G w))
+          (subst (λ (v : Verdict). Removed (outcome v (graph [] [] [])) (Counts 0 0) room-nodes room-endpoint room-from room-to room-via s room-nodes room-endpoint room-from room-to room-via t′) (sym (none-fit (length room-nodes) (length room-from)))
+          (record { answered = record { answer = refl; nodes = refl; endpoints = refl; starts = refl; ends = refl; names = refl }; scratch = cleared })))
+
+      pub sized-none : AllSized starts listed lengths nodes endpoint from to via (Counts 0 0) s t′
+      unfolding AllSized roomTests
+      sized-none D L G w =
+          words-are (λ o. Sized o (Counts 0 0) s t′) largestRoom s D L G w Passed enough
+          (subst (λ (H : Graph). Sized (outcome (countTests (length (H .nodes)) (length (H .edges)) 16384 65536) H) (Counts 0 0) s t′) (sym (empty D L G w))
+          (subst (λ (v : Verdict). Sized (outcome v (graph [] [] [])) (Counts 0 0) s t′) (sym (none-fit 16384 65536)) (refl, cleared)))
 
     module _ (t t′ : List ℕ) (l : Layout) (copies edges : ℕ) (enough : words s ≡ Passed) (f : Found starts listed lengths nodes endpoint from to via s t l copies edges) (z : t′ ≡ replicate (length t) 0) (r : GraphMade) where
       pub removed-made : (room-nodes room-endpoint room-from room-to room-via room-nodes′ room-endpoint′ room-from′ room-to′ room-via′ : List ℕ)

@@ -10,13 +10,13 @@ use Rattle.timing.specs.Marks.{PathList, pathsOf}
 use Rattle.timing.specs.TrueGraphs.{trueGraph}
 use Rattle.theorems.proofs.Tested.{ListFits}
 use Rattle.removal.specs.declared.rows.Layout.{Layout}
-use Rattle.removal.specs.Slots.{slots}
-use Rattle.removal.specs.Rows.{boundsIn, orderIn, Tabled, Ready, flagIn}
+use Rattle.removal.specs.Slots.{slots, slotMarks}
+use Rattle.removal.specs.Rows.{slotsIn, Tabled, Ready, flagIn}
 use Rattle.removal.specs.Flags.{ReachedRow, ShownRow}
 use Rattle.removal.specs.Reach.{SlotsOnly, RowsReached, AllZero, flagOf}
 use Rattle.removal.specs.Result.{Slot, shownBelow, shownSlots}
 use Rattle.removal.specs.Show.{AllShown, ShowsAll, reachedBy}
-use Rattle.removal.specs.Fill.{RowsShown, RoomsAlike, SlotsRoom, boundsNow, shownNow, edgesNow, comesNow, fromNow}
+use Rattle.removal.specs.Fill.{RowsShown, RoomsAlike, SlotsRoom, slotsNow, shownNow, edgesNow, comesNow, fromNow}
 use Rattle.removal.specs.Build.{Given, Buildable, Built}
 use Rattle.removal.specs.Remove.{Worked, Workable, WorkableIn, AllFound, Found}
 use Rattle.removal.proofs.Reaching.ReachLaws.{ready-still}
@@ -36,6 +36,7 @@ buildable starts listed lengths nodes endpoint from to via s x =
       given = w .given;
       starts-below = list-countable (x .work .design) starts listed lengths (w .fits) (subst (λ (K : PathList). ListFits (x .work .design) K) (w .given .list) (w .given .fits)) (w .given .design) .starts-below;
       nodes-below = copies-countable (x .work .design) (x .work .graph) nodes (w .fits) (w .given .legal) (w .given .copies) (w .given .few-copies) .below;
+      edges-below = omega (arith, w .fits .fewEdges, ap length (w .given .design));
       room = x .room;
     }
 
@@ -52,15 +53,15 @@ module _ (starts listed lengths nodes endpoint from to via s a : List ℕ) (l : 
     reached-ready = ready-still l listed from to via a b (reached .only) built-ready
 
     -- the flags after pass 1, with the tables as they stand then
-    low-flags : (c j : ℕ) → c < l .copies → j < slots (boundsIn l (take (l .slots) b)) c → flagIn l b c j ≤ 1
+    low-flags : (c j : ℕ) → c < l .copies → j < slots (slotsIn l (take (l .slots) b)) c → flagIn l b c j ≤ 1
     low-flags =
-        subst (λ (p : List ℕ). (c j : ℕ) → c < l .copies → j < slots (boundsIn l p) c → flagOf l p b c j ≤ 1) (sym (reached .only .tables)) (reached .small)
+        subst (λ (p : List ℕ). (c j : ℕ) → c < l .copies → j < slots (slotsIn l p) c → flagOf l p b c j ≤ 1) (sym (reached .only .tables)) (reached .small)
 
     reached-rows : (D : Design) (L : PathList) (G : Graph) → Tabled D L G l listed from to via (take (l .slots) b) → G .endpoints ≡ endpoint
-        → (c : ℕ) → c < l .copies → ReachedRow G L (orderIn l listed (take (l .slots) b)) (boundsIn l (take (l .slots) b)) (reachedBy (flagIn l b)) c
+        → (c : ℕ) → c < l .copies → ReachedRow G L (slotMarks D L G) (slotsIn l (take (l .slots) b)) (reachedBy (flagIn l b)) c
     reached-rows D L G =
         subst
-        (λ (p : List ℕ). Tabled D L G l listed from to via p → G .endpoints ≡ endpoint → (c : ℕ) → c < l .copies → ReachedRow G L (orderIn l listed p) (boundsIn l p) (reachedBy (flagOf l p b)) c)
+        (λ (p : List ℕ). Tabled D L G l listed from to via p → G .endpoints ≡ endpoint → (c : ℕ) → c < l .copies → ReachedRow G L (slotMarks D L G) (slotsIn l p) (reachedBy (flagOf l p b)) c)
         (sym (reached .only .tables))
         (λ t q c h. reached .rows D L G t q c (omega arith) h)
 
@@ -69,18 +70,18 @@ module _ (starts listed lengths nodes endpoint from to via s a : List ℕ) (l : 
       only = record { size = shown .size; tables = shown .tables; past = shown .past }
 
       shows : (D : Design) (L : PathList) (G : Graph) → Tabled D L G l listed from to via (take (l .slots) t)
-          → ShowsAll G L (orderIn l listed (take (l .slots) t)) (boundsIn l (take (l .slots) t)) (flagIn l t) copies edges
+          → ShowsAll G L (slotMarks D L G) (slotsIn l (take (l .slots) t)) (flagIn l t) copies edges
       shows D L G =
           subst
-          (λ (p : List ℕ). Tabled D L G l listed from to via p → ShowsAll G L (orderIn l listed p) (boundsIn l p) (flagIn l t) copies edges)
+          (λ (p : List ℕ). Tabled D L G l listed from to via p → ShowsAll G L (slotMarks D L G) (slotsIn l p) (flagIn l t) copies edges)
           (sym (shown .tables))
           (λ y. shown .meets D L G y low-flags)
 
       rows : (D : Design) (L : PathList) (G : Graph) → Tabled D L G l listed from to via (take (l .slots) t) → G .endpoints ≡ endpoint
-          → (c : ℕ) → c < l .copies → ShownRow G L (orderIn l listed (take (l .slots) t)) (boundsNow l t) (shownNow l t) c
+          → (c : ℕ) → c < l .copies → ShownRow G L (slotMarks D L G) (slotsNow l t) (shownNow l t) c
       rows D L G =
           subst
-          (λ (p : List ℕ). Tabled D L G l listed from to via p → G .endpoints ≡ endpoint → (c : ℕ) → c < l .copies → ShownRow G L (orderIn l listed p) (boundsIn l p) (shownNow l t) c)
+          (λ (p : List ℕ). Tabled D L G l listed from to via p → G .endpoints ≡ endpoint → (c : ℕ) → c < l .copies → ShownRow G L (slotMarks D L G) (slotsIn l p) (shownNow l t) c)
           (sym (shown .tables))
           (λ y q. shown .rows D L G y low-flags (reached-rows D L G y q))
 
@@ -97,7 +98,7 @@ module _ (starts listed lengths nodes endpoint from to via s a : List ℕ) (l : 
 
       pub found : Found starts listed lengths nodes endpoint from to via s t l copies edges
       found =
-          let B = boundsNow l t in
+          let B = slotsNow l t in
           let sh = shownNow l t in
           let g = x .work .worked .given in
           let own = tables (x .work .design) (x .work .list) (x .work .graph) g in
@@ -110,27 +111,27 @@ module _ (starts listed lengths nodes endpoint from to via s a : List ℕ) (l : 
                   rows = all-rows;
                   copies-of = built .laid .copies;
                   slots-counted = shows (x .work .design) (x .work .list) (x .work .graph) own .copies-are ∙ ap (λ (n : ℕ). length (shownBelow B sh n)) (own .copies);
-                  edges-counted = λ D L G y. shows D L G y .edges-are ∙ ap (λ (n : ℕ). length (flatMap (edgesNow l listed t L G) (shownBelow B sh n))) (y .copies);
+                  edges-counted = λ D L G y. shows D L G y .edges-are ∙ ap (λ (n : ℕ). length (flatMap (edgesNow l listed t D L G) (shownBelow B sh n))) (y .copies);
                   copies-are = λ D L G y q.
                       shows D L G y .copies-are
                       ∙ sym (length-map (shownSlots G B sh) (λ (k : Slot). nodeOf G (k .copy)))
                       ∙ ap length
-                      (shown-nodes D G L (orderIn l listed (take (l .slots) t)) B (setting-of D L G l listed from to via (take (l .slots) t) y) sh
+                      (shown-nodes D G L (slotMarks D L G) B (setting-of D L G l listed from to via (take (l .slots) t) y) sh
                       (λ c h. rows D L G y q c (omega (arith, y .copies))));
                   edges-are = λ D L G y q into.
                       let S = setting-of D L G l listed from to via (take (l .slots) t) y in
-                      let right : (c : ℕ) → c < length (G .nodes) → ShownRow G L (orderIn l listed (take (l .slots) t)) B sh c = λ c h. rows D L G y q c (omega (arith, y .copies)) in
+                      let right : (c : ℕ) → c < length (G .nodes) → ShownRow G L (slotMarks D L G) B sh c = λ c h. rows D L G y q c (omega (arith, y .copies)) in
                       shows D L G y .edges-are
                       ∙ ap length
-                      (shown-edges D G L (orderIn l listed (take (l .slots) t)) B S sh right (edgesIn G) into (comesNow l listed t L) (fromNow l listed t L)
-                      (links D G L (orderIn l listed (take (l .slots) t)) B S sh right));
+                      (shown-edges D G L (slotMarks D L G) B S sh right (edgesIn G) into (comesNow l listed t D L G) (fromNow l listed t D L G)
+                      (links D G L (slotMarks D L G) B S sh right));
                 };
           }
 
 -- there is room where 33 and 34 pass
 module _ (l : Layout) (listed nodes endpoint from to via s room-nodes room-endpoint room-from room-to room-via : List ℕ) (copies edges : ℕ) (x : AllFound l listed nodes endpoint from to via s copies edges) (same : RoomsAlike room-nodes room-endpoint room-from room-to room-via) where
   pub slots-room : copies ≤ length room-nodes → edges ≤ length room-from
-      → SlotsRoom l listed nodes endpoint from to via s (shownBelow (boundsNow l s) (shownNow l s) (l .copies)) 0 room-nodes room-endpoint room-from room-to room-via 0
+      → SlotsRoom l listed nodes endpoint from to via s (shownBelow (slotsNow l s) (shownNow l s) (l .copies)) 0 room-nodes room-endpoint room-from room-to room-via 0
   slots-room h k =
       record {
         shown = x .shown;

@@ -25,7 +25,7 @@ find-late-requires c κs =
     let D = design (a .n) (a .starts .now) (a .ends .now) (a .early .now) (a .late .now) (a .marked .now) in
     let S = graphSlices (a .nodes .now) (a .endpoint .now) (a .from .now) (a .to .now) (a .via .now) in
     let r = passed-ready D S (a .allowed) (sameSizes n n (length (a .arrivals .now))) (sym (p .pre) ∙ e .enum-told .given .1) in
-    (r .late, same-passed n n (length (a .arrivals .now)) (r .places) .1)
+    (r .late, (same-passed n n (length (a .arrivals .now)) (r .places) .1, r .endpoints))
 
 enum-known-tested : tie.Need-enum-known-tested
 enum-known-tested c = search needs

@@ -4,7 +4,7 @@ use native.Mathlib.Omega.{arith}
 use native.Mathlib.Numerals.{add-one}
 use mathlib.Core.Path.{_≡_, subst}
 use Rattle.removal.specs.Result.{shownBelow}
-use Rattle.removal.specs.Fill.{boundsNow, shownNow}
+use Rattle.removal.specs.Fill.{slotsNow, shownNow}
 use Rattle.removal.proofs.Filling.WrittenLaws.{InAll, all-start, all-room, all-turn, room-size, edge-sizes, result-filled}
 use Rattle.removal.proofs.fill.fill_all.Statement.{statement}
 use Rattle.removal.proofs.fill.fill_all.Tie as tie
@@ -48,31 +48,31 @@ same-length : tie.Need-same-length Inv-loop μ-loop
 same-length c =
     let w = c .before .before in
     let p = w .before .before .before .before .before .before .before .before .before .before .before .before .before in
-    room-size (p .args .l) (p .args .listed .now) (p .args .nodes .now) (p .args .endpoint .now) (p .args .from .now) (p .args .to .now) (p .args .via .now) (p .args .scratch .now) (shownBelow (boundsNow (p .args .l) (p .args .scratch .now)) (shownNow (p .args .l) (p .args .scratch .now)) (w .loop .c)) 0 (p .args .room-nodes .now) (p .args .room-endpoint .now) (p .args .room-from .now) (p .args .room-to .now) (p .args .room-via .now) (w .loop .room-nodes) (w .loop .room-endpoint) (w .loop .room-from) (w .loop .room-to) (w .loop .room-via) 0 (w .loop .k) (p .pre .0 .shown .ready) (w .loop .inv .0) .0
+    room-size (p .args .l) (p .args .listed .now) (p .args .nodes .now) (p .args .endpoint .now) (p .args .from .now) (p .args .to .now) (p .args .via .now) (p .args .scratch .now) (shownBelow (slotsNow (p .args .l) (p .args .scratch .now)) (shownNow (p .args .l) (p .args .scratch .now)) (w .loop .c)) 0 (p .args .room-nodes .now) (p .args .room-endpoint .now) (p .args .room-from .now) (p .args .room-to .now) (p .args .room-via .now) (w .loop .room-nodes) (w .loop .room-endpoint) (w .loop .room-from) (w .loop .room-to) (w .loop .room-via) 0 (w .loop .k) (p .pre .0 .shown .ready) (w .loop .inv .0) .0
 
 same-length-2 : tie.Need-same-length-2 Inv-loop μ-loop
 same-length-2 c =
     let w = c .before .before in
     let p = w .before .before .before .before .before .before .before .before .before .before .before .before .before in
-    room-size (p .args .l) (p .args .listed .now) (p .args .nodes .now) (p .args .endpoint .now) (p .args .from .now) (p .args .to .now) (p .args .via .now) (p .args .scratch .now) (shownBelow (boundsNow (p .args .l) (p .args .scratch .now)) (shownNow (p .args .l) (p .args .scratch .now)) (w .loop .c)) 0 (p .args .room-nodes .now) (p .args .room-endpoint .now) (p .args .room-from .now) (p .args .room-to .now) (p .args .room-via .now) (w .loop .room-nodes) (w .loop .room-endpoint) (w .loop .room-from) (w .loop .room-to) (w .loop .room-via) 0 (w .loop .k) (p .pre .0 .shown .ready) (w .loop .inv .0) .1
+    room-size (p .args .l) (p .args .listed .now) (p .args .nodes .now) (p .args .endpoint .now) (p .args .from .now) (p .args .to .now) (p .args .via .now) (p .args .scratch .now) (shownBelow (slotsNow (p .args .l) (p .args .scratch .now)) (shownNow (p .args .l) (p .args .scratch .now)) (w .loop .c)) 0 (p .args .room-nodes .now) (p .args .room-endpoint .now) (p .args .room-from .now) (p .args .room-to .now) (p .args .room-via .now) (w .loop .room-nodes) (w .loop .room-endpoint) (w .loop .room-from) (w .loop .room-to) (w .loop .room-via) 0 (w .loop .k) (p .pre .0 .shown .ready) (w .loop .inv .0) .1
 
 same-length-3 : tie.Need-same-length-3 Inv-loop μ-loop
 same-length-3 c =
     let w = c .before .before in
     let p = w .before .before .before .before .before .before .before .before .before .before .before .before .before in
-    edge-sizes (p .args .l) (p .args .listed .now) (p .args .nodes .now) (p .args .endpoint .now) (p .args .from .now) (p .args .to .now) (p .args .via .now) (p .args .scratch .now) (shownBelow (boundsNow (p .args .l) (p .args .scratch .now)) (shownNow (p .args .l) (p .args .scratch .now)) (w .loop .c)) 0 (p .args .room-nodes .now) (p .args .room-endpoint .now) (p .args .room-from .now) (p .args .room-to .now) (p .args .room-via .now) (w .loop .room-nodes) (w .loop .room-endpoint) (w .loop .room-from) (w .loop .room-to) (w .loop .room-via) 0 (w .loop .k) (p .pre .0 .shown .ready) (w .loop .inv .0) .starts
+    edge-sizes (p .args .l) (p .args .listed .now) (p .args .nodes .now) (p .args .endpoint .now) (p .args .from .now) (p .args .to .now) (p .args .via .now) (p .args .scratch .now) (shownBelow (slotsNow (p .args .l) (p .args .scratch .now)) (shownNow (p .args .l) (p .args .scratch .now)) (w .loop .c)) 0 (p .args .room-nodes .now) (p .args .room-endpoint .now) (p .args .room-from .now) (p .args .room-to .now) (p .args .room-via .now) (w .loop .room-nodes) (w .loop .room-endpoint) (w .loop .room-from) (w .loop .room-to) (w .loop .room-via) 0 (w .loop .k) (p .pre .0 .shown .ready) (w .loop .inv .0) .starts
 
 same-length-4 : tie.Need-same-length-4 Inv-loop μ-loop
 same-length-4 c =
     let w = c .before .before in
     let p = w .before .before .before .before .before .before .before .before .before .before .before .before .before in
-    edge-sizes (p .args .l) (p .args .listed .now) (p .args .nodes .now) (p .args .endpoint .now) (p .args .from .now) (p .args .to .now) (p .args .via .now) (p .args .scratch .now) (shownBelow (boundsNow (p .args .l) (p .args .scratch .now)) (shownNow (p .args .l) (p .args .scratch .now)) (w .loop .c)) 0 (p .args .room-nodes .now) (p .args .room-endpoint .now) (p .args .room-from .now) (p .args .room-to .now) (p .args .room-via .now) (w .loop .room-nodes) (w .loop .room-endpoint) (w .loop .room-from) (w .loop .room-to) (w .loop .room-via) 0 (w .loop .k) (p .pre .0 .shown .ready) (w .loop .inv .0) .ends
+    edge-sizes (p .args .l) (p .args .listed .now) (p .args .nodes .now) (p .args .endpoint .now) (p .args .from .now) (p .args .to .now) (p .args .via .now) (p .args .scratch .now) (shownBelow (slotsNow (p .args .l) (p .args .scratch .now)) (shownNow (p .args .l) (p .args .scratch .now)) (w .loop .c)) 0 (p .args .room-nodes .now) (p .args .room-endpoint .now) (p .args .room-from .now) (p .args .room-to .now) (p .args .room-via .now) (w .loop .room-nodes) (w .loop .room-endpoint) (w .loop .room-from) (w .loop .room-to) (w .loop .room-via) 0 (w .loop .k) (p .pre .0 .shown .ready) (w .loop .inv .0) .ends
 
 same-length-5 : tie.Need-same-length-5 Inv-loop μ-loop
 same-length-5 c =
     let w = c .before .before in
     let p = w .before .before .before .before .before .before .before .before .before .before .before .before .before in
-    edge-sizes (p .args .l) (p .args .listed .now) (p .args .nodes .now) (p .args .endpoint .now) (p .args .from .now) (p .args .to .now) (p .args .via .now) (p .args .scratch .now) (shownBelow (boundsNow (p .args .l) (p .args .scratch .now)) (shownNow (p .args .l) (p .args .scratch .now)) (w .loop .c)) 0 (p .args .room-nodes .now) (p .args .room-endpoint .now) (p .args .room-from .now) (p .args .room-to .now) (p .args .room-via .now) (w .loop .room-nodes) (w .loop .room-endpoint) (w .loop .room-from) (w .loop .room-to) (w .loop .room-via) 0 (w .loop .k) (p .pre .0 .shown .ready) (w .loop .inv .0) .names
+    edge-sizes (p .args .l) (p .args .listed .now) (p .args .nodes .now) (p .args .endpoint .now) (p .args .from .now) (p .args .to .now) (p .args .via .now) (p .args .scratch .now) (shownBelow (slotsNow (p .args .l) (p .args .scratch .now)) (shownNow (p .args .l) (p .args .scratch .now)) (w .loop .c)) 0 (p .args .room-nodes .now) (p .args .room-endpoint .now) (p .args .room-from .now) (p .args .room-to .now) (p .args .room-via .now) (w .loop .room-nodes) (w .loop .room-endpoint) (w .loop .room-from) (w .loop .room-to) (w .loop .room-via) 0 (w .loop .k) (p .pre .0 .shown .ready) (w .loop .inv .0) .names
 
 returns : tie.Need-returns Inv-loop μ-loop
 returns c =

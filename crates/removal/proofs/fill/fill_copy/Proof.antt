@@ -5,7 +5,7 @@ use native.Mathlib.Numerals.{add-one}
 use mathlib.Core.Path.{_≡_, subst}
 use Rattle.removal.specs.Slots.{slots}
 use Rattle.removal.specs.Result.{shownIn}
-use Rattle.removal.specs.Fill.{boundsNow, shownNow, numberNow}
+use Rattle.removal.specs.Fill.{slotsNow, shownNow, numberNow}
 use Rattle.removal.proofs.Reaching.RowLaws.{ready-held, count-inside}
 use Rattle.removal.proofs.Filling.WrittenLaws.{InCopy, copy-start, copy-room, copy-turn, room-size, edge-sizes}
 use Rattle.removal.proofs.fill.fill_copy.Statement.{statement}
@@ -31,7 +31,7 @@ fill-slot-requires : tie.Need-fill-slot-requires Inv-loop μ-loop
 fill-slot-requires c κs =
     let w = c .before .before .before .before .before .before in
     let p = w .before .before .before .before .before .before .before .before .before .before .before .before .before .before in
-    let h : w .loop .j < slots (boundsNow (p .args .l) (p .args .scratch .now)) (p .args .c) = omega (arith, w .before .slot-count .ensures, c .before .before .before .before .before .loop-test .taken) in
+    let h : w .loop .j < slots (slotsNow (p .args .l) (p .args .scratch .now)) (p .args .c) = omega (arith, w .before .slot-count .ensures, c .before .before .before .before .before .loop-test .taken) in
     ((p .pre .0, h), copy-room (p .args .l) (p .args .listed .now) (p .args .nodes .now) (p .args .endpoint .now) (p .args .from .now) (p .args .to .now) (p .args .via .now) (p .args .scratch .now) (p .args .c) (p .args .room-nodes .now) (p .args .room-endpoint .now) (p .args .room-from .now) (p .args .room-to .now) (p .args .room-via .now) (p .args .k) (p .pre .1) (w .loop .j) (w .loop .room-nodes) (w .loop .room-endpoint) (w .loop .room-from) (w .loop .room-to) (w .loop .room-via) (w .loop .at) (w .loop .inv .0) h)
 
 add-j : tie.Need-add-j Inv-loop μ-loop
@@ -86,7 +86,7 @@ returns : tie.Need-returns Inv-loop μ-loop
 returns c =
     let w = c .before in
     let p = w .before .before .before .before .before .before .before .before .before .before .before .before .before .before in
-    let e : w .loop .j ≡ slots (boundsNow (p .args .l) (p .args .scratch .now)) (p .args .c) = omega (arith, w .before .slot-count .ensures, w .loop .inv .1, c .loop-test .left) in
+    let e : w .loop .j ≡ slots (slotsNow (p .args .l) (p .args .scratch .now)) (p .args .c) = omega (arith, w .before .slot-count .ensures, w .loop .inv .1, c .loop-test .left) in
     subst (λ (j : ℕ). InCopy (p .args .l) (p .args .listed .now) (p .args .nodes .now) (p .args .endpoint .now) (p .args .from .now) (p .args .to .now) (p .args .via .now) (p .args .scratch .now) (p .args .c) (p .args .k) (p .args .room-nodes .now) (p .args .room-endpoint .now) (p .args .room-from .now) (p .args .room-to .now) (p .args .room-via .now) (w .loop .room-nodes) (w .loop .room-endpoint) (w .loop .room-from) (w .loop .room-to) (w .loop .room-via) (w .loop .at) j) e (w .loop .inv .0)
 
 pub fill-copy-spec : {M : Type 1} → statement M

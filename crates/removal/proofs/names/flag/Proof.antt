@@ -4,8 +4,6 @@ use borrow.Author.Needs.{needs}
 use Rattle.removal.proofs.names.flag.Statement.{statement}
 use Rattle.removal.proofs.names.flag.Tie as tie
 
-mul-names : tie.Need-mul-names
-mul-names c = search needs
 
 slice-write-names : tie.Need-slice-write-names
 slice-write-names c = search needs
@@ -20,4 +18,4 @@ returns-2 : tie.Need-returns-2
 returns-2 c = search needs
 
 pub flag-spec : {M : Type 1} → statement M
-flag-spec = tie.close (tie.spec mul-names slice-write-names same-length returns returns-2)
+flag-spec = tie.close (tie.spec slice-write-names same-length returns returns-2)

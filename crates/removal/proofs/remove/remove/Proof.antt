@@ -1,7 +1,7 @@
 -- What was found is written where there is room for it, and the scratch is cleared in any case; or 31 has changed nothing.
 use mathlib.Core.Path.{subst}
 use Rattle.removal.specs.Remove.{AllSearched}
-use Rattle.removal.proofs.Whole.AnswerLaws.{removed-refused, removed-made}
+use Rattle.removal.proofs.Whole.AnswerLaws.{removed-refused, removed-made, removed-none}
 use borrow.Author.Needs.{needs}
 use Rattle.removal.proofs.remove.remove.Statement.{statement}
 use Rattle.removal.proofs.remove.remove.Tie as tie
@@ -23,6 +23,12 @@ write-result-requires c κs =
 
 zero-requires : tie.Need-zero-requires
 zero-requires c κs = search needs
+
+enum-told : tie.Need-enum-told
+enum-told c = search needs
+
+zero-requires-2 : tie.Need-zero-requires-2
+zero-requires-2 c κs = search needs
 
 enum-known-searched-2 : tie.Need-enum-known-searched-2
 enum-known-searched-2 c = search needs
@@ -62,6 +68,17 @@ same-length-7 c = search needs
 
 returns-2 : tie.Need-returns-2
 returns-2 c =
+    let a = c .before .before .before .before .before .before .before .before .before .before .before .before .before .before .before .before .before .before .before .before .before .before .before .before .args in
+    let s = c .before .before .before .before .before .before .before .before .search in
+    let z = c .before .before .zero2 in
+    let none = subst (AllSearched (a .starts .now) (a .listed .now) (a .lengths .now) (a .nodes .now) (a .endpoint .now) (a .from .now) (a .to .now) (a .via .now) (a .scratch .now) (s .last .1 .1 .1 .1 .1 .1 .1 .1 .0)) (c .before .before .before .before .enum-told .given .1) (s .ensures) in
+    removed-none (a .starts .now) (a .listed .now) (a .lengths .now) (a .nodes .now) (a .endpoint .now) (a .from .now) (a .to .now) (a .via .now) (a .scratch .now) (s .last .1 .1 .1 .1 .1 .1 .1 .1 .0) (z .last .0) (none .0) (none .1) (none .2) (z .ensures) (a .room-nodes .now) (a .room-endpoint .now) (a .room-from .now) (a .room-to .now) (a .room-via .now)
+
+same-length-8 : tie.Need-same-length-8
+same-length-8 c = search needs
+
+returns-3 : tie.Need-returns-3
+returns-3 c =
     let a = c .before .before .before .before .before .before .before .before .before .before .before .before .before .before .before .before .before .before .before .before .before .args in
     let s = c .before .before .before .before .before .search in
     let v = c .before .searched2 .given in
@@ -76,6 +93,8 @@ remove-spec =
     enum-known-searched
     write-result-requires
     zero-requires
+    enum-told
+    zero-requires-2
     enum-known-searched-2
     same-length
     same-length-2
@@ -85,4 +104,6 @@ remove-spec =
     same-length-6
     returns
     same-length-7
-    returns-2)
+    returns-2
+    same-length-8
+    returns-3)

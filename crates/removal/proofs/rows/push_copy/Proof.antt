@@ -6,7 +6,7 @@ use mathlib.Core.List.{List}
 use lib.ListN.{take}
 use Rattle.removal.specs.Chains.{edgesAt}
 use Rattle.removal.specs.Slots.{slots}
-use Rattle.removal.specs.Rows.{boundsIn}
+use Rattle.removal.specs.Rows.{slotsIn}
 use Rattle.removal.specs.Reach.{Flagging, FromList, FromBelow}
 use Rattle.removal.proofs.Reaching.RowLaws.{ready-held}
 use Rattle.removal.proofs.Reaching.ReachLaws.{ready-still, below-none, below-next, below-all}
@@ -37,8 +37,8 @@ push-slot-requires c κs =
     let w = c .before .before in
     let only = w .loop .inv .1 .only in
     let test = c .before .loop-test .taken in
-    let n : w .before .slot-count .result ≡ slots (boundsIn (a .l) (take (a .l .slots) (w .loop .scratch))) (a .c) =
-    w .before .slot-count .ensures ∙ ap (λ (q : List ℕ). slots (boundsIn (a .l) q) (a .c)) (sym (only .tables)) in
+    let n : w .before .slot-count .result ≡ slots (slotsIn (a .l) (take (a .l .slots) (w .loop .scratch))) (a .c) =
+    w .before .slot-count .ensures ∙ ap (λ (q : List ℕ). slots (slotsIn (a .l) q) (a .c)) (sym (only .tables)) in
     (ready-still (a .l) (a .listed .now) (a .from .now) (a .to .now) (a .via .now) (a .scratch .now) (w .loop .scratch) only (p .pre .0), p .pre .1, omega (arith, n, test))
 
 add-j : tie.Need-add-j Inv-loop μ-loop

@@ -4,10 +4,10 @@ use mathlib.Core.Path.{sym, _∙_, ap, subst}
 use mathlib.Core.List.{List}
 use lib.ListN.{getD, take, set}
 use borrow.Author.Needs.{needs}
-use Rattle.removal.specs.declared.step.Step.{Step}
-use Rattle.removal.specs.declared.step.Step.the-variants.{Live}
+use Rattle.removal.specs.declared.rows.Step.{Step}
+use Rattle.removal.specs.declared.rows.Step.the-variants.{Live}
 use Rattle.removal.specs.Slots.{slots}
-use Rattle.removal.specs.Rows.{boundsIn, slotPlace}
+use Rattle.removal.specs.Rows.{slotsIn, slotPlace}
 use Rattle.removal.specs.Along.{StepAlong}
 use Rattle.removal.specs.Reach.{Flagging, FromSlot}
 use Rattle.removal.proofs.Reaching.RowLaws.{ready-held}
@@ -32,7 +32,7 @@ live-step c =
 
 live-slot : (c : tie.After-step) →
     let a = c .before .before .before .before .before .before .before .before .before .args in
-    c .step .given .0 .0 < slots (boundsIn (a .l) (take (a .l .slots) (a .scratch .now))) (getD (a .from .now) (a .e) 0)
+    c .step .given .0 .0 < slots (slotsIn (a .l) (take (a .l .slots) (a .scratch .now))) (getD (a .from .now) (a .e) 0)
 live-slot c =
     let p = c .before .before .before .before .before .before .before .before .before in
     let a = p .args in

@@ -5,7 +5,7 @@ use mathlib.Core.Path.{_≡_, refl, sym, _∙_, subst}
 use mathlib.Core.List.{List}
 use lib.ListN.{getD, take}
 use borrow.Author.Needs.{needs}
-use Rattle.removal.specs.Table.{table}
+use Rattle.classes.specs.Table.{table}
 use Rattle.removal.specs.Reach.{Flagging, FromSlot}
 use Rattle.removal.proofs.Building.ChainLaws.{chainLeft}
 use Rattle.removal.proofs.Reaching.ReachLaws.{ready-still}
@@ -44,10 +44,10 @@ next-is c =
     let a = p .args in
     let m = c .before .before .before .before .before in
     c .number-at2 .ensures
-    ∙ read-table (m .push-edge .last .1 .1 .1 .1 .1 .0) (take (a .l .slots) (a .scratch .now)) (a .l .slots) (a .l .into + a .l .copies) (a .l .edges) (c .before .before .before .before .before .before .before .before .loop .h - 1) (same-tables m) (edge-of (c .before .before .before .before .before .before .before) .0) (omega (arith, p .pre .0 .tabled .laid .into, p .pre .0 .tabled .laid .named))
+    ∙ read-table (m .push-edge .last .1 .1 .1 .1 .1 .0) (take (a .l .slots) (a .scratch .now)) (a .l .slots) (a .l .into + a .l .copies) (a .l .edges) (c .before .before .before .before .before .before .before .before .loop .h - 1) (same-tables m) (edge-of (c .before .before .before .before .before .before .before) .0) (omega (arith, p .pre .0 .tabled .laid .into, p .pre .0 .tabled .laid .default, p .pre .0 .tabled .laid .named))
 
 add-number-at : tie.Need-add-number-at Inv-loop μ-loop
-add-number-at c = omega (arith, c .before .before .before .before .before .before .before .pre .0 .tabled .laid .into, c .before .before .before .before .before .before .before .pre .0 .tabled .laid .named, c .before .before .before .before .before .before .before .pre .0 .room)
+add-number-at c = omega (arith, c .before .before .before .before .before .before .before .pre .0 .tabled .laid .into, c .before .before .before .before .before .before .before .pre .0 .tabled .laid .default, c .before .before .before .before .before .before .before .pre .0 .tabled .laid .named, c .before .before .before .before .before .before .before .pre .0 .room)
 
 number-at-requires : tie.Need-number-at-requires Inv-loop μ-loop
 number-at-requires c κs = search needs
@@ -77,10 +77,10 @@ push-edge-requires c κs =
     (ready-still (a .l) (a .listed .now) (a .from .now) (a .to .now) (a .via .now) (a .scratch .now) (w .scratch) o r, edge-of (c .before) .0, slot .0, slot .1)
 
 add-number-at-2 : tie.Need-add-number-at-2 Inv-loop μ-loop
-add-number-at-2 c = omega (arith, c .before .before .before .before .before .before .before .before .before .before .before .before .before .before .before .before .pre .0 .tabled .laid .into, c .before .before .before .before .before .before .before .before .before .before .before .before .before .before .before .before .pre .0 .tabled .laid .named, c .before .before .before .before .before .before .before .before .before .before .before .before .before .before .before .before .pre .0 .room)
+add-number-at-2 c = omega (arith, c .before .before .before .before .before .before .before .before .before .before .before .before .before .before .before .before .pre .0 .tabled .laid .into, c .before .before .before .before .before .before .before .before .before .before .before .before .before .before .before .before .pre .0 .tabled .laid .default, c .before .before .before .before .before .before .before .before .before .before .before .before .before .before .before .before .pre .0 .tabled .laid .named, c .before .before .before .before .before .before .before .before .before .before .before .before .before .before .before .before .pre .0 .room)
 
 add-number-at-3 : tie.Need-add-number-at-3 Inv-loop μ-loop
-add-number-at-3 c = omega (arith, c .before .before .before .before .before .before .before .before .before .before .before .before .before .before .before .before .pre .0 .tabled .laid .into, c .before .before .before .before .before .before .before .before .before .before .before .before .before .before .before .before .pre .0 .tabled .laid .named, c .before .before .before .before .before .before .before .before .before .before .before .before .before .before .before .before .pre .0 .room, edge-of (c .before .before .before .before .before .before) .0)
+add-number-at-3 c = omega (arith, c .before .before .before .before .before .before .before .before .before .before .before .before .before .before .before .before .pre .0 .tabled .laid .into, c .before .before .before .before .before .before .before .before .before .before .before .before .before .before .before .before .pre .0 .tabled .laid .default, c .before .before .before .before .before .before .before .before .before .before .before .before .before .before .before .before .pre .0 .tabled .laid .named, c .before .before .before .before .before .before .before .before .before .before .before .before .before .before .before .before .pre .0 .room, edge-of (c .before .before .before .before .before .before) .0)
 
 number-at-requires-2 : tie.Need-number-at-requires-2 Inv-loop μ-loop
 number-at-requires-2 c κs = search needs

@@ -5,7 +5,7 @@ use mathlib.Core.Path.{_≡_, sym, subst}
 use mathlib.Core.Logic.{_⊎_, inl, inr, ⊎-elim}
 use lib.ListN.{length, getD, take, set}
 use borrow.Author.Needs.{needs}
-use Rattle.removal.specs.Rows.{boundsIn}
+use Rattle.removal.specs.Rows.{slotsIn}
 use Rattle.removal.specs.Show.{SlotShown}
 use Rattle.removal.proofs.Reaching.RowLaws.{base-up, ready-held, place-inside}
 use Rattle.removal.proofs.Showing.ShowTables.{chain-room}
@@ -38,7 +38,7 @@ few : (c : tie.After-slot-place) → c .before .before .before .before .before .
 few c =
     let b = c .before .before .before .before .before .before .before in
     let a = b .args in
-    omega (arith, b .pre .1 .few-copies, b .pre .1 .slot, b .pre .0 .few, base-up (boundsIn (a .l) (take (a .l .slots) (a .scratch .now))) (a .c) (a .l .copies) (b .pre .1 .copy))
+    omega (arith, b .pre .1 .few-copies, b .pre .1 .slot, b .pre .0 .few, base-up (slotsIn (a .l) (take (a .l .slots) (a .scratch .now))) (a .c) (a .l .copies) (b .pre .1 .copy))
 
 mul-if1 : tie.Need-mul-if1
 mul-if1 c = omega (arith, inside c, wide (c .before .before))
@@ -61,7 +61,11 @@ shown-edges-requires : tie.Need-shown-edges-requires
 shown-edges-requires c κs = search needs
 
 add-first : tie.Need-add-first
-add-first c = search needs
+add-first c =
+    let d = c .before .before .before .before .before in
+    let b = d .before .before .before .before .before .before .before in
+    let a = b .args in
+    omega (arith, wide (d .before .before), b .pre .1 .copy, chain-room (a .l) (a .listed .now) (a .from .now) (a .to .now) (a .via .now) (a .scratch .now) (b .pre .0))
 
 mul-if3 : tie.Need-mul-if3
 mul-if3 c =
@@ -71,7 +75,10 @@ mul-if3 c =
     omega (arith, wide (d .before .before), b .pre .1 .copy, chain-room (a .l) (a .listed .now) (a .from .now) (a .to .now) (a .via .now) (a .scratch .now) (b .pre .0))
 
 slice-read-if3 : tie.Need-slice-read-if3
-slice-read-if3 c = search needs
+slice-read-if3 c =
+    let b = c .before .before .before .before .before .before .before .before .before .before .before .before .before .before in
+    let a = b .args in
+    omega (arith, b .pre .1 .copy, chain-room (a .l) (a .listed .now) (a .from .now) (a .to .now) (a .via .now) (a .scratch .now) (b .pre .0))
 
 same-length-2 : tie.Need-same-length-2
 same-length-2 c = search needs
@@ -85,7 +92,7 @@ returns-2 c =
     (e .shown-edges .result) (e .shown-edges .ensures) (c .before .before .if2 .taken) (c .if3 .taken)
 
 add-scratch : tie.Need-add-scratch
-add-scratch c = search needs
+add-scratch c = omega (arith, few (c .before .before .before .before .before .before .before))
 
 cast-scratch : tie.Need-cast-scratch
 cast-scratch c = omega (arith, few (c .before .before .before .before .before .before .before))

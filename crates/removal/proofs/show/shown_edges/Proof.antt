@@ -6,7 +6,7 @@ use mathlib.Core.Path.{_≡_, sym, subst}
 use mathlib.Core.Logic.{⊎-elim}
 use lib.ListN.{length, getD, take}
 use Rattle.removal.specs.Slots.{slots}
-use Rattle.removal.specs.Rows.{boundsIn}
+use Rattle.removal.specs.Rows.{slotsIn}
 use Rattle.removal.proofs.Building.ChainLaws.{chainLeft}
 use Rattle.removal.proofs.Showing.ShowTables.{Counting, chain-room, counting-start, counting-done, counting-edge, counting-falls, counting-take, counting-skip}
 use Rattle.removal.proofs.show.shown_edges.Statement.{statement}
@@ -39,7 +39,7 @@ add-next : tie.Need-add-next Inv-loop μ-loop
 add-next c = omega (arith, room (c .before))
 
 mul-h : tie.Need-mul-h Inv-loop μ-loop
-mul-h c = omega (arith, room (c .before))
+mul-h c = omega (arith, room (c .before), wide (c .before))
 
 shared-slice-read-h : tie.Need-shared-slice-read-h Inv-loop μ-loop
 shared-slice-read-h c = omega (arith, room (c .before .before))
@@ -73,7 +73,7 @@ shown-start-requires c κs =
     let b = c .before .before .before .before .before .before .before .before .before .before in
     let a = b .args in (
       b .pre .0,
-      (edge c .0, subst (λ (d : ℕ). a .j < slots (boundsIn (a .l) (take (a .l .slots) (a .scratch .now))) d) (sym (edge c .1)) (b .pre .1 .1)),
+      (edge c .0, subst (λ (d : ℕ). a .j < slots (slotsIn (a .l) (take (a .l .slots) (a .scratch .now))) d) (sym (edge c .1)) (b .pre .1 .1)),
     )
 
 add-count : tie.Need-add-count Inv-loop μ-loop

@@ -4,8 +4,8 @@ use Prim.Native.Nat.{ℕ, _≤_, _<_}
 use mathlib.Core.Path.{sym, subst}
 use lib.ListN.{length, getD, take}
 use borrow.Author.Needs.{needs}
-use Rattle.removal.specs.declared.step.Step.{Step}
-use Rattle.removal.specs.declared.step.Step.the-variants.{Live}
+use Rattle.removal.specs.declared.rows.Step.{Step}
+use Rattle.removal.specs.declared.rows.Step.the-variants.{Live}
 use Rattle.removal.specs.Along.{StepAlong}
 use Rattle.removal.specs.Show.{StartMeets}
 use Rattle.removal.proofs.Reaching.RowLaws.{ready-held, place-inside}

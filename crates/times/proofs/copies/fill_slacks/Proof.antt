@@ -4,9 +4,9 @@ use native.Mathlib.Omega.{arith}
 use mathlib.Core.Path.{_∙_, ap₂}
 use lib.IntN.{pos, _-ℤ_}
 use lib.ListN.{length, getD}
-use borrow.Author.Needs.{needs}
 use Rattle.timing.proofs.Ints.{read-back}
 use Rattle.theorems.proofs.Elements.{Done, done-none, done-next, done-all}
+use borrow.Author.Needs.{needs}
 use Rattle.times.proofs.copies.fill_slacks.Statement.{statement}
 use Rattle.times.proofs.copies.fill_slacks.Tie as tie
 
@@ -19,18 +19,24 @@ abbrev μ-loop : tie.MeasureT-loop
 loop-holds : tie.Need-loop-holds Inv-loop μ-loop
 loop-holds c = (omega arith, done-none (pos 0) _ _)
 
-time-at-requires : tie.Need-time-at-requires Inv-loop μ-loop
-time-at-requires c κs = search needs
+mul-less : tie.Need-mul-less Inv-loop μ-loop
+mul-less c = search needs
 
-time-at-requires-2 : tie.Need-time-at-requires-2 Inv-loop μ-loop
-time-at-requires-2 c κs = search needs
+shared-slice-copy-out-less : tie.Need-shared-slice-copy-out-less Inv-loop μ-loop
+shared-slice-copy-out-less c = omega (arith, c .before .loop .inv .1 .size)
+
+mul-less-2 : tie.Need-mul-less-2 Inv-loop μ-loop
+mul-less-2 c = search needs
+
+shared-slice-copy-out-less-2 : tie.Need-shared-slice-copy-out-less-2 Inv-loop μ-loop
+shared-slice-copy-out-less-2 c = omega (arith, c .before .before .loop .inv .1 .size)
 
 less-requires : tie.Need-less-requires Inv-loop μ-loop
 less-requires c κs =
     let a = c .before in
     let l = a .before .before .loop in
-    let p = a .before .before .before .pre in
-    rw (read-back (a .time-at .result) (a .time-at .ok), a .time-at .ensures, read-back (c .time-at2 .result) (c .time-at2 .ok), c .time-at2 .ensures) (p .1 .bound (l .i), p .0 .bound (l .i))
+    let p = a .before .before .before in
+    rw (read-back (getD (p .args .requireds .now) (l .i) (pos 0)) (a .less-arg .given), read-back (getD (p .args .arrivals .now) (l .i) (pos 0)) (c .less-arg2 .given)) (p .pre .0 .1 .bound (l .i), p .pre .0 .0 .bound (l .i))
 
 mul-s : tie.Need-mul-s Inv-loop μ-loop
 mul-s c = search needs
@@ -48,11 +54,12 @@ loop-again : tie.Need-loop-again Inv-loop μ-loop
 loop-again c =
     let b = c .before in
     let a = b .before in
-    let l = a .before .before .loop in (
+    let l = a .before .before .loop in
+    let p = a .before .before .before in (
       omega arith,
       done-next (pos 0) _ _ _ _ _ (omega (arith, l .inv .1 .size))
           (read-back (c .less .result) (c .less .ok) ∙ c .less .ensures
-          ∙ ap₂ _-ℤ_ (read-back (a .time-at .result) (a .time-at .ok) ∙ a .time-at .ensures) (read-back (b .time-at2 .result) (b .time-at2 .ok) ∙ b .time-at2 .ensures))
+          ∙ ap₂ _-ℤ_ (read-back (getD (p .args .requireds .now) (l .i) (pos 0)) (a .less-arg .given)) (read-back (getD (p .args .arrivals .now) (l .i) (pos 0)) (b .less-arg2 .given)))
           (l .inv .1),
     )
 
@@ -69,8 +76,10 @@ fill-slacks-spec =
     Inv-loop
     μ-loop
     loop-holds
-    time-at-requires
-    time-at-requires-2
+    mul-less
+    shared-slice-copy-out-less
+    mul-less-2
+    shared-slice-copy-out-less-2
     less-requires
     mul-s
     slice-set-from-s

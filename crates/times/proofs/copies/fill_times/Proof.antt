@@ -1,7 +1,9 @@
 -- Arrivals and required times are small, so that their difference fits.
-use mathlib.Core.Path.{sym, _∙_, subst}
+use mathlib.Core.Path.{sym, _∙_, ap, subst}
 use mathlib.Core.List.{[]}
+use lib.ListN.{length}
 use Rattle.timing.specs.Calls.{graphSlices}
+use Rattle.theorems.proofs.Elements.{size-each}
 use Rattle.times.specs.Passes.{Small}
 use Rattle.times.proofs.Passes.{arrivals-small, requireds-small, fit-ends, arrivals-any, earliests-any, slacks-are}
 use borrow.Author.Needs.{needs}
@@ -16,7 +18,7 @@ fill-arrivals-requires c κs =
 fill-requireds-requires : tie.Need-fill-requireds-requires
 fill-requireds-requires c κs =
     let p = c .before .before .before .before .before .before .before .before .before .before .before .pre in
-    ((p .0 .0, p .0 .2), (p .0 .3, p .1 .1))
+    ((p .0 .0, p .0 .2), (p .0 .3, p .1 .1, p .0 .4))
 
 fill-slacks-requires : tie.Need-fill-slacks-requires
 fill-slacks-requires c κs =
@@ -24,9 +26,14 @@ fill-slacks-requires c κs =
     let f = r .before .before .before .before in
     let p = f .before .before .before .before .before .before .before .before in
     let a = p .args in
-    let S = (graphSlices (a .nodes .now) (a .endpoint .now) (a .from .now) (a .to .now) (a .via .now)) in (
-      subst Small (sym (f .fill-arrivals .ensures .0)) (arrivals-small (a .late .now) (graphSlices (a .nodes .now) [] (a .from .now) (a .to .now) (a .via .now)) (fit-ends (p .pre .0 .0))),
-      subst Small (sym (r .fill-requireds .ensures)) (requireds-small (a .late .now) S (p .pre .0 .0) (p .pre .0 .2) (a .allowed) (p .pre .0 .3)),
+    let S = (graphSlices (a .nodes .now) (a .endpoint .now) (a .from .now) (a .to .now) (a .via .now)) in
+    let x = f .fill-arrivals .ensures .0 in
+    let y = r .fill-requireds .ensures in (
+      (
+        subst Small (sym x) (arrivals-small (a .late .now) (graphSlices (a .nodes .now) [] (a .from .now) (a .to .now) (a .via .now)) (fit-ends (p .pre .0 .0))),
+        subst Small (sym y) (requireds-small (a .late .now) S (p .pre .0 .0) (p .pre .0 .2) (a .allowed) (p .pre .0 .3)),
+      ),
+      (ap length x ∙ size-each _ (length (a .nodes .now)) ∙ sym (p .pre .1 .2), ap length y ∙ size-each _ (length (a .nodes .now)) ∙ sym (p .pre .1 .2)),
     )
 
 same-length : tie.Need-same-length

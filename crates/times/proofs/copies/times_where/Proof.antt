@@ -22,7 +22,7 @@ fill-times-requires c κs =
     let p = e .before .before .before .before .before .before .before .before .before .before in
     let a = p .args in
     let r = passed-ready (design (a .n) (a .starts .now) (a .ends .now) (a .early .now) (a .late .now) (a .marked .now)) (graphSlices (a .nodes .now) (a .endpoint .now) (a .from .now) (a .to .now) (a .via .now)) (a .allowed) _ (sym (p .pre) ∙ e .enum-told .given .1) in
-    ((r .late, r .early, r .onward, r .allowed), times-passed _ _ _ _ _ (r .places))
+    ((r .late, r .early, r .onward, r .allowed, r .endpoints), times-passed _ _ _ _ _ (r .places))
 
 enum-known-tested : tie.Need-enum-known-tested
 enum-known-tested c = search needs

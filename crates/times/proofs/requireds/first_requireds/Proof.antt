@@ -1,16 +1,16 @@
 -- Invariant: the places below i hold their first required time, and the others what they held.
 use Prim.Native.Nat.{ℕ, _-_, _≤_}
 use native.Mathlib.Omega.{arith}
-use mathlib.Core.Path.{_∙_, ap}
+use mathlib.Core.Path.{_∙_}
 use lib.IntN.{pos}
 use lib.ListN.{length, getD}
-use borrow.Author.Needs.{needs}
 use mir.Syntax.{w64}
-use mir.Val.{toZ, ofZ}
+use mir.Val.{toZ}
 use mir.Facts.{toZ-ofZ}
 use Rattle.times.specs.Passes.{firstRequired}
 use Rattle.timing.proofs.Ints.{read-back}
 use Rattle.theorems.proofs.Elements.{Done, done-none, done-next, done-all}
+use borrow.Author.Needs.{needs}
 use Rattle.times.proofs.requireds.first_requireds.Statement.{statement}
 use Rattle.times.proofs.requireds.first_requireds.Tie as tie
 
@@ -24,8 +24,11 @@ abbrev μ-loop : tie.MeasureT-loop
 loop-holds : tie.Need-loop-holds Inv-loop μ-loop
 loop-holds c = (omega arith, done-none (pos 0) _ _)
 
-number-at-requires : tie.Need-number-at-requires Inv-loop μ-loop
-number-at-requires c κs = search needs
+mul-first-required : tie.Need-mul-first-required Inv-loop μ-loop
+mul-first-required c = search needs
+
+shared-slice-read-first-required : tie.Need-shared-slice-read-first-required Inv-loop μ-loop
+shared-slice-read-first-required c = omega (arith, c .before .before .loop .inv .1 .size)
 
 first-required-requires : tie.Need-first-required-requires Inv-loop μ-loop
 first-required-requires c κs = search needs
@@ -44,13 +47,9 @@ loop-less c = omega arith
 
 loop-again : tie.Need-loop-again Inv-loop μ-loop
 loop-again c =
-    let l = c .before .before .before .loop in
-    let p = c .before .before .before .before .before in (
+    let l = c .before .before .before .loop in (
       omega arith,
-      done-next (pos 0) _ _ _ _ _ (omega (arith, l .inv .1 .size))
-          (read-back (c .first-required .result) (c .first-required .ok) ∙ c .first-required .ensures
-          ∙ ap (λ (x : ℕ). firstRequired x (toZ w64 (ofZ w64 (p .args .allowed)))) (c .before .number-at .ensures))
-          (l .inv .1),
+      done-next (pos 0) _ _ _ _ _ (omega (arith, l .inv .1 .size)) (read-back (c .first-required .result) (c .first-required .ok) ∙ c .first-required .ensures) (l .inv .1),
     )
 
 same-length : tie.Need-same-length Inv-loop μ-loop
@@ -67,7 +66,8 @@ first-requireds-spec =
     Inv-loop
     μ-loop
     loop-holds
-    number-at-requires
+    mul-first-required
+    shared-slice-read-first-required
     first-required-requires
     mul-t
     slice-set-from-t

@@ -1,2 +1,0 @@
--- What the parts of this crate leave for one another.
-pub mod Fanins
