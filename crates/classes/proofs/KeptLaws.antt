@@ -1,5 +1,5 @@
 -- The tables of a list stay what they are while their words do.
-use Prim.Native.Nat.{ℕ, suc, _+_, _*_, _≤_, _<_}
+use Prim.Native.Nat.{ℕ, suc, _+_, _≤_}
 use native.Mathlib.Omega.{arith}
 use mathlib.Core.Path.{_≡_, sym, subst}
 use mathlib.Core.List.{List}
@@ -7,7 +7,7 @@ use lib.ListN.{length}
 use Rattle.classes.specs.declared.Lists.{Lists}
 use Rattle.classes.specs.Table.{table}
 use Rattle.classes.specs.Classes.{classCount}
-use Rattle.classes.specs.Tables.{listWords, kidIn, kidsIn, failIn, locIn, marksIn, Laid, Kids, FailsBelow, Locs, ClassesOf, Held, Searchable, Automaton}
+use Rattle.classes.specs.Tables.{listWords, kidIn, kidsIn, failIn, locIn, marksIn, Laid, Kids, FailsBelow, Locs, ClassesOf, Automaton}
 
 module _ (starts : List ℕ) (L : List (List ℕ)) (l : Lists) (s t : List ℕ)
     (same : (b m : ℕ) → b + m ≤ listWords (l .edges) → table t b m ≡ table s b m) (room : listWords (l .edges) ≤ length t) (a : Automaton starts L l s) where

@@ -9,7 +9,7 @@ use Rattle.timing.specs.Marks.{pathList, pathsOf}
 use Rattle.classes.specs.declared.Lists.{Lists}
 use Rattle.classes.specs.Table.{table, Frame}
 use Rattle.classes.specs.Classes.{classCount, classAt}
-use Rattle.classes.specs.Tables.{listWords, kidIn, kidsIn, failIn, locIn, oneIn, marksIn, Laid, Ones, Whole, Kids, Held, Numbered, Searchable, Linkable, Linked, Placeable, ClassesOf, Startable, Started, FailsBelow, Locs, marksFor, marksBelow, Makeable, Made}
+use Rattle.classes.specs.Tables.{listWords, kidIn, kidsIn, locIn, oneIn, marksIn, Ones, Whole, Kids, Held, Numbered, Linkable, Linked, Placeable, ClassesOf, Startable, Started, FailsBelow, Locs, marksFor, marksBelow, Makeable, Made}
 use Rattle.classes.proofs.ClassLaws.{classes-few}
 use Rattle.classes.proofs.FlatLaws.{class-edge}
 use Rattle.classes.proofs.PlaceLaws.{marks-total}

@@ -1,12 +1,10 @@
 -- The laws of tables and frames.
-use Prim.Native.Nat.{ℕ, zero, suc, _+_, _-_, _≤_, _<_}
+use Prim.Native.Nat.{ℕ, _+_, _-_, _≤_, _<_}
 use native.Mathlib.Omega.{arith}
-use native.Mathlib.Decide.{ℕ-discrete}
-use native.Mathlib.Numerals.{add-one}
-use mathlib.Core.Path.{_≡_, refl, sym, _∙_, ap}
-use mathlib.Core.List.{List, [], _∷_, _++_}
+use mathlib.Core.Path.{_≡_, refl, _∙_, ap}
+use mathlib.Core.List.{List, _++_}
 use lib.ListN.{length, getD, take, drop, set, length-set, length-take, length-drop, length-append, take-append-drop}
-use lib.Seq.{getD-take, getD-drop, take-set-le, take-set-lt, drop-set-lt, drop-set-add, getD-set-same, getD-set-other, drop-append-le, take-append-le, drop-append-add, drop-drop, drop-at, take-at, length-take-le}
+use lib.Seq.{getD-take, getD-drop, take-set-le, take-set-lt, drop-set-lt, drop-set-add, drop-append-le, take-append-le, drop-append-add, drop-drop, drop-at, take-at, length-take-le}
 use Rattle.classes.specs.Table.{table, Frame}
 
 pub table-length : (s : List ℕ) (base n : ℕ) → base + n ≤ length s → length (table s base n) ≡ n

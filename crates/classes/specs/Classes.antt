@@ -1,8 +1,8 @@
 -- The automaton of a list of paths, read against the edges. Its states are the classes: all suffixes of the listed paths, each once,
 -- by length and then by edges. What an edge and a mark lead to is the longest class that they begin with.
-use Prim.Native.Nat.{ℕ, suc, _≤_, _<_}
+use Prim.Native.Nat.{ℕ, _≤_, _<_}
 use mathlib.Core.Path.{_≡_}
-use mathlib.Core.Bool.{Bool, true, false, not, _&&_}
+use mathlib.Core.Bool.{Bool, false, not, _&&_}
 use mathlib.Core.List.{List, [], _∷_, flatMap, List·Memᴰ}
 use lib.Dec.{eqb}
 use lib.ListN.{length, getD}
@@ -68,7 +68,7 @@ liveAt starts L v (e ∷ w) = eqb (getD starts e 0) v && not (begins L (e ∷ w)
 unfoldable pub marksAt : List ℕ → List (List ℕ) → ℕ → List (List ℕ)
 marksAt starts L v = [] ∷ keep (liveAt starts L v) (classesOf L)
 
--- a list of edges starts at node v
+-- a list of edges starts at node v; the empty one starts anywhere
 abbrev pub At : List ℕ → ℕ → List ℕ → Type 0
 At starts v [] = Unit {0}
 At starts v (e ∷ w) = getD starts e 0 ≡ v

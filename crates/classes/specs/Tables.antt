@@ -5,7 +5,7 @@ use mathlib.Core.Bool.{true, false}
 use mathlib.Core.List.{List, [], _∷_, map, List·Memᴰ}
 use lib.ListN.{length, getD}
 use Rattle.timing.specs.Lists.{sum, upto}
-use Rattle.timing.specs.Marks.{PathList, pathList, pathsOf, mark}
+use Rattle.timing.specs.Marks.{pathList, pathsOf, mark}
 use Rattle.theorems.proofs.Marks.{begins}
 use Rattle.classes.specs.declared.Lists.{Lists}
 use Rattle.classes.specs.Table.{table, Frame}
@@ -15,7 +15,7 @@ use Rattle.classes.specs.Classes.{Filled, classCount, classAt, Fails, Ro
 abbrev pub packed : ℕ → ℕ → ℕ
 packed a b = a * 32768 + b
 
--- the number of a dead class
+-- what stands for a dead class where others have their place among the marks
 abbrev pub deadWord : ℕ
 deadWord = 32767
 
@@ -86,7 +86,7 @@ kidFrom kid (suc u) = getD kid u 0
 abbrev pub kidTo : List ℕ → ℕ → ℕ
 kidTo kid u = getD kid u 0
 
--- word w tells that edge e and then class u is class t
+-- word w tells which class an edge and then class u are
 pub record Kid (L : List (List ℕ)) (u w : ℕ) : Type 0 where
   pub edge : ℕ
   pub child : ℕ
@@ -226,7 +226,7 @@ pub record Started (l : Lists) (listed lengths s t : List ℕ) (count : ℕ) : T
   pub whole : Whole (pathsOf (pathList listed lengths)) (locIn l t)
   pub frame : Frame s t (l .loc) (2 * l .edges + 1)
 
--- what the tables of a list ask: edges and nodes are as many as a design can have, and nothing is noted yet
+-- what the tables of a list ask: every listed edge is one of the design's, nodes are below 4,096, and nothing is noted yet
 pub record Makeable (l : Lists) (starts listed lengths s roots first : List ℕ) : Type 0 where
   pub list : Listable listed lengths
   pub laid : Laid l

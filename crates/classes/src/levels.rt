@@ -89,7 +89,7 @@ fn number_level(
     Level { left, id }
 }
 
-// All classes; gives how many there are. The flags of dead classes are 0 before. `ends`, `who`, `items` and `spare` have a word for each path to work in.
+// All classes; gives how many there are. The places of classes are all 0 before. `ends`, `who`, `items` and `spare` have a word for each path to work in.
 pub(crate) fn number_classes(
     listed: &[u32],
     lengths: &[u32],

@@ -3,14 +3,14 @@ use Prim.Native.Nat.{ℕ, zero, suc, _+_, _<_}
 use native.Mathlib.Omega.{arith}
 use native.Mathlib.Numerals.{add-one}
 use native.Mathlib.Decide.{decLt}
-use mathlib.Core.Path.{_≡_, refl, _∙_, ap}
+use mathlib.Core.Path.{_≡_, _∙_, ap}
 use mathlib.Core.Logic.{⊎-elim}
 use mathlib.Core.Bool.{Bool, true, _&&_, _||_}
 use mathlib.Core.List.{List, []}
-use lib.Dec.{T, eqb, ltb, leb, eqb→eq, ltb→lt, lt→ltb, leb→le, le→leb}
+use lib.Dec.{eqb, ltb, leb, eqb→eq, ltb→lt, lt→ltb, leb→le, le→leb}
 use lib.ListN.{length, getD}
 use borrow.Author.Tests.{le-leb, eq-eqb}
-use Rattle.timing.specs.Graphs.{Edge, design, graph}
+use Rattle.timing.specs.Graphs.{design, graph}
 use Rattle.timing.specs.WellFormed.{edgeFits}
 use Rattle.theorems.proofs.Lists.{and-intro, and-left, and-right, or-cases, or-left, or-right, holds, same-test}
 use Rattle.graph.specs.Passes.{keyOf, edgeAt, risesAt, edgePasses}

@@ -1,6 +1,6 @@
 -- What the tables hold while the slots are flagged. Everything but the slots stands in the words below `slots`, which do not
 -- change any more: `p` is these words.
-use Prim.Native.Nat.{ℕ, suc, _+_, _-_, _*_, _≤_, _<_}
+use Prim.Native.Nat.{ℕ, suc, _+_, _-_, _≤_, _<_}
 use mathlib.Core.Path.{_≡_}
 use mathlib.Core.List.{List, []}
 use lib.ListN.{length, getD, take}
@@ -15,7 +15,7 @@ use Rattle.removal.specs.Slots.{slots, slotBase, slotsOf}
 use Rattle.removal.specs.Links.{Chained}
 use Rattle.removal.specs.Names.{Unlisted}
 
--- how many slots each copy has, as the tables say: one for the empty mark, and the others
+-- how many slots each copy has, as the tables say: one for the empty mark, whatever the words are, and the others up to the next base
 abbrev pub slotsIn : Layout → List ℕ → ℕ → ℕ
 slotsIn l p c = suc (getD p (l .base + suc c) 0 - suc (getD p (l .base + c) 0))
 

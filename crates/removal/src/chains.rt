@@ -1,8 +1,8 @@
 // Edges by one of their ends, as chains: the first edge of each copy, and the next one of each edge.
 ghost use mathlib.Core.Path.{_≡_};
-ghost use Prim.Native.Nat.{ℕ, _+_, _≤_, _<_};
+ghost use Prim.Native.Nat.{_+_, _<_};
 ghost use lib.ListN.{length, getD, set};
-ghost use Rattle.classes.specs.Table.{table, Frame};
+ghost use Rattle.classes.specs.Table.{table};
 ghost use Rattle.removal.specs.Links.{Linkable, Linked};
 use classes::clear;
 

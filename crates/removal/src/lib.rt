@@ -15,9 +15,10 @@
 //   which a design is lent as a graph, 16,384, 16,384 and 65,536 bytes;
 // - `build::build`: the class of each edge alone, 32,768 bytes, and how many marks there are at the nodes below
 //   each, 16,388 bytes;
-// - `classes::list_tables`: four words for each path, 49,152 bytes, or 1,536 for at most 64 paths;
+// - `classes::list_tables`: 24 bytes for each of 2,048 paths, 49,152 bytes, or 1,536 for at most 64 paths; and while these are sorted two counts for
+//   each of 128 digits, 2,048 bytes;
 // - `names::name_edges`: a flag for each edge of the design, 16,384 bytes.
-// The most at a time is 196,612 bytes: those of `remove_tested` or `size_tested`, `build` and `list_tables`.
+// The most at a time is 198,660 bytes: those of `remove_tested` or `size_tested`, `build` and `list_tables`.
 ghost use mathlib.Core.Path.{_≡_};
 ghost use lib.ListN.{length};
 ghost use Rattle.timing.specs.Graphs.{design};

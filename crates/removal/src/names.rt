@@ -1,8 +1,7 @@
 // Which edges of the graph name a listed edge. A step against an edge that names none is always to the
 // empty mark.
-ghost use mathlib.Core.Path.{_≡_};
-ghost use Prim.Native.Nat.{ℕ, _+_, _≤_, _<_};
-ghost use lib.ListN.{length, getD};
+ghost use Prim.Native.Nat.{_+_, _≤_, _<_};
+ghost use lib.ListN.{length};
 ghost use Rattle.removal.specs.Names.{Flagged, Noted, NotedAt, Named};
 use entries::number_at;
 

@@ -55,7 +55,7 @@ fn find(
     Finding { layout, counts }
 }
 
-// 31, and then the passes over the slots. Of a graph without a copy nothing is left to find, and its tables would not fit: a few of their
+// 31, and then the passes over the slots. Of a graph without a copy nothing is left to find, and its tables need not fit: a few of their
 // words are there for no copy. A removal and its size share this function and its frame: the array by which the candidates
 // are counted is gone when the others are made.
 fn search(

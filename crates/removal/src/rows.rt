@@ -1,6 +1,6 @@
 // The slots of every copy. Where the tables stand in the scratch, and their readers.
 ghost use mathlib.Core.Path.{_≡_};
-ghost use Prim.Native.Nat.{_+_, _*_, _<_};
+ghost use Prim.Native.Nat.{_+_, _<_};
 ghost use lib.ListN.{getD, take, set};
 ghost use Rattle.removal.specs.Slots.{slots};
 ghost use Rattle.removal.specs.Chains.{edgesAt};
@@ -51,7 +51,7 @@ pub(crate) fn slot_count(l: Layout, scratch: &[u32], c: usize) -> usize
     end - number_at(scratch, l.base + c) as usize
 }
 
-// The slot at the start of edge e that the word of a step says.
+// The step that a word tells.
 fn step_of(word: u32) -> Step
     ensures { λ r. ⌜ StepSays word r ⌝ }
 {

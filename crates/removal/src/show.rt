@@ -1,7 +1,6 @@
 // Which slots are shown: the second pass over the slots, from the lowest copy on.
-ghost use mathlib.Core.Path.{_≡_};
 ghost use Prim.Native.Nat.{_+_, _*_, _<_, _≤_};
-ghost use lib.ListN.{length, getD, take};
+ghost use lib.ListN.{getD, take};
 ghost use Rattle.removal.specs.Slots.{slots, slotBase};
 ghost use Rattle.removal.specs.Rows.{slotsIn, Ready};
 ghost use Rattle.removal.specs.Show.{StartMeets, EdgesMeet, SlotRoom, SlotShown, PassedTo, AllShown};

@@ -1,5 +1,4 @@
 -- Each pass finds what it asks, and what they leave is what is to be made.
-use Prim.Native.Nat.{ℕ}
 use native.Mathlib.Omega.{arith}
 use Rattle.timing.specs.Marks.{pathList, pathsOf}
 use Rattle.classes.proofs.MadeLaws.{made-startable, made-numbered, made-linkable, made-few, made-placeable, made-all}

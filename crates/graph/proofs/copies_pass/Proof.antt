@@ -4,7 +4,6 @@ use native.Mathlib.Omega.{arith}
 use mathlib.Core.Path.{_≡_, sym, _∙_}
 use lib.ListN.{length}
 use borrow.Author.Tests.{not-true, not-false}
-use borrow.Author.Needs.{needs}
 use Rattle.graph.specs.Passes.{flag, copyPasses, lowestAfter, walked}
 use Rattle.graph.proofs.Walk.{walk-bad, walk-good, walk-done, walk-starts}
 use Rattle.graph.proofs.copies_pass.Statement.{statement}

@@ -1,20 +1,19 @@
 -- Laws of the layout and of filling the tables, one after the other: each later one leaves the earlier ones.
 use Prim.Native.Nat.{ℕ, zero, suc, _+_, _-_, _*_, _≤_, _<_}
 use native.Mathlib.Omega.{arith}
-use native.Mathlib.Decide.{ℕ-discrete}
 use mathlib.Core.Path.{_≡_, refl, sym, _∙_, ap, subst}
 use mathlib.Core.List.{List, [], _∷_, map, List·Memᴰ, Memᴰ·map}
 use lib.ListN.{length, getD, take, drop, replicate, getD-replicate}
 use lib.Seq.{take-take, length-take-le}
-use Rattle.timing.specs.Lists.{sum, upto}
+use Rattle.timing.specs.Lists.{sum}
 use Rattle.timing.specs.Graphs.{Design, Graph, Edge, nodeOf}
 use Rattle.timing.specs.Marks.{PathList, pathList, pathsOf}
 use Rattle.timing.specs.Tests.{candidates}
-use Rattle.theorems.proofs.Lists.{mem-upto, getD-mem}
+use Rattle.theorems.proofs.Lists.{mem-upto}
 use Rattle.theorems.proofs.Tested.{ListFits}
 use Rattle.classes.specs.Table.{table, Frame}
-use Rattle.classes.specs.Classes.{classCount, marksAt, Root}
-use Rattle.classes.specs.Tables.{listWords, locIn, marksFor, marksBelow, Located, Stepped, Automaton, Listable, Makeable, Made}
+use Rattle.classes.specs.Classes.{classCount, marksAt}
+use Rattle.classes.specs.Tables.{locIn, marksFor, marksBelow, Stepped, Automaton, Makeable, Made}
 use Rattle.classes.proofs.Region.{table-at}
 use Rattle.classes.proofs.MarkLaws.{live-all}
 use Rattle.classes.proofs.WordLaws.{fit-stepped, root-fit}

@@ -2,17 +2,16 @@
 -- are not first in their path.
 use Prim.Native.Nat.{ℕ, suc, _+_, _≤_, _<_}
 use native.Mathlib.Omega.{arith}
-use mathlib.Core.Path.{_≡_, refl, sym, _∙_, ap}
-use mathlib.Core.Bool.{Bool}
+use mathlib.Core.Path.{_≡_, refl, ap}
 use mathlib.Core.List.{List, [], _∷_, map, flatMap}
 use lib.Dec.{eqb}
 use lib.ListN.{length, getD, drop}
-use Rattle.timing.specs.Lists.{oneIf, countOf, upto, sum}
+use Rattle.timing.specs.Lists.{countOf, upto, sum}
 use Rattle.timing.specs.Graphs.{Design, edgeStart, Graph, nodeOf}
 use Rattle.timing.specs.Marks.{PathList, pathsOf, suffixes, tailsOf, tails}
 use Rattle.timing.specs.Tests.{candidates}
 use Rattle.theorems.proofs.Counting.{count-cons, count-append}
-use Rattle.classes.specs.Classes.{Filled, marksAt}
+use Rattle.classes.specs.Classes.{Filled}
 use Rattle.classes.proofs.MarkLaws.{startsWith, marks-few}
 use Rattle.removal.specs.Slots.{slots, slotBase, slotsOf}
 

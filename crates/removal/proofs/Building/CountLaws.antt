@@ -1,25 +1,25 @@
 -- Laws of counting the candidates. What is counted and what is left to count are together what there is.
-use Prim.Native.Nat.{ℕ, zero, suc, _+_, _*_, _-_, _≤_, _<_}
+use Prim.Native.Nat.{ℕ, zero, suc, _+_, _-_, _≤_, _<_}
 use native.Mathlib.Omega.{arith}
 use native.Mathlib.Decide.{ℕ-discrete, decLt}
 use native.Mathlib.Numerals.{add-one}
 use mathlib.Core.Path.{_≡_, refl, sym, _∙_, ap, subst}
-use mathlib.Core.Bool.{Bool}
 use mathlib.Core.List.{List, [], _∷_, _++_, map, flatMap}
 use lib.Dec.{eqb}
 use lib.ListN.{length, getD, take, drop, set, replicate, length-set}
 use lib.Seq.{drop-drop, getD-set-same, getD-set-other}
 use borrow.Author.Tests.{ne-eqb, eq-eqb}
-use Rattle.timing.specs.Lists.{oneIf, sum, countOf}
+use Rattle.timing.specs.Lists.{oneIf, sum}
 use Rattle.timing.specs.Graphs.{Design, Graph}
-use Rattle.timing.specs.Marks.{PathList, pathList, cut}
+use Rattle.timing.specs.Marks.{pathList}
 use Rattle.timing.specs.Tests.{candidates}
 use Rattle.theorems.proofs.Counting.{count-cons, count-append}
 use Rattle.theorems.proofs.Legal.{Legal}
 use Rattle.theorems.proofs.Tested.{DesignFits, ListFits}
 use Rattle.removal.specs.Counts.{ofStarts, ofNodes}
 use Rattle.removal.specs.Counts.{startsIn, inner, shares, ListCountable, CopiesCountable, Counting, Counted, Tallied}
-use Rattle.removal.proofs.Building.SumLaws.{sum-step, sum-take, lengths-filled}
+use Rattle.classes.proofs.SumLaws.{sum-step, sum-take}
+use Rattle.removal.proofs.Building.SumLaws.{lengths-filled}
 use Rattle.theorems.proofs.Lists.{getD-mem}
 
 drop-cons : (l : List ℕ) (i : ℕ) → i < length l → drop i l ≡ getD l i 0 ∷ drop (suc i) l

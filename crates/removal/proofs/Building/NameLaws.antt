@@ -6,7 +6,6 @@ use mathlib.Core.Path.{_≡_, refl, sym, _∙_, ap, subst}
 use mathlib.Core.List.{List}
 use lib.ListN.{length, getD, set, length-set}
 use lib.Seq.{getD-set-same, getD-set-other}
-use Rattle.classes.specs.Table.{Frame}
 use Rattle.removal.specs.Names.{Unlisted, Flagged, Noted, NotedAt, Named}
 use Rattle.classes.proofs.Region.{frame-refl, frame-set}
 

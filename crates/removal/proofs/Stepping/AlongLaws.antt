@@ -1,21 +1,18 @@
 -- The step against an edge of the graph: its ends are copies, and what the tables of the list say is the step.
 use Prim.Native.Nat.{ℕ, suc, _+_, _-_, _≤_, _<_}
 use native.Mathlib.Omega.{arith}
-use mathlib.Core.Path.{_≡_, refl, sym, _∙_, ap, subst}
-use mathlib.Core.Logic.{⊎-elim}
+use mathlib.Core.Path.{_≡_, refl, sym, _∙_, subst}
 use mathlib.Core.Bool.{Bool, true, false}
-use mathlib.Core.List.{List, [], _∷_, map, List·Memᴰ, List·Memᴰ·not-nil, Memᴰ·map}
-use lib.Dec.{T}
+use mathlib.Core.List.{List, [], _∷_, List·Memᴰ, Memᴰ·map}
 use lib.ListN.{length, getD, take}
 use lib.Seq.{getD-take, ext-getD, length-take-le}
-use Rattle.timing.specs.Lists.{upto}
 use Rattle.timing.specs.Graphs.{Design, Edge, Graph, nodeOf}
 use Rattle.timing.specs.Marks.{PathList, pathsOf, mark}
-use Rattle.theorems.proofs.Lists.{holds, fails, mem-upto}
-use Rattle.theorems.proofs.Marks.{Prefix, begins}
+use Rattle.theorems.proofs.Lists.{mem-upto}
+use Rattle.theorems.proofs.Marks.{begins}
 use Rattle.classes.specs.Table.{table}
 use Rattle.classes.specs.Classes.{marksAt}
-use Rattle.classes.specs.Tables.{deadWord, listWords, marksFor, marksBelow, Stepped, Automaton}
+use Rattle.classes.specs.Tables.{listWords, marksBelow, Stepped, Automaton}
 use Rattle.classes.specs.Step.{Marked}
 use Rattle.classes.proofs.Region.{table-at, table-length}
 use Rattle.classes.proofs.KeptLaws.{automaton-same}

@@ -1,17 +1,15 @@
 -- An edge that is not listed begins no listed path and no tail, and leads to the empty mark.
-use Prim.Native.Nat.{ℕ, zero, suc, _+_, _-_, _≤_, _<_}
+use Prim.Native.Nat.{ℕ, _-_}
 use native.Mathlib.Omega.{arith}
-use native.Mathlib.Decide.{decLt}
-use mathlib.Core.Path.{_≡_, refl, sym, _∙_, ap, subst}
-use mathlib.Core.Logic.{_⊎_, inl, inr, ⊎-elim}
+use mathlib.Core.Path.{_≡_, refl, sym, _∙_, subst}
+use mathlib.Core.Logic.{inl, inr}
 use mathlib.Core.Bool.{Bool, true, false}
-use mathlib.Core.List.{List, [], _∷_, List·Memᴰ, List·Memᴰ·head, List·Memᴰ·tail, List·Memᴰ·not-nil, List·Memᴰ·cases-cons}
+use mathlib.Core.List.{List, [], _∷_, List·Memᴰ, List·Memᴰ·head}
 use lib.Dec.{T}
-use lib.ListN.{length, getD, take, drop, length-take, length-drop}
-use lib.Seq.{getD-take, getD-drop, length-take-le}
-use Rattle.timing.specs.Lists.{isNil, sum}
-use Rattle.timing.specs.Marks.{PathList, cut, pathsOf, suffixes, tailsOf, tails, mark}
-use Rattle.theorems.proofs.Lists.{holds, anyOf-elim, of-flatMap, getD-mem}
+use lib.ListN.{getD}
+use Rattle.timing.specs.Lists.{isNil}
+use Rattle.timing.specs.Marks.{PathList, pathsOf, tailsOf, tails, mark}
+use Rattle.theorems.proofs.Lists.{holds, anyOf-elim, of-flatMap}
 use Rattle.theorems.proofs.Marks.{Prefix, Tail, begins, prefix-sound, mark-tail, mark-prefix}
 use Rattle.classes.specs.Classes.{Filled}
 use Rattle.classes.specs.Tables.{Stepped}

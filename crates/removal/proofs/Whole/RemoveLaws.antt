@@ -1,13 +1,12 @@
 -- The passes one after the other: what the tables are of stays so, since only slots change, and so what each pass leaves is
 -- what the next one asks.
-use Prim.Native.Nat.{ℕ, zero, _+_, _*_, _≤_, _<_}
+use Prim.Native.Nat.{ℕ, _≤_, _<_}
 use native.Mathlib.Omega.{arith}
-use mathlib.Core.Path.{_≡_, refl, sym, ap, _∙_, subst}
-use mathlib.Core.List.{List, map, flatMap}
+use mathlib.Core.Path.{_≡_, sym, ap, _∙_, subst}
+use mathlib.Core.List.{List, flatMap}
 use lib.ListN.{length, take, length-map}
 use Rattle.timing.specs.Graphs.{Design, Graph, nodeOf, edgesIn}
-use Rattle.timing.specs.Marks.{PathList, pathsOf}
-use Rattle.timing.specs.TrueGraphs.{trueGraph}
+use Rattle.timing.specs.Marks.{PathList}
 use Rattle.theorems.proofs.Tested.{ListFits}
 use Rattle.removal.specs.declared.rows.Layout.{Layout}
 use Rattle.removal.specs.Slots.{slots, slotMarks}
@@ -18,7 +17,7 @@ use Rattle.removal.specs.Result.{Slot, shownBelow, shownSlots}
 use Rattle.removal.specs.Show.{AllShown, ShowsAll, reachedBy}
 use Rattle.removal.specs.Fill.{RowsShown, RoomsAlike, SlotsRoom, slotsNow, shownNow, edgesNow, comesNow, fromNow}
 use Rattle.removal.specs.Build.{Given, Buildable, Built}
-use Rattle.removal.specs.Remove.{Worked, Workable, WorkableIn, AllFound, Found}
+use Rattle.removal.specs.Remove.{WorkableIn, AllFound, Found}
 use Rattle.removal.proofs.Reaching.ReachLaws.{ready-still}
 use Rattle.removal.proofs.Building.CountLaws.{list-countable, copies-countable}
 use Rattle.removal.proofs.Showing.ShowLaws.{links}

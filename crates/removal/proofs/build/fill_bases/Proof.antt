@@ -1,11 +1,9 @@
 -- The invariant: the copies below c are done, and `total` is how many slots they have.
-use Prim.Native.Nat.{ℕ, suc, _+_, _-_, _*_, _≤_, _<_}
+use Prim.Native.Nat.{suc, _+_, _-_}
 use native.Mathlib.Omega.{arith}
 use native.Mathlib.Numerals.{add-one}
-use mathlib.Core.Path.{_≡_, refl, sym, _∙_, ap, subst}
-use mathlib.Core.List.{List}
-use lib.ListN.{length, getD, set, length-set}
-use borrow.Author.Needs.{needs}
+use mathlib.Core.Path.{refl, _∙_}
+use lib.ListN.{length, getD, length-set}
 use Rattle.removal.proofs.Building.BaseLaws.{Basing, basing-start, basing-room, basing-few, basing-turn, basing-done}
 use Rattle.removal.proofs.build.fill_bases.Statement.{statement}
 use Rattle.removal.proofs.build.fill_bases.Tie as tie

@@ -1,11 +1,9 @@
 -- The invariant: the edges below e are done.
-use Prim.Native.Nat.{ℕ, suc, _+_, _-_, _*_, _≤_, _<_}
+use Prim.Native.Nat.{_+_, _-_, _<_}
 use native.Mathlib.Omega.{arith}
 use native.Mathlib.Numerals.{add-one}
-use mathlib.Core.Path.{_≡_, refl, sym, _∙_, ap, subst}
-use mathlib.Core.List.{List}
-use lib.ListN.{length, getD, set}
-use borrow.Author.Needs.{needs}
+use mathlib.Core.Path.{refl}
+use lib.ListN.{length, getD}
 use Rattle.removal.proofs.Building.DefaultLaws.{Defaulting, defaulting-start, root-room, defaulting-turn, defaulting-done}
 use Rattle.removal.proofs.build.fill_defaults.Statement.{statement}
 use Rattle.removal.proofs.build.fill_defaults.Tie as tie

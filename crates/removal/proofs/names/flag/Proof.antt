@@ -4,7 +4,6 @@ use borrow.Author.Needs.{needs}
 use Rattle.removal.proofs.names.flag.Statement.{statement}
 use Rattle.removal.proofs.names.flag.Tie as tie
 
-
 slice-write-names : tie.Need-slice-write-names
 slice-write-names c = search needs
 

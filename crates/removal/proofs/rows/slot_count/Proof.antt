@@ -1,7 +1,7 @@
 -- `slot_count` meets its contract: the slots of a copy stand between its base and the next.
 use Prim.Native.Nat.{ℕ, suc, _+_}
 use native.Mathlib.Omega.{arith}
-use mathlib.Core.Path.{_≡_, ap, _∙_}
+use mathlib.Core.Path.{_≡_, ap}
 use lib.ListN.{getD, take}
 use borrow.Author.Needs.{needs}
 use Rattle.removal.specs.Slots.{slots}

@@ -1,7 +1,7 @@
 -- An edge that is not listed leads to the empty mark; the empty mark leads where the edge alone does; any other by the tables of the list.
 use Prim.Native.Nat.{ℕ, _+_, _≤_, _<_}
 use native.Mathlib.Omega.{arith}
-use mathlib.Core.Path.{_≡_, sym, _∙_, subst}
+use mathlib.Core.Path.{_≡_, sym, _∙_}
 use mathlib.Core.List.{List}
 use lib.ListN.{length, getD, take}
 use borrow.Author.Needs.{needs}

@@ -1,7 +1,7 @@
 -- The mark of slot j has a number, and the tables of the list say what the edge and this mark lead to.
 use Prim.Native.Nat.{ℕ, suc, _+_, _-_, _≤_, _<_}
 use native.Mathlib.Omega.{arith}
-use mathlib.Core.Path.{_≡_, refl, sym, _∙_, ap, subst}
+use mathlib.Core.Path.{_≡_, sym, subst}
 use mathlib.Core.List.{List, []}
 use lib.ListN.{length, getD, take}
 use borrow.Author.Needs.{needs}
