@@ -7,7 +7,7 @@ use lib.ListN.{getD}
 use Rattle.timing.specs.Graphs.{Design, Graph}
 use Rattle.timing.specs.Marks.{PathList, pathsOf, mark}
 use Rattle.theorems.proofs.Marks.{begins}
-use Rattle.classes.specs.Tables.{deadWord}
+use Rattle.removal.specs.Tables.{deadWord}
 use Rattle.removal.specs.declared.rows.Layout.{Layout}
 use Rattle.removal.specs.declared.rows.Step.{Step}
 use Rattle.removal.specs.declared.rows.Step.the-variants.{Dead, Live}

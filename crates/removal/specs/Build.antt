@@ -8,9 +8,9 @@ use Rattle.timing.specs.Marks.{PathList, pathList}
 use Rattle.timing.specs.Tests.{candidates}
 use Rattle.theorems.proofs.Legal.{Legal}
 use Rattle.theorems.proofs.Tested.{ListFits}
-use Rattle.classes.specs.Table.{Frame}
-use Rattle.classes.specs.Tables.{listWords}
-use Rattle.classes.specs.Tables.{Laid as LaidLists}
+use Rattle.removal.specs.Table.{Frame}
+use Rattle.removal.specs.Tables.{listWords}
+use Rattle.removal.specs.Tables.{Laid as LaidLists}
 use Rattle.removal.specs.declared.rows.Layout.{Layout}
 use Rattle.removal.specs.Slots.{slots, slotBase}
 use Rattle.removal.specs.Rows.{slotsIn, flagIn, Tabled, Ready}

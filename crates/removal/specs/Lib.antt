@@ -1,4 +1,14 @@
 -- What the tables of a removal hold. The result itself is defined in `timing`.
+pub mod Table
+pub mod Classes
+pub mod Tables
+pub mod Items
+pub mod Buckets
+pub mod Sorts
+pub mod Children
+pub mod Linking
+pub mod Step
+pub mod Levels
 pub mod Slots
 pub mod Chains
 pub mod Links

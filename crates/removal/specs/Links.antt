@@ -3,7 +3,7 @@
 use Prim.Native.Nat.{ℕ, _+_, _≤_, _<_}
 use mathlib.Core.List.{List}
 use lib.ListN.{length, getD}
-use Rattle.classes.specs.Table.{table, Frame}
+use Rattle.removal.specs.Table.{table, Frame}
 use Rattle.removal.specs.Chains.{Chain, edgesAt}
 
 pub record Linkable (s ends : List ℕ) (first n : ℕ) : Type 0 where

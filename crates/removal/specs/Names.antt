@@ -3,7 +3,7 @@ use Prim.Native.Nat.{ℕ, _+_, _<_}
 use mathlib.Core.Path.{_≡_}
 use mathlib.Core.List.{List}
 use lib.ListN.{length, getD}
-use Rattle.classes.specs.Table.{Frame}
+use Rattle.removal.specs.Table.{Frame}
 
 -- no listed edge is k
 abbrev pub Unlisted : List ℕ → ℕ → Type 0

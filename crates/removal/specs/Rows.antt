@@ -8,8 +8,8 @@ use Rattle.timing.specs.Graphs.{Design, Graph, edgesOf, nodeOf}
 use Rattle.timing.specs.Marks.{PathList, pathsOf}
 use Rattle.theorems.proofs.Legal.{Legal}
 use Rattle.theorems.proofs.Tested.{ListFits}
-use Rattle.classes.specs.Table.{table}
-use Rattle.classes.specs.Tables.{listWords, marksBelow, Stepped, Automaton}
+use Rattle.removal.specs.Table.{table}
+use Rattle.removal.specs.Tables.{listWords, marksBelow, Stepped, Automaton}
 use Rattle.removal.specs.declared.rows.Layout.{Layout}
 use Rattle.removal.specs.Slots.{slots, slotBase, slotsOf}
 use Rattle.removal.specs.Links.{Chained}

@@ -6,7 +6,7 @@ use lib.ListN.{length, getD}
 use Rattle.timing.specs.Lists.{sum, upto}
 use Rattle.timing.specs.Graphs.{Design, Graph, nodeOf}
 use Rattle.timing.specs.Marks.{PathList, pathsOf}
-use Rattle.classes.specs.Classes.{marksAt}
+use Rattle.removal.specs.Classes.{marksAt}
 
 -- the mark of slot j of copy c
 unfoldable pub slotMarks : Design → PathList → Graph → ℕ → ℕ → List ℕ

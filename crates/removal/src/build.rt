@@ -8,11 +8,11 @@ ghost use Rattle.removal.specs.Counts.{ofStarts, ofNodes};
 ghost use Rattle.removal.specs.Build.{LaidOut, Baseable, Based, Defaultable, Defaulted, Buildable, Built};
 ghost use Rattle.removal.specs.Counts.{ofStarts, ofNodes, ListCountable, CopiesCountable, Counting, Counted, Tallied, shares};
 use crate::chains::link_edges;
+use crate::classes::clear;
+use crate::classes::lay_lists;
+use crate::classes::list_tables;
 use crate::names::name_edges;
 use crate::rows::Layout;
-use classes::clear;
-use classes::lay_lists;
-use classes::list_tables;
 use entries::number_at;
 
 // The tables one after the other, with the slots last.

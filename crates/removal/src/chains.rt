@@ -2,9 +2,9 @@
 ghost use mathlib.Core.Path.{_≡_};
 ghost use Prim.Native.Nat.{_+_, _<_};
 ghost use lib.ListN.{length, getD, set};
-ghost use Rattle.classes.specs.Table.{table};
+ghost use Rattle.removal.specs.Table.{table};
 ghost use Rattle.removal.specs.Links.{Linkable, Linked};
-use classes::clear;
+use crate::classes::clear;
 
 // Stores at i what stands at j, and then the number of edge e plus one at j.
 fn link(scratch: &mut [u32], j: usize, i: usize, e: usize)

@@ -45,11 +45,18 @@ use verdicts::then;
 
 mod build;
 mod chains;
+mod classes;
 mod fill;
+mod items;
+mod kids;
+mod levels;
+mod links;
+mod marks;
 mod names;
 mod numbers;
 mod remove;
 mod rows;
+mod search;
 mod show;
 
 // The tests of a design and a list: 30, with those of the call's other slices between, and then 10

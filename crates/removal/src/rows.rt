@@ -7,11 +7,11 @@ ghost use Rattle.removal.specs.Chains.{edgesAt};
 ghost use Rattle.removal.specs.Rows.{slotsIn, Held, Ready, slotPlace, flagIn};
 ghost use Rattle.removal.specs.Along.{StepSays, StepAlong};
 ghost use Rattle.removal.specs.Reach.{Flagging, FromSlot, FromList, FromAll, endSet, RowsReached, AllZero};
-use classes::Lists;
-use classes::step;
+use crate::classes::Lists;
+use crate::classes::step;
 use entries::number_at;
 
-// `lists` tells where the tables of the list stand (crate `classes`). `first` has a word for each copy: how many marks there are at
+// `lists` tells where the tables of the list stand (`classes`). `first` has a word for each copy: how many marks there are at
 // the nodes below its own; and `base` where its slots start, with one word more, where the last ones end. `into` has the chains of
 // edges by end: a word for each copy, and then one for each edge. `default` has a word for each edge: the slot at its start to which
 // the empty mark at its end leads, or that it leads nowhere. `named` has a word for each edge, which is 0 if the edge names no

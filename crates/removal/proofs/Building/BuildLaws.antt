@@ -11,15 +11,15 @@ use Rattle.timing.specs.Marks.{PathList, pathList, pathsOf}
 use Rattle.timing.specs.Tests.{candidates}
 use Rattle.theorems.proofs.Lists.{mem-upto}
 use Rattle.theorems.proofs.Tested.{ListFits}
-use Rattle.classes.specs.Table.{table, Frame}
-use Rattle.classes.specs.Classes.{classCount, marksAt}
-use Rattle.classes.specs.Tables.{locIn, marksFor, marksBelow, Stepped, Automaton, Makeable, Made}
-use Rattle.classes.proofs.Region.{table-at}
-use Rattle.classes.proofs.MarkLaws.{live-all}
-use Rattle.classes.proofs.WordLaws.{fit-stepped, root-fit}
-use Rattle.classes.proofs.KeptLaws.{automaton-same}
-use Rattle.classes.proofs.PlaceLaws.{marks-total}
-use Rattle.classes.proofs.FlatLaws.{edge-path}
+use Rattle.removal.specs.Table.{table, Frame}
+use Rattle.removal.specs.Classes.{classCount, marksAt}
+use Rattle.removal.specs.Tables.{locIn, marksFor, marksBelow, Stepped, Automaton, Makeable, Made}
+use Rattle.removal.proofs.Listing.Region.{table-at}
+use Rattle.removal.proofs.Listing.MarkLaws.{live-all}
+use Rattle.removal.proofs.Listing.WordLaws.{fit-stepped, root-fit}
+use Rattle.removal.proofs.Listing.KeptLaws.{automaton-same}
+use Rattle.removal.proofs.Listing.PlaceLaws.{marks-total}
+use Rattle.removal.proofs.Listing.FlatLaws.{edge-path}
 use Rattle.removal.specs.declared.rows.Layout.{Layout}
 use Rattle.removal.specs.Slots.{slots, slotBase, slotsOf}
 use Rattle.removal.specs.Links.{Linkable, Chained, Linked}

@@ -11,8 +11,8 @@ use Rattle.timing.specs.Graphs.{Design, edgeStart, Graph, nodeOf}
 use Rattle.timing.specs.Marks.{PathList, pathsOf, suffixes, tailsOf, tails}
 use Rattle.timing.specs.Tests.{candidates}
 use Rattle.theorems.proofs.Counting.{count-cons, count-append}
-use Rattle.classes.specs.Classes.{Filled}
-use Rattle.classes.proofs.MarkLaws.{startsWith, marks-few}
+use Rattle.removal.specs.Classes.{Filled}
+use Rattle.removal.proofs.Listing.MarkLaws.{startsWith, marks-few}
 use Rattle.removal.specs.Slots.{slots, slotBase, slotsOf}
 
 -- a suffix for each edge of a path, which it begins with

@@ -18,7 +18,7 @@ use Rattle.theorems.proofs.Legal.{Legal}
 use Rattle.theorems.proofs.Tested.{DesignFits, ListFits}
 use Rattle.removal.specs.Counts.{ofStarts, ofNodes}
 use Rattle.removal.specs.Counts.{startsIn, inner, shares, ListCountable, CopiesCountable, Counting, Counted, Tallied}
-use Rattle.classes.proofs.SumLaws.{sum-step, sum-take}
+use Rattle.removal.proofs.Listing.SumLaws.{sum-step, sum-take}
 use Rattle.removal.proofs.Building.SumLaws.{lengths-filled}
 use Rattle.theorems.proofs.Lists.{getD-mem}
 

@@ -6,8 +6,8 @@ use mathlib.Core.Path.{_≡_, refl, _∙_}
 use mathlib.Core.List.{List}
 use lib.ListN.{getD, set}
 use lib.Seq.{getD-set-same, getD-set-other}
-use Rattle.classes.specs.Table.{Frame}
-use Rattle.classes.proofs.Region.{frame-refl, frame-set}
+use Rattle.removal.specs.Table.{Frame}
+use Rattle.removal.proofs.Listing.Region.{frame-refl, frame-set}
 use Rattle.removal.specs.declared.rows.Layout.{Layout}
 use Rattle.removal.specs.Build.{Defaultable, Defaulted}
 

@@ -5,9 +5,9 @@ use native.Mathlib.Numerals.{add-one}
 use mathlib.Core.Path.{_≡_, _∙_, subst}
 use mathlib.Core.List.{List}
 use lib.ListN.{length, getD, set, replicate, length-set}
-use Rattle.classes.specs.Table.{table, Frame}
+use Rattle.removal.specs.Table.{table, Frame}
 use Rattle.removal.specs.Links.{Linkable, Chained, Linked}
-use Rattle.classes.proofs.Region.{table-length, table-at, table-in, table-before, table-past, frame-refl, frame-set, frame-trans, frame-wider}
+use Rattle.removal.proofs.Listing.Region.{table-length, table-at, table-in, table-before, table-past, frame-refl, frame-set, frame-trans, frame-wider}
 use Rattle.removal.proofs.Building.ChainLaws.{chained-none, chained-more}
 
 pub record Linking (ends s t : List ℕ) (first n k : ℕ) : Type 0 where

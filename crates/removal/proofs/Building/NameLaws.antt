@@ -7,7 +7,7 @@ use mathlib.Core.List.{List}
 use lib.ListN.{length, getD, set, length-set}
 use lib.Seq.{getD-set-same, getD-set-other}
 use Rattle.removal.specs.Names.{Unlisted, Flagged, Noted, NotedAt, Named}
-use Rattle.classes.proofs.Region.{frame-refl, frame-set}
+use Rattle.removal.proofs.Listing.Region.{frame-refl, frame-set}
 
 pub flagged-set : (a : List ℕ) (k : ℕ) → k < length a → Flagged a (set a k 1) k
 flagged-set a k h = record {

@@ -12,7 +12,7 @@ use Rattle.timing.specs.Graphs.{Design, Edge, Graph}
 use Rattle.timing.specs.Marks.{PathList}
 use Rattle.theorems.proofs.Lists.{of-keep, mem-upto}
 use Rattle.removal.specs.declared.rows.Layout.{Layout}
-use Rattle.classes.specs.Table.{table}
+use Rattle.removal.specs.Table.{table}
 use Rattle.removal.specs.Slots.{slots, slotMarks}
 use Rattle.removal.specs.Chains.{Chain, edgesAt}
 use Rattle.removal.specs.Rows.{Tabled, flagIn}

@@ -15,13 +15,13 @@ use Rattle.timing.specs.Marks.{PathList}
 use Rattle.theorems.proofs.Lists.{holds}
 use Rattle.theorems.proofs.Runs.{mem-out}
 use Rattle.removal.specs.declared.rows.Layout.{Layout}
-use Rattle.classes.specs.Table.{table}
+use Rattle.removal.specs.Table.{table}
 use Rattle.removal.specs.Chains.{Chain, edgesAt}
 use Rattle.removal.specs.Slots.{slots, slotBase, Used, slotMarks}
 use Rattle.removal.specs.Rows.{slotsIn, Tabled, slotPlace, flagIn}
 use Rattle.removal.specs.Flags.{ReachedRow, StepBack, Backward}
 use Rattle.removal.specs.Reach.{flagOf, reachedOf, SlotsOnly, Pushes, Flagging, FromSlot, FromList, FromAll, endSet, RowsReached, AllZero}
-use Rattle.classes.proofs.Region.{table-at}
+use Rattle.removal.proofs.Listing.Region.{table-at}
 use Rattle.removal.proofs.Building.ChainLaws.{RisesIn, edges-rise, edges-member, chain-ends, chain-goes, chainLeft, chain-falls}
 use Rattle.removal.proofs.Showing.IntoLaws.{edgeAt, edges-out-at}
 use Rattle.removal.proofs.Reaching.SlotLaws.{used-empty, setting-of}

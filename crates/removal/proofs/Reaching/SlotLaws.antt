@@ -18,10 +18,10 @@ use Rattle.theorems.proofs.Back.{mark-empty}
 use Rattle.theorems.proofs.Runs.{Way}
 use Rattle.theorems.proofs.Tested.{ListFits}
 use Rattle.theorems.proofs.Legal.{Legal}
-use Rattle.classes.specs.Classes.{classBefore, marksAt, At}
-use Rattle.classes.proofs.ClassLaws.{class-order}
-use Rattle.classes.proofs.FitLaws.{dead-longer}
-use Rattle.classes.proofs.MarkLaws.{marks-first, marks-rise, marks-all}
+use Rattle.removal.specs.Classes.{classBefore, marksAt, At}
+use Rattle.removal.proofs.Listing.ClassLaws.{class-order}
+use Rattle.removal.proofs.Listing.FitLaws.{dead-longer}
+use Rattle.removal.proofs.Listing.MarkLaws.{marks-first, marks-rise, marks-all}
 use Rattle.removal.specs.declared.rows.Layout.{Layout}
 use Rattle.removal.specs.Slots.{slots, slotMarks, slotsOf, Used}
 use Rattle.removal.specs.Rows.{slotsIn, Tabled}

@@ -14,7 +14,7 @@ use Rattle.timing.specs.Lists.{oneIf, isNil}
 use Rattle.timing.specs.Graphs.{Design, Graph, startsAt}
 use Rattle.timing.specs.Marks.{PathList}
 use Rattle.removal.specs.declared.rows.Layout.{Layout}
-use Rattle.classes.specs.Table.{table}
+use Rattle.removal.specs.Table.{table}
 use Rattle.removal.specs.Slots.{slots, slotBase, slotMarks}
 use Rattle.removal.specs.Chains.{Chain, edgesAt}
 use Rattle.removal.specs.Rows.{slotsIn, Tabled, Ready, slotPlace, flagIn}

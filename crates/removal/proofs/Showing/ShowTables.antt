@@ -15,14 +15,14 @@ use Rattle.theorems.proofs.Lists.{of-keep}
 use Rattle.theorems.proofs.Counting.{count-cons}
 use Rattle.removal.specs.declared.rows.Layout.{Layout}
 use Rattle.removal.specs.declared.rows.Step.the-variants.{Dead, Live}
-use Rattle.classes.specs.Table.{table}
+use Rattle.removal.specs.Table.{table}
 use Rattle.removal.specs.Slots.{slots, slotMarks}
 use Rattle.removal.specs.Chains.{Chain, edgesAt}
 use Rattle.removal.specs.Rows.{slotsIn, Tabled, Ready, flagIn}
 use Rattle.removal.specs.Along.{StepAlong}
 use Rattle.removal.specs.Result.{edgeAt}
 use Rattle.removal.specs.Show.{fromShown, shownBy, edgesTo, StartMeets, EdgesMeet}
-use Rattle.classes.proofs.Region.{table-at}
+use Rattle.removal.proofs.Listing.Region.{table-at}
 use Rattle.removal.proofs.Building.ChainLaws.{RisesIn, edges-rise, chain-ends, chain-goes, chainLeft, chain-falls}
 pub use Rattle.removal.proofs.Reaching.SlotLaws.{setting-of}
 use Rattle.removal.proofs.Showing.IntoLaws.{edges-in-at}

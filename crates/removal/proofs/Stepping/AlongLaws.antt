@@ -10,12 +10,12 @@ use Rattle.timing.specs.Graphs.{Design, Edge, Graph, nodeOf}
 use Rattle.timing.specs.Marks.{PathList, pathsOf, mark}
 use Rattle.theorems.proofs.Lists.{mem-upto}
 use Rattle.theorems.proofs.Marks.{begins}
-use Rattle.classes.specs.Table.{table}
-use Rattle.classes.specs.Classes.{marksAt}
-use Rattle.classes.specs.Tables.{listWords, marksBelow, Stepped, Automaton}
-use Rattle.classes.specs.Step.{Marked}
-use Rattle.classes.proofs.Region.{table-at, table-length}
-use Rattle.classes.proofs.KeptLaws.{automaton-same}
+use Rattle.removal.specs.Table.{table}
+use Rattle.removal.specs.Classes.{marksAt}
+use Rattle.removal.specs.Tables.{listWords, marksBelow, Stepped, Automaton}
+use Rattle.removal.specs.Step.{Marked}
+use Rattle.removal.proofs.Listing.Region.{table-at, table-length}
+use Rattle.removal.proofs.Listing.KeptLaws.{automaton-same}
 use Rattle.removal.specs.declared.rows.Layout.{Layout}
 use Rattle.removal.specs.declared.rows.Step.{Step}
 use Rattle.removal.specs.declared.rows.Step.the-variants.{Dead, Live}

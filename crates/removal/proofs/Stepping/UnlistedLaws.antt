@@ -11,10 +11,10 @@ use Rattle.timing.specs.Lists.{isNil}
 use Rattle.timing.specs.Marks.{PathList, pathsOf, tailsOf, tails, mark}
 use Rattle.theorems.proofs.Lists.{holds, anyOf-elim, of-flatMap}
 use Rattle.theorems.proofs.Marks.{Prefix, Tail, begins, prefix-sound, mark-tail, mark-prefix}
-use Rattle.classes.specs.Classes.{Filled}
-use Rattle.classes.specs.Tables.{Stepped}
-use Rattle.classes.proofs.FlatLaws.{path-edge, tail-edge}
-use Rattle.classes.proofs.MarkLaws.{marks-first, live-all}
+use Rattle.removal.specs.Classes.{Filled}
+use Rattle.removal.specs.Tables.{Stepped}
+use Rattle.removal.proofs.Listing.FlatLaws.{path-edge, tail-edge}
+use Rattle.removal.proofs.Listing.MarkLaws.{marks-first, live-all}
 use Rattle.removal.specs.Names.{Unlisted}
 
 module _ (L : PathList) (e : ℕ) (m : List ℕ) (none : Unlisted (L .edges) e) where

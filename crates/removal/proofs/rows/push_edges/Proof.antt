@@ -5,7 +5,7 @@ use mathlib.Core.Path.{_≡_, refl, sym, _∙_, subst}
 use mathlib.Core.List.{List}
 use lib.ListN.{getD, take}
 use borrow.Author.Needs.{needs}
-use Rattle.classes.specs.Table.{table}
+use Rattle.removal.specs.Table.{table}
 use Rattle.removal.specs.Reach.{Flagging, FromSlot}
 use Rattle.removal.proofs.Building.ChainLaws.{chainLeft}
 use Rattle.removal.proofs.Reaching.ReachLaws.{ready-still}

@@ -7,9 +7,9 @@ use lib.ListN.{length, getD, take}
 use borrow.Author.Needs.{needs}
 use Rattle.timing.specs.Graphs.{nodeOf}
 use Rattle.timing.specs.Marks.{pathsOf}
-use Rattle.classes.specs.Classes.{marksAt}
-use Rattle.classes.specs.Tables.{Stepped}
-use Rattle.classes.specs.Step.{Marked}
+use Rattle.removal.specs.Classes.{marksAt}
+use Rattle.removal.specs.Tables.{Stepped}
+use Rattle.removal.specs.Step.{Marked}
 use Rattle.removal.specs.declared.rows.Layout.{Layout}
 use Rattle.removal.specs.declared.rows.Step.{Step}
 use Rattle.removal.specs.Slots.{slots}

@@ -1,0 +1,27 @@
+-- The automaton of the list: laws of tables, of classes and of marks, and of the passes that make the tables.
+pub mod Region
+pub mod ClassLaws
+pub mod FitLaws
+pub mod MarkLaws
+pub mod WordLaws
+pub mod KeptLaws
+pub mod BucketLaws
+pub mod SortLaws
+pub mod SumLaws
+pub mod KidLaws
+pub mod ChildLaws
+pub mod SearchLaws
+pub mod AlongLaws
+pub mod LinkLaws
+pub mod LocLaws
+pub mod LinkingLaws
+pub mod PlaceLaws
+pub mod StepLaws
+pub mod PathLaws
+pub mod NumberLaws
+pub mod FewLaws
+pub mod LevelLaws
+pub mod GrowLaws
+pub mod NumberedLaws
+pub mod FlatLaws
+pub mod MadeLaws
