@@ -8,6 +8,8 @@
 // A deck's tables and slices: starts, ends, early and late delays, listed edges, lengths, marked nodes.
 // What was read is then written, and what was written is then read.
 // Crate `cases` says how a slice is packed.
+#![tactic(auto)]
+
 use libc::STDIN_FILENO;
 use packed_lists::take_number;
 

@@ -4,3 +4,4 @@
 // makes no difference but for 31, what a removal answers in any room from what `size_from_design` or
 // `size_from_graph` told, and which path and edge are at fault where one of these four, `test_list` or `test_deck`
 // refuses 22 to 24. There is no code here: specs/ says what a call is, and proofs/ has the theorems.
+#![tactic(auto)]

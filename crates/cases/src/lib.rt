@@ -2,6 +2,8 @@
 // numbers are stored, how many more there are, and the stored numbers. Each further number is the last
 // one once more; or the rise from number to number stands behind the two counts. So slices need not
 // belong together, and a long one takes few bytes.
+#![tactic(auto)]
+
 ghost use Rattle.std.specs.Prelude.{◌+◌, ◌-◌, min, ◌≡◌, map, length, take};
 ghost use Rattle.std.proofs.lemmas.List.Edits.{sets};
 ghost use Rattle.timing.specs.Delays.{delay_of};

@@ -1,4 +1,6 @@
 // Reading a deck of bytes into lent tables.
+#![tactic(auto)]
+
 ghost use Rattle.std.specs.Prelude.{◌≡◌, length};
 ghost use Rattle.timing.specs.Calls.{filled, deck_read, deck_answer};
 

@@ -1,6 +1,8 @@
 // The tests of a design, as steps of a chain. Each test passes over every edge, or every marked node, before the next. A step
 // takes the verdict of the tests before it, and looks at nothing where they refused. Those of the edges run only where a
 // quick pass does not find that all edges pass.
+#![tactic(auto)]
+
 ghost use Rattle.std.specs.Prelude.{◌≡◌, [], leb, length};
 ghost use Rattle.timing.specs.Lists.{upto};
 ghost use Rattle.timing.specs.Refusals.{◌then◌, first_bad};

@@ -1,6 +1,8 @@
 // Slices read for all indices and counts: what is not there is 0, and a front ends where the slice ends. An
 // index that comes out of a table then needs no proof. Beside them: a slice
 // zeroed, one filled, the smaller of two counts, and a number as a count.
+#![tactic(auto)]
+
 ghost use Rattle.std.specs.Prelude.{◌≤◌, min, ◌≡◌, pos, length, get_or, take, replicate};
 
 // The number at an index, or 0 past the end.

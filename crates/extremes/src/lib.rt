@@ -1,4 +1,6 @@
 // The larger and the smaller of two times.
+#![tactic(auto)]
+
 ghost use Rattle.std.specs.Prelude.{◌≡◌};
 ghost use Rattle.timing.specs.Times.{larger as largerTime, smaller as smallerTime};
 

@@ -1,4 +1,6 @@
 // Test 32, well-formed true graphs, in time linear in nodes, edges, marked nodes and copies.
+#![tactic(auto)]
+
 ghost use Rattle.std.specs.Prelude.{◌≡◌, true, false, ◌&&◌, ◌||◌, [], ◌+◌, ◌≤◌, ◌<◌, min, T, eqb, ltb, leb, length, get_or, set};
 ghost use Rattle.timing.specs.Lists.{all_of, upto};
 ghost use Rattle.timing.specs.Graphs.{design, graph, edge};

@@ -1,4 +1,6 @@
 // Reading a packed true graph.
+#![tactic(auto)]
+
 ghost use Rattle.std.specs.Prelude.{◌≡◌};
 ghost use Rattle.timing.specs.Calls.{graph_slices, room_of, graph_read, graph_answer};
 ghost use Rattle.timing.specs.Calls.{nodes_after, endpoints_after, starts_after, ends_after, names_after};

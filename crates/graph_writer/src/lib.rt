@@ -1,4 +1,6 @@
 // Writing a packed true graph.
+#![tactic(auto)]
+
 ghost use Rattle.std.specs.Prelude.{◌≡◌};
 ghost use Rattle.timing.specs.GraphBytes.{packed_graph};
 ghost use Rattle.timing.specs.Calls.{graph_slices, graph_of, writing, room_after_writing, graph_write_tests};

@@ -1,5 +1,7 @@
 // The C interface. Each function answers one signed 64-bit number; a refusal is minus the sum of its number
 // and 256 times its place. A slice is a pointer and a length (include/jaqhweni.h).
+#![tactic(auto)]
+
 ghost use Rattle.std.specs.Prelude.{◌≡◌, ◌<◌, pos, neg_ℤ, length};
 ghost use Rattle.timing.specs.Graphs.{design};
 ghost use Rattle.timing.specs.Marks.{path_list};

@@ -3,6 +3,8 @@
 // `late_or_not` tests what it is lent, as `times` does, and then goes over the copies in order
 // (`search`). The arrival of a copy is the largest over the edges into it, which stand next to one
 // another (`fanin`). The search stops at the first copy where paths end with an arrival above T.
+#![tactic(auto)]
+
 ghost use Rattle.std.specs.Prelude.{◌≡◌, length};
 ghost use Rattle.timing.specs.Graphs.{design};
 ghost use Rattle.timing.specs.Calls.{graph_slices, late_or_not, arrivals_after_late};

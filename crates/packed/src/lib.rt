@@ -1,4 +1,6 @@
 // One number to bytes and back.
+#![tactic(auto)]
+
 ghost use Rattle.std.specs.Prelude.{◌≡◌, ℕ, ◌+◌, ◌≤◌, cond, ltb, leb, length, drop};
 ghost use mathlib.Core.List.{[], ◌∷◌, flat_map};
 ghost use Rattle.timing.specs.Numbers.{packed, groups_in, read_number, write_answer, written_room};

@@ -3,6 +3,8 @@
 // many bytes AA as byte 2 says; 1 reads at the place in byte 1 of the bytes from 4 on, as many as
 // byte 2 says; 3 writes the row of the three numbers in bytes 4 to 15 as 0 writes one; anything else
 // takes the number in bytes 4 to 7 as a packed delay, and packs it again.
+#![tactic(auto)]
+
 ghost use Rattle.std.specs.Prelude.{ℕ, ◌+◌, ◌≤◌, ◌≡◌, length};
 
 use libc::STDIN_FILENO;

@@ -1,4 +1,6 @@
 // The numbers that stand for delays in packed bytes.
+#![tactic(auto)]
+
 ghost use Rattle.std.specs.Prelude.{◌≡◌, ℕ, ℤ};
 ghost use Rattle.timing.specs.Delays.{packed_delay, delay_of};
 

@@ -1,4 +1,6 @@
 // Packed numbers one after the other: how many bytes they take, and how far a reader gets.
+#![tactic(auto)]
+
 ghost use Rattle.std.specs.Prelude.{◌≡◌, ℕ, ◌*◌, ◌≤◌, length};
 ghost use mathlib.Core.List.{flat_map};
 ghost use Rattle.timing.specs.Numbers.{packed};

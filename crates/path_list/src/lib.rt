@@ -1,6 +1,8 @@
 // The tests of a list of paths against a design, as steps of a chain. Each test passes over every path
 // before the next. A step takes the verdict of the tests before it, and looks at nothing where they
 // refused. Those of the paths run only where quick passes do not find that all paths pass.
+#![tactic(auto)]
+
 ghost use Rattle.std.specs.Prelude.{◌≡◌, List, [], ℕ, ℤ, leb, length};
 ghost use Rattle.timing.specs.Refusals.{◌then◌, first_fault};
 ghost use Rattle.timing.specs.Refusals.{unless as passedIf};

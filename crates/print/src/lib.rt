@@ -1,4 +1,6 @@
 // What the programs print, on standard output. What is printed is compared, not proved.
+#![tactic(auto)]
+
 ghost use Rattle.std.specs.Prelude.{◌≡◌, nat_abs};
 
 use libc::STDOUT_FILENO;

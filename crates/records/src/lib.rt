@@ -2,6 +2,8 @@
 //
 // `node_record` goes over the copies for the times of one node (`node`), and `node_records` goes over
 // them once for all nodes (`gather`).
+#![tactic(auto)]
+
 ghost use Rattle.std.specs.Prelude.{◌≡◌, length};
 ghost use Rattle.timing.specs.Calls.{record_of, test_records, has_times, arrival_of, required_of, slack_of, earliest_of, records_after};
 

@@ -21,6 +21,8 @@
 // - `classes::list_tables`: 24 bytes for each of 2,048 paths, 49,152 bytes, or 1,536 for at most 64 paths; and while these are sorted two counts for
 //   each of 128 digits, 2,048 bytes.
 // The most at a time is 231,428 bytes: those of `remove_large` or `size_large`, `remove` or `size`, `build` and `list_tables`.
+#![tactic(auto)]
+
 ghost use Rattle.std.specs.Prelude.{◌≡◌, ◌≤◌, length};
 ghost use Rattle.timing.specs.Graphs.{design};
 ghost use Rattle.timing.specs.Marks.{path_list};

@@ -1,6 +1,8 @@
 // Runs series of removals from standard input, and prints of each what it is told beforehand, its answer,
 // the graph if it is small, and a sum over each lent slice afterwards. tests/removal_cases.py says what
 // the input and the output are.
+#![tactic(auto)]
+
 mod output;
 mod remove;
 mod tables;

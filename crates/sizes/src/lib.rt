@@ -1,5 +1,7 @@
 // Tests of lengths. 30: lent slices that belong together, and the lengths of the paths against the flat list. 31: the scratch. 33 and
 // 34: a result against its room.
+#![tactic(auto)]
+
 ghost use Rattle.std.specs.Prelude.{◌≡◌, List, ℕ};
 ghost use Rattle.timing.specs.Refusals.{◌then◌};
 ghost use Rattle.timing.specs.Graphs.{design};

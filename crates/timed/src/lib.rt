@@ -1,4 +1,6 @@
 // The tests of the calls that take a design, a true graph and T, in document 01's order: 30, 10 to 16, 25, 32.
+#![tactic(auto)]
+
 ghost use Rattle.std.specs.Prelude.{◌≡◌, ℕ, List, length};
 ghost use Rattle.timing.specs.Refusals.{◌then◌};
 ghost use Rattle.timing.specs.Tests.{design_sizes, room_sizes};

@@ -3,6 +3,8 @@
 // `times` tests what it is lent (`tests`), and then fills the four slices (`copies`): arrivals and
 // earliest arrivals by one pass over the copies, each with the edges into it (`arrivals`), required times by
 // one pass back over the edges (`requireds`), and slacks from arrivals and required times.
+#![tactic(auto)]
+
 ghost use Rattle.std.specs.Prelude.{◌≡◌, length};
 ghost use Rattle.timing.specs.Graphs.{design};
 ghost use Rattle.timing.specs.Calls.{graph_slices, test_times, arrivals_after, requireds_after, slacks_after, earliests_after};

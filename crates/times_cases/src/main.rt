@@ -4,6 +4,8 @@
 // records, and then ten slices: starts, ends, early and late delays, marked nodes, the nodes and the endpoint
 // numbers of the copies, start copies, end copies, design edges.
 // Crate `cases` says how a slice is packed; here each has a rise, so that a chain takes few bytes.
+#![tactic(auto)]
+
 mod input;
 mod say;
 

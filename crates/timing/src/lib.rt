@@ -1,5 +1,6 @@
 // The limits of documents 01 and 02, and the types that every call's answer is made of.
 // The definitions that the contracts cite are in specs/.
+#![tactic(auto)]
 
 pub const MAX_NODES: u32 = 4096;
 

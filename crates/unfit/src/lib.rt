@@ -1,4 +1,6 @@
 // The tests of unfit input, whole: of a design, of a list of paths with its design, and of a deck.
+#![tactic(auto)]
+
 ghost use Rattle.std.specs.Prelude.{◌≡◌};
 ghost use Rattle.timing.specs.Graphs.{design};
 ghost use Rattle.timing.specs.Marks.{path_list};

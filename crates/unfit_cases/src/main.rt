@@ -2,6 +2,8 @@
 // each of packed numbers: a count, and for each deck n, T, and then its seven slices: starts, ends, early
 // and late delays, marked nodes, listed edges, lengths.
 // Crate `cases` says how a slice is packed.
+#![tactic(auto)]
+
 use cases::{Slice, fill, unpack};
 use entries::{front, front_delays};
 use libc::STDIN_FILENO;

@@ -1,4 +1,6 @@
 // Refusals, and tests one after the other: the first that does not pass is the verdict.
+#![tactic(auto)]
+
 ghost use Rattle.std.specs.Prelude.{◌≡◌};
 ghost use Rattle.timing.specs.Refusals.{refusal, refusal_within, unless_fault, ◌then◌};
 ghost use Rattle.timing.specs.Refusals.{unless as passedIf};
