@@ -21,10 +21,10 @@ module _ {A : Type 0} (d : A) where
   -- a member has a place
   pub place_of_lem : {x : A} (l : List A) → Memᴰ x l → (j : ℕ) × (j < length l) × (get_or l j d ≡ x)
   place_of_lem [] m = absurd (Memᴰ.not-nil m)
-  place_of_lem {x} (y ∷ l) m =
+  place_of_lem {x = x} (y ∷ l) m =
       ⊎_elim
       (λ (e : x ≡ y). (0, omega arith, sym e))
-      (λ h. let r = place_of_lem l h in (suc r.0, omega (arith, r.1), r.2))
+      (λ h. let r = place_of_lem {x = x} l h in (suc r.0, omega (arith, r.1), r.2))
       (Memᴰ.cases_cons m)
 
   -- a test of each with the one after it, by places

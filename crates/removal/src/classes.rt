@@ -14,7 +14,7 @@ use entries::zero;
 
 // Where the tables of a list stand in the scratch: `scratch[kid + u]` is entry u of `kid`. How many entries each has goes by the number of
 // listed edges.
-#[derive(Drop)]
+#[derive(Clone, Copy)]
 pub(crate) struct Lists {
     pub(crate) edges: usize,
     pub(crate) kid: usize,

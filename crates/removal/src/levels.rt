@@ -8,7 +8,7 @@ use crate::classes::Lists;
 use crate::items::sort_items;
 
 // How many paths are left after a level, and how many classes there are so far.
-#[derive(Drop)]
+#[derive(Clone, Copy)]
 struct Level {
     left: usize,
     id: usize,

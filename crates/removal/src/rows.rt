@@ -11,7 +11,7 @@ use crate::classes::Lists;
 // The slots stand next, and then the tables that the passes work in, each with a word for each edge: `seen` is 1 while the patches of a row are
 // collected, where an edge has one, `cover` counts the reached marks that patch it, `patch` and `lead` are the patches of the row at hand, and `comes`
 // has the flags from which its edges come.
-#[derive(Drop)]
+#[derive(Clone, Copy)]
 pub(crate) struct Layout {
     pub(crate) copies: usize,
     pub(crate) edges: usize,

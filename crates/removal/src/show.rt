@@ -10,7 +10,7 @@ use crate::patches::{collect, note_places};
 use crate::rows::{Layout, run_from};
 
 // How many slots are shown, and how many edges come to them from shown ones.
-#[derive(Drop)]
+#[derive(Clone, Copy)]
 pub(crate) struct Counts {
     pub(crate) copies: usize,
     pub(crate) edges: usize,
@@ -58,7 +58,7 @@ fn patched_edges(l: Layout, scratch: &[u32], c: usize, j: usize, k: usize, defau
 }
 
 // The row of slot j of copy c: how many patches it has, and how many edges come to it from shown slots.
-#[derive(Drop)]
+#[derive(Clone, Copy)]
 pub(crate) struct Row {
     pub(crate) patches: usize,
     pub(crate) edges: usize,

@@ -1,0 +1,39 @@
+use Prim.Native.Nat.{◌-◌, ◌≤◌}
+use native.Mathlib.Omega.{arith}
+use mathlib.Core.Path.{◌≡◌, sym, ◌∙◌, ap}
+use mathlib.Core.List.{[]}
+use borrow.Author.Rules.{rules}
+use Rattle.timing.specs.declared.Verdict.TheVariants.{Refused}
+use Rattle.timing.specs.Lists.{upto}
+use Rattle.timing.specs.Refusals.{first_bad}
+use Rattle.timing.specs.Graphs.{design}
+use Rattle.timing.specs.Tests.{early_above_late}
+use Rattle.timing.proofs.FirstBad.{bad_here, good_here, none_left, all_left}
+use Rattle.design.proofs.edges.and_ordered.Goals as goal
+
+pub loop-k-init : goal.loop-k-init
+loop-k-init c = let a = c.args in (omega arith, all_left 15 (early_above_late (design 0 [] [] a.early.now a.late.now [])) a.m)
+
+pub returns-then-early_above_late : goal.returns-then-early_above_late
+returns-then-early_above_late c =
+    let a = c.args in
+    rw c.in-Passed.is
+    (ap Refused c.refuse.ensures
+    ∙ sym (bad_here 15 (early_above_late (design 0 [] [] a.early.now a.late.now [])) c.loop-k.k a.m c.loop-k-test.true (sym c.early_above_late.ensures ∙ c.if-early_above_late.true))
+    ∙ c.loop-k.invariant.1)
+
+pub overflow_add-k : goal.overflow_add-k
+overflow_add-k c = omega arith
+
+pub loop-k-smaller : goal.loop-k-smaller
+loop-k-smaller c = omega arith
+
+pub loop-k-preserved : goal.loop-k-preserved
+loop-k-preserved c =
+    let a = c.args in
+    (omega arith, good_here 15 (early_above_late (design 0 [] [] a.early.now a.late.now [])) c.loop-k.k a.m c.loop-k-test.true (sym c.early_above_late.ensures ∙ c.if-early_above_late.false) ∙ c.loop-k.invariant.1)
+
+pub returns : goal.returns
+returns c =
+    let a = c.args in
+    rw c.in-Passed.is (sym (none_left 15 (early_above_late (design 0 [] [] a.early.now a.late.now [])) c.loop-k.k a.m c.loop-k-test.false) ∙ c.loop-k.invariant.1)

@@ -1,0 +1,6 @@
+-- A refusal is passed on; where there is none, the test decides.
+use borrow.Author.Rules.{rules}
+use Rattle.graph.proofs.and_graph_test.Goals as goal
+
+pub returns : goal.returns
+returns c = rw c.in-Passed.is c.graph_test.ensures

@@ -1,0 +1,25 @@
+-- The edges from i on pass where all do; the flags of those before it are set.
+use Prim.Native.Nat.{ℕ, ◌-◌, ◌≤◌, ◌<◌}
+use native.Mathlib.Omega.{arith}
+use mathlib.Core.Path.{◌≡◌, refl, sym, ◌∙◌, subst}
+use lib.ListN.{length, get_or}
+use borrow.Author.Rules.{rules}
+use borrow.Author.Tests.{not-true, not-false}
+use Rattle.timing.specs.Lists.{all_of, upto}
+use Rattle.graph.specs.Passes.{edge_count, FlagsSet, edge_passes}
+use Rattle.graph.proofs.Walk.{bad_here, good_here, none_left, all_left}
+use Rattle.graph.proofs.Flags.{flags_none, flags_next}
+use Rattle.graph.proofs.Keys.{lowest_key, lowest_next, passes_is, joins}
+use Rattle.graph.proofs.edges_pass.Given as goal
+
+abbrev pub invariant-loop-i : goal.invariant-loop-i
+invariant-loop-i l =
+    let passes = edge_passes l.starts l.ends l.nodes l.from l.to l.via in
+    (l.i ≤ l.m)
+    × (l.lowest ≡ lowest_key l.to l.via l.i)
+    × (all_of passes (upto (l.m - l.i) l.i) ≡ all_of passes (upto l.m 0))
+    × FlagsSet l.initial.cin l.to l.i l.cin
+    × FlagsSet l.initial.cout l.from l.i l.cout
+
+abbrev pub decreases-loop-i : goal.decreases-loop-i
+decreases-loop-i l = l.m - l.i

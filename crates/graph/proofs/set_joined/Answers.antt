@@ -1,0 +1,12 @@
+-- A flag is set in each.
+use Prim.Native.Nat.{ℕ}
+use mathlib.Core.Path.{ap}
+use mathlib.Core.Bool.{true}
+use lib.ListN.{set}
+use borrow.Author.Rules.{rules}
+use Rattle.graph.proofs.set_joined.Goals as goal
+
+pub returns : goal.returns
+returns c =
+    let a = c.args in
+    (ap (λ (v : ℕ). set a.cin.now v true) c.wide-t.ensures, ap (λ (v : ℕ). set a.cout.now v true) c.wide-s.ensures)

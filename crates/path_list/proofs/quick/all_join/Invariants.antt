@@ -1,0 +1,27 @@
+-- Path p starts at `from`, and the edges of each path before it join.
+-- the edges of path p join
+use Prim.Native.Nat.{ℕ, ◌+◌, ◌-◌, ◌≤◌, ◌<◌}
+use native.Mathlib.Omega.{arith}
+use mathlib.Core.Path.{◌≡◌, sym, subst}
+use mathlib.Core.List.{List, []}
+use lib.Dec.{T}
+use lib.ListN.{length, get_or, take, drop}
+use borrow.Author.Count.{below_more}
+use borrow.Author.Tests.{not-false}
+use Rattle.timing.specs.declared.Fault.TheVariants.{None}
+use Rattle.timing.specs.Graphs.{design}
+use Rattle.timing.specs.Tests.{meets, first_break}
+use Rattle.path_list.proofs.Laws.{offset, offset_next, offset_most}
+use Rattle.path_list.proofs.Sound.{cut_sound, below_part}
+use Rattle.path_list.proofs.quick.all_join.Given as goal
+
+abbrev pub Joined : List ℕ → List ℕ → List ℕ → List ℕ → ℕ → Type 0
+Joined starts ends listed lengths p =
+    first_break (meets (design 0 starts ends [] [] [])) 0 (take (get_or lengths p 0) (drop (offset lengths p) listed)) ≡ None
+
+abbrev pub invariant-loop-p : goal.invariant-loop-p
+invariant-loop-p l =
+    (l.p ≤ length l.lengths) × (l.from ≡ offset l.lengths l.p) × ((q : ℕ) → q < l.p → Joined l.starts l.ends l.listed l.lengths q)
+
+abbrev pub decreases-loop-p : goal.decreases-loop-p
+decreases-loop-p l = length l.lengths - l.p

@@ -1,0 +1,6 @@
+-- The largest room is the limits.
+use borrow.Author.Rules.{rules}
+use Rattle.sizes.proofs.largest_answer.Goals as goal
+
+pub returns : goal.returns
+returns c = c.room_answer.ensures

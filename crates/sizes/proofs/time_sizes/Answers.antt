@@ -1,0 +1,6 @@
+-- One test after the other.
+use borrow.Author.Rules.{rules}
+use Rattle.sizes.proofs.time_sizes.Goals as goal
+
+pub returns : goal.returns
+returns c = rw (c.then.ensures, c.same_sizes-more.ensures, c.same_sizes-sizes.ensures)
