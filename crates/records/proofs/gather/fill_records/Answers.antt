@@ -34,7 +34,6 @@ pub loop-c-preserved : goal.loop-c-preserved
 loop-c-preserved c =
     let w = c.count_copy in
     let e = w.ensures in
-    let m = w.new.1.1.1.1.1 in
     let l = c.loop-c in
     let a = c.args in (
       omega (arith, c.loop-c-test.true),

@@ -7,21 +7,6 @@ use Rattle.records.proofs.Records.{records_filled, records_kept, records_sizes}
 use borrow.Author.Rules.{rules}
 use Rattle.records.proofs.gather.records_where.Goals as goal
 
-pub records-where-spec : {M : Type 1} → statement M
-records-where-spec =
-    tie.close
-    (tie.spec
-    enum_told
-    fill-records-requires
-    enum-known-tested
-    same_length
-    same-length-2
-    same-length-3
-    same-length-4
-    same-length-5
-    returns
-    returns-2)
-
 pub fill_records-requires : goal.fill_records-requires
 fill_records-requires c =
     let a = c.args in

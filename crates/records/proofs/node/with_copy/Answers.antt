@@ -18,9 +18,8 @@ returns-in-None c =
 pub returns-in-Times : goal.returns-in-Times
 returns-in-Times c =
     let a = c.args in
-    let h = c.known_told-1.given in
-    four (read_back c.larger.result c.larger.type_inv ∙ c.larger.ensures ∙ ap₂ larger (read_back c.in-Times.a h.0.1) (to_z-of_z c.ranges.arrival))
-    (read_back c.smaller.result c.smaller.type_inv ∙ c.smaller.ensures ∙ ap₂ smaller (read_back c.in-Times.r h.1.0.1) (to_z-of_z c.ranges.required))
-    (read_back c.smaller-in-Times.result c.smaller-in-Times.type_inv ∙ c.smaller-in-Times.ensures ∙ ap₂ smaller (read_back c.in-Times.s h.1.1.0.1) (to_z-of_z c.ranges.slack))
-    (read_back c.smaller-in-Times-2.result c.smaller-in-Times-2.type_inv ∙ c.smaller-in-Times-2.ensures ∙ ap₂ smaller (read_back c.in-Times.e h.1.1.1.0.1) (to_z-of_z c.ranges.earliest))
+    four (read_back c.larger.result c.larger.type_inv ∙ c.larger.ensures ∙ ap₂ larger (read_back c.in-Times.a (search rules)) (to_z-of_z c.ranges.arrival))
+    (read_back c.smaller.result c.smaller.type_inv ∙ c.smaller.ensures ∙ ap₂ smaller (read_back c.in-Times.r (search rules)) (to_z-of_z c.ranges.required))
+    (read_back c.smaller-in-Times.result c.smaller-in-Times.type_inv ∙ c.smaller-in-Times.ensures ∙ ap₂ smaller (read_back c.in-Times.s (search rules)) (to_z-of_z c.ranges.slack))
+    (read_back c.smaller-in-Times-2.result c.smaller-in-Times-2.type_inv ∙ c.smaller-in-Times-2.ensures ∙ ap₂ smaller (read_back c.in-Times.e (search rules)) (to_z-of_z c.ranges.earliest))
     ∙ ap (λ (t : NodeTimes). with_copy t a.arrival a.required a.slack a.earliest) (sym c.in-Times.is)

@@ -2,19 +2,6 @@
 use borrow.Author.Rules.{rules}
 use Rattle.records.proofs.tests.records_tests.Goals as goal
 
-pub records-tests-spec : {M : Type 1} → statement M
-records-tests-spec =
-    tie.close
-    (tie.spec
-    time-sizes-requires
-    same-sizes-requires
-    time-sizes-requires-2
-    unless-requires
-    then-requires
-    then-requires-2
-    then-requires-3
-    returns)
-
 pub returns : goal.returns
 returns c =
     rw (c.then-3.ensures, c.then-2.ensures, c.then.ensures, c.unless-count.ensures, c.time_sizes-others.ensures, c.same_sizes-lent.ensures, c.time_sizes-sizes.ensures)
