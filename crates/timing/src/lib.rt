@@ -25,7 +25,7 @@ pub const WORDS_PER_UNIT: usize = 8;
 
 // A refusal: its number in documents 01 and 02, and the place of the fault. Where the place is a path (22 to 24), `index`
 // is a second one: that of an edge within the path, or 0 where the path is empty. Else it is 0.
-#[derive(Drop)]
+#[derive(Clone, Copy)]
 pub struct Refusal {
     pub number: u32,
     pub place: usize,
@@ -33,7 +33,7 @@ pub struct Refusal {
 }
 
 // What a test answers.
-#[derive(Drop)]
+#[derive(Clone, Copy)]
 pub enum Verdict {
     Passed,
     Refused(Refusal),
@@ -41,7 +41,7 @@ pub enum Verdict {
 
 // What a test of one path answers: the index within the path of the first edge that fails it (0 where it has
 // none), or that the path passes.
-#[derive(Drop)]
+#[derive(Clone, Copy)]
 pub enum Fault {
     At(usize),
     None,
@@ -49,7 +49,7 @@ pub enum Fault {
 
 // The number that some bytes begin with: its value and how many bytes it takes; the bytes end
 // inside it; or it is not shortest or too large.
-#[derive(Drop)]
+#[derive(Clone, Copy)]
 pub enum Groups {
     Number { value: u32, size: usize },
     Ended,
@@ -57,35 +57,35 @@ pub enum Groups {
 }
 
 // What reading a number at a place answers: its value and the place behind it.
-#[derive(Drop)]
+#[derive(Clone, Copy)]
 pub enum NumberRead {
     Value { value: u32, next: usize },
     Refused(Refusal),
 }
 
 // A number and the place behind it, where it is known to stand there.
-#[derive(Drop)]
+#[derive(Clone, Copy)]
 pub struct Taken {
     pub value: u32,
     pub next: usize,
 }
 
 // How far a look at bytes gets: the place behind what it looked at.
-#[derive(Drop)]
+#[derive(Clone, Copy)]
 pub enum Looked {
     At(usize),
     Refused(Refusal),
 }
 
 // What a writer answers: the place behind the last byte that it wrote.
-#[derive(Drop)]
+#[derive(Clone, Copy)]
 pub enum Written {
     End(usize),
     Refused(Refusal),
 }
 
 // What the deck reader answers: n, how many places of each table it filled, and T.
-#[derive(Drop)]
+#[derive(Clone, Copy)]
 pub enum DeckRead {
     Deck {
         nodes: u32,
@@ -99,14 +99,14 @@ pub enum DeckRead {
 }
 
 // What a removal, the call that tells its size and the reader of a packed true graph answer.
-#[derive(Drop)]
+#[derive(Clone, Copy)]
 pub enum GraphMade {
     Counts { copies: usize, edges: usize },
     Refused(Refusal),
 }
 
 // "Either its three times or the answer none", and with the times the earliest arrival.
-#[derive(Drop)]
+#[derive(Clone, Copy)]
 pub enum NodeTimes {
     Times {
         arrival: i64,
@@ -117,21 +117,21 @@ pub enum NodeTimes {
     None,
 }
 
-#[derive(Drop)]
+#[derive(Clone, Copy)]
 pub struct NodeRecord {
     pub node: u32,
     pub times: NodeTimes,
 }
 
 // What the call for a node's record answers.
-#[derive(Drop)]
+#[derive(Clone, Copy)]
 pub enum NodeAnswer {
     Record(NodeRecord),
     Refused(Refusal),
 }
 
 // Whether a path takes longer than T: the lowest copy where paths end with an arrival above T, or that nothing is late.
-#[derive(Drop)]
+#[derive(Clone, Copy)]
 pub enum Lateness {
     Late { copy: usize },
     OnTime,
