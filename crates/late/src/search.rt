@@ -35,7 +35,7 @@ fn find_late(
     arrivals: &mut [i64],
 ) -> Lateness
     requires fit { Fit late.now (graph_slices nodes.now endpoint.now from.now to.now via.now) }
-    requires fact { let copies = length nodes.now in
+    requires as_long { let copies = length nodes.now in
         (length arrivals.old ≡ copies) × (length endpoint.now ≡ copies) }
     ensures { let S = graph_slices nodes.now endpoint.now
         from.now to.now via.now in

@@ -86,9 +86,9 @@ pub(crate) fn fill_arrivals(
     arrivals: &mut [i64],
     earliests: &mut [i64],
 )
-    requires fact { let S = graph_slices nodes.now [] from.now to.now via.now in
+    requires fit { let S = graph_slices nodes.now [] from.now to.now via.now in
         Fit late.now S × Fit early.now S }
-    requires arrivals_len { (length arrivals.old ≡ length nodes.now) × (length earliests.old ≡ length nodes.now) }
+    requires as_long { (length arrivals.old ≡ length nodes.now) × (length earliests.old ≡ length nodes.now) }
     ensures { let S = graph_slices nodes.now [] from.now to.now via.now in
         let copies = upto (length S.nodes) 0 in
         (arrivals.new ≡ map (arrival_at (delay_of late.now) (pos 0) (graph_of S)) copies)

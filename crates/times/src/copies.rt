@@ -16,7 +16,7 @@ use timing::Verdict;
 // Slack is required time less arrival.
 fn fill_slacks(arrivals: &[i64], requireds: &[i64], slacks: &mut [i64])
     requires small { Small arrivals.now × Small requireds.now }
-    requires fact { let copies = length slacks.old in
+    requires as_long { let copies = length slacks.old in
         (length arrivals.now ≡ copies) × (length requireds.now ≡ copies) }
     ensures { let ats = arrivals.now in
         let rts = requireds.now in
@@ -46,13 +46,13 @@ fn fill_times(
     slacks: &mut [i64],
     earliests: &mut [i64],
 )
-    requires fact { let S = graph_slices nodes.now endpoint.now from.now to.now via.now in
+    requires fit { let S = graph_slices nodes.now endpoint.now from.now to.now via.now in
         Fit late.now S
         × Fit early.now S
         × Onward (graph_of S)
         × (allowed ≤ 1000000000)
         × (length endpoint.now ≡ length nodes.now) }
-    requires fact_2 { let copies = length nodes.now in
+    requires as_long { let copies = length nodes.now in
         (length arrivals.old ≡ copies)
         × (length requireds.old ≡ copies)
         × (length slacks.old ≡ copies)

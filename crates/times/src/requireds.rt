@@ -70,9 +70,9 @@ pub(crate) fn fill_requireds(
     allowed: u32,
     requireds: &mut [i64],
 )
-    requires fact { let S = graph_slices nodes.now endpoint.now from.now to.now via.now in
+    requires fit { let S = graph_slices nodes.now endpoint.now from.now to.now via.now in
         Fit delays.now S × Onward (graph_of S) }
-    requires fact_2 { let copies = length nodes.now in
+    requires as_long { let copies = length nodes.now in
         (allowed ≤ 1000000000) × (length requireds.old ≡ copies) × (length endpoint.now ≡ copies) }
     ensures { let S = graph_slices nodes.now endpoint.now
         from.now to.now via.now in

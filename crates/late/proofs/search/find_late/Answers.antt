@@ -25,11 +25,11 @@ arrive-first-requires c =
     let l = c.loop-c in
     let a = c.args in
     let S = graph_slices a.nodes.now a.endpoint.now a.from.now a.to.now a.via.now in
-    searched_ready a.late.now S c.requires.fit (pos a.allowed) a.arrivals.now c.requires.fact.0 l.c l.first l.arrivals l.invariant c.loop-c-test.true
+    searched_ready a.late.now S c.requires.fit (pos a.allowed) a.arrivals.now c.requires.as_long.0 l.c l.first l.arrivals l.invariant c.loop-c-test.true
 
 pub bounds-endpoint-c : goal.bounds-endpoint-c
 bounds-endpoint-c c =
-    omega (arith, c.loop-c-test.true, c.requires.fact.1)
+    omega (arith, c.loop-c-test.true, c.requires.as_long.1)
 
 pub offset_bounds-arrivals-c : goal.offset_bounds-arrivals-c
 offset_bounds-arrivals-c c =
@@ -37,7 +37,7 @@ offset_bounds-arrivals-c c =
 
 pub slice_copy_out-is_late : goal.slice_copy_out-is_late
 slice_copy_out-is_late c =
-    omega (arith, c.loop-c-test.true, c.arrive-first.auto.arrivals, c.loop-c.invariant.done.size, c.requires.fact.0)
+    omega (arith, c.loop-c-test.true, c.arrive-first.auto.arrivals, c.loop-c.invariant.done.size, c.requires.as_long.0)
 
 pub shape_of-arrivals-then-is_late : goal.shape_of-arrivals-then-is_late
 shape_of-arrivals-then-is_late c = c.arrive-first.auto.arrivals ∙ c.loop-c.invariant.done.size
@@ -48,8 +48,8 @@ returns-then-is_late c =
     let l = c.loop-c in
     let a = c.args in
     let S = graph_slices a.nodes.now a.endpoint.now a.from.now a.to.now a.via.now in (
-      sym (late_here (late_at (delay_of a.late.now) (pos a.allowed) (graph_of S)) (length a.nodes.now) l.c c.loop-c-test.true l.invariant.none ((let by : let a = c.args in late_at (delay_of a.late.now) (pos a.allowed) (graph_of (graph_slices a.nodes.now a.endpoint.now a.from.now a.to.now a.via.now)) c.loop-c.c ≡ c.is_late.result = let l = c.loop-c in let a = c.args in let S = graph_slices a.nodes.now a.endpoint.now a.from.now a.to.now a.via.now in let after = c.arrive-first.new.arrivals in let found = found_arrival a.late.now S c.requires.fit (pos a.allowed) a.arrivals.now c.requires.fact.0 l.c l.first l.arrivals l.invariant c.loop-c-test.true c.arrive-first.result c.arrive-first.ensures.0 after c.arrive-first.ensures.1 in sym (c.is_late.ensures ∙ ap (λ (z : ℤ). eqb (get_or a.endpoint.now l.c 0) 1 && lt_z (pos a.allowed) z) (read_back (get_or after l.c (pos 0)) c.is_late-arg-1.given ∙ found)) in by) ∙ c.if-is_late.true)),
-      found_written a.late.now S c.requires.fit (pos a.allowed) a.arrivals.now c.requires.fact.0 l.c l.first l.arrivals l.invariant c.loop-c-test.true c.arrive-first.result c.arrive-first.ensures.0 c.arrive-first.new.arrivals c.arrive-first.ensures.1,
+      sym (late_here (late_at (delay_of a.late.now) (pos a.allowed) (graph_of S)) (length a.nodes.now) l.c c.loop-c-test.true l.invariant.none ((let by : let a = c.args in late_at (delay_of a.late.now) (pos a.allowed) (graph_of (graph_slices a.nodes.now a.endpoint.now a.from.now a.to.now a.via.now)) c.loop-c.c ≡ c.is_late.result = let l = c.loop-c in let a = c.args in let S = graph_slices a.nodes.now a.endpoint.now a.from.now a.to.now a.via.now in let after = c.arrive-first.new.arrivals in let found = found_arrival a.late.now S c.requires.fit (pos a.allowed) a.arrivals.now c.requires.as_long.0 l.c l.first l.arrivals l.invariant c.loop-c-test.true c.arrive-first.result c.arrive-first.ensures.0 after c.arrive-first.ensures.1 in sym (c.is_late.ensures ∙ ap (λ (z : ℤ). eqb (get_or a.endpoint.now l.c 0) 1 && lt_z (pos a.allowed) z) (read_back (get_or after l.c (pos 0)) c.is_late-arg-1.given ∙ found)) in by) ∙ c.if-is_late.true)),
+      found_written a.late.now S c.requires.fit (pos a.allowed) a.arrivals.now c.requires.as_long.0 l.c l.first l.arrivals l.invariant c.loop-c-test.true c.arrive-first.result c.arrive-first.ensures.0 c.arrive-first.new.arrivals c.arrive-first.ensures.1,
     )
 
 pub overflow_add-c : goal.overflow_add-c
@@ -63,7 +63,7 @@ loop-c-preserved c =
     let l = c.loop-c in
     let a = c.args in
     let S = graph_slices a.nodes.now a.endpoint.now a.from.now a.to.now a.via.now in
-    searched_next a.late.now S c.requires.fit (pos a.allowed) a.arrivals.now c.requires.fact.0 l.c l.first l.arrivals l.invariant c.loop-c-test.true c.arrive-first.result c.arrive-first.ensures.0 c.arrive-first.new.arrivals c.arrive-first.ensures.1 ((let by : let a = c.args in late_at (delay_of a.late.now) (pos a.allowed) (graph_of (graph_slices a.nodes.now a.endpoint.now a.from.now a.to.now a.via.now)) c.loop-c.c ≡ c.is_late.result = let l = c.loop-c in let a = c.args in let S = graph_slices a.nodes.now a.endpoint.now a.from.now a.to.now a.via.now in let after = c.arrive-first.new.arrivals in let found = found_arrival a.late.now S c.requires.fit (pos a.allowed) a.arrivals.now c.requires.fact.0 l.c l.first l.arrivals l.invariant c.loop-c-test.true c.arrive-first.result c.arrive-first.ensures.0 after c.arrive-first.ensures.1 in sym (c.is_late.ensures ∙ ap (λ (z : ℤ). eqb (get_or a.endpoint.now l.c 0) 1 && lt_z (pos a.allowed) z) (read_back (get_or after l.c (pos 0)) c.is_late-arg-1.given ∙ found)) in by) ∙ c.if-is_late.false)
+    searched_next a.late.now S c.requires.fit (pos a.allowed) a.arrivals.now c.requires.as_long.0 l.c l.first l.arrivals l.invariant c.loop-c-test.true c.arrive-first.result c.arrive-first.ensures.0 c.arrive-first.new.arrivals c.arrive-first.ensures.1 ((let by : let a = c.args in late_at (delay_of a.late.now) (pos a.allowed) (graph_of (graph_slices a.nodes.now a.endpoint.now a.from.now a.to.now a.via.now)) c.loop-c.c ≡ c.is_late.result = let l = c.loop-c in let a = c.args in let S = graph_slices a.nodes.now a.endpoint.now a.from.now a.to.now a.via.now in let after = c.arrive-first.new.arrivals in let found = found_arrival a.late.now S c.requires.fit (pos a.allowed) a.arrivals.now c.requires.as_long.0 l.c l.first l.arrivals l.invariant c.loop-c-test.true c.arrive-first.result c.arrive-first.ensures.0 after c.arrive-first.ensures.1 in sym (c.is_late.ensures ∙ ap (λ (z : ℤ). eqb (get_or a.endpoint.now l.c 0) 1 && lt_z (pos a.allowed) z) (read_back (get_or after l.c (pos 0)) c.is_late-arg-1.given ∙ found)) in by) ∙ c.if-is_late.false)
 
 pub shape_of-arrivals : goal.shape_of-arrivals
 shape_of-arrivals c = c.loop-c.invariant.done.size
@@ -75,7 +75,7 @@ returns c =
     let a = c.args in
     let S = graph_slices a.nodes.now a.endpoint.now a.from.now a.to.now a.via.now in
     let at = arrival_at (delay_of a.late.now) (pos a.allowed) (graph_of S) in
-    let e : l.c ≡ length a.nodes.now = omega (arith, c.loop-c-test.false, l.invariant.within, c.requires.fact.0) in (
+    let e : l.c ≡ length a.nodes.now = omega (arith, c.loop-c-test.false, l.invariant.within, c.requires.as_long.0) in (
       sym (none_late (late_at (delay_of a.late.now) (pos a.allowed) (graph_of S)) (length a.nodes.now) l.c (omega (arith, e)) (omega (arith, e)) l.invariant.none),
       done_placed (pos 0) at l.c a.arrivals.now l.arrivals l.invariant.within l.invariant.done ∙ ap (λ (n : ℕ). placed (map at (upto n 0)) a.arrivals.now) e,
     )

@@ -18,7 +18,7 @@ find_late-requires c =
     let n = length a.nodes.now in
     let D = design a.n a.starts.now a.ends.now a.early.now a.late.now a.marked.now in
     let S = graph_slices a.nodes.now a.endpoint.now a.from.now a.to.now a.via.now in
-    let r = passed_ready D S a.allowed (same_sizes n n (length a.arrivals.now)) (sym c.requires ∙ c.in-Passed.is) in record { fit = r.late; fact = ((same_passed n n (length a.arrivals.now) r.places).1, r.endpoints) }
+    let r = passed_ready D S a.allowed (same_sizes n n (length a.arrivals.now)) (sym c.requires ∙ c.in-Passed.is) in record { fit = r.late; as_long = ((same_passed n n (length a.arrivals.now) r.places).1, r.endpoints) }
 
 pub returns-in-Passed : goal.returns-in-Passed
 unfolding arrivals_after_late

@@ -10,10 +10,10 @@ use borrow.Author.Rules.{rules}
 use Rattle.times.proofs.copies.fill_times.Goals as goal
 
 pub fill_arrivals-requires : goal.fill_arrivals-requires
-fill_arrivals-requires c = record { fact = (fit_ends c.requires.fact.0, fit_ends c.requires.fact.1); arrivals_len = (c.requires.fact_2.0, c.requires.fact_2.3) }
+fill_arrivals-requires c = record { fit = (fit_ends c.requires.fit.0, fit_ends c.requires.fit.1); as_long = (c.requires.as_long.0, c.requires.as_long.3) }
 
 pub fill_requireds-requires : goal.fill_requireds-requires
-fill_requireds-requires c = record { fact = (c.requires.fact.0, c.requires.fact.2); fact_2 = (c.requires.fact.3, c.requires.fact_2.1, c.requires.fact.4) }
+fill_requireds-requires c = record { fit = (c.requires.fit.0, c.requires.fit.2); as_long = (c.requires.fit.3, c.requires.as_long.1, c.requires.fit.4) }
 
 pub fill_slacks-requires : goal.fill_slacks-requires
 fill_slacks-requires c =
@@ -22,10 +22,10 @@ fill_slacks-requires c =
     let x = c.fill_arrivals.ensures.0 in
     let y = c.fill_requireds.ensures in record {
       small = (
-        subst Small (sym x) (arrivals_small a.late.now (graph_slices a.nodes.now [] a.from.now a.to.now a.via.now) (fit_ends c.requires.fact.0)),
-        subst Small (sym y) (requireds_small a.late.now S c.requires.fact.0 c.requires.fact.2 a.allowed c.requires.fact.3),
+        subst Small (sym x) (arrivals_small a.late.now (graph_slices a.nodes.now [] a.from.now a.to.now a.via.now) (fit_ends c.requires.fit.0)),
+        subst Small (sym y) (requireds_small a.late.now S c.requires.fit.0 c.requires.fit.2 a.allowed c.requires.fit.3),
       );
-      fact = (ap length x ∙ size_each _ (length a.nodes.now) ∙ sym c.requires.fact_2.2, ap length y ∙ size_each _ (length a.nodes.now) ∙ sym c.requires.fact_2.2);
+      as_long = (ap length x ∙ size_each _ (length a.nodes.now) ∙ sym c.requires.as_long.2, ap length y ∙ size_each _ (length a.nodes.now) ∙ sym c.requires.as_long.2);
     }
 
 pub returns : goal.returns
@@ -36,6 +36,6 @@ returns c =
     let z = x.0 ∙ arrivals_any a.late.now a.nodes.now a.endpoint.now a.from.now a.to.now a.via.now a.allowed in (
       z,
       y,
-      c.fill_slacks.ensures ∙ slacks_are a.late.now a.nodes.now a.endpoint.now a.from.now a.to.now a.via.now a.allowed _ _ _ z y c.requires.fact_2.2,
+      c.fill_slacks.ensures ∙ slacks_are a.late.now a.nodes.now a.endpoint.now a.from.now a.to.now a.via.now a.allowed _ _ _ z y c.requires.as_long.2,
       x.1 ∙ earliests_any a.early.now a.nodes.now a.endpoint.now a.from.now a.to.now a.via.now,
     )

@@ -15,7 +15,7 @@ pub fill_times-requires : goal.fill_times-requires
 unfolding test_times
 fill_times-requires c =
     let a = c.args in
-    let r = passed_ready (design a.n a.starts.now a.ends.now a.early.now a.late.now a.marked.now) (graph_slices a.nodes.now a.endpoint.now a.from.now a.to.now a.via.now) a.allowed _ (sym c.requires ∙ c.in-Passed.is) in record { fact = (r.late, r.early, r.onward, r.allowed, r.endpoints); fact_2 = times_passed _ _ _ _ _ r.places }
+    let r = passed_ready (design a.n a.starts.now a.ends.now a.early.now a.late.now a.marked.now) (graph_slices a.nodes.now a.endpoint.now a.from.now a.to.now a.via.now) a.allowed _ (sym c.requires ∙ c.in-Passed.is) in record { fit = (r.late, r.early, r.onward, r.allowed, r.endpoints); as_long = times_passed _ _ _ _ _ r.places }
 
 pub returns-in-Passed : goal.returns-in-Passed
 unfolding arrivals_after requireds_after slacks_after earliests_after

@@ -22,8 +22,8 @@ loop-k-init c =
       omega arith,
       f.ensures
           ∙ rw (read_back s.result s.type_inv, s.ensures)
-          (ap (λ (n : ℕ). map (λ (i : ℕ). first_required (get_or a.endpoint.now i 0) (pos a.allowed)) (upto n 0)) c.requires.fact_2.1
-          ∙ left_none a.delays.now S c.requires.fact.0 c.requires.fact.1 a.allowed c.requires.fact_2.0 (length a.from.now) (omega arith)),
+          (ap (λ (n : ℕ). map (λ (i : ℕ). first_required (get_or a.endpoint.now i 0) (pos a.allowed)) (upto n 0)) c.requires.as_long.1
+          ∙ left_none a.delays.now S c.requires.fit.0 c.requires.fit.1 a.allowed c.requires.as_long.0 (length a.from.now) (omega arith)),
     )
 
 pub overflow_sub-k : goal.overflow_sub-k
@@ -36,7 +36,7 @@ lower_edge-requires c =
     let S = (graph_slices a.nodes.now a.endpoint.now a.from.now a.to.now a.via.now) in
     let e : l.k ≡ l.k - 1 + 1 = omega arith in
     let inv = l.invariant.1 ∙ ap (λ (i : ℕ). map (required_from a.delays.now S a.allowed i) (upto (length a.nodes.now) 0)) e in
-    rw inv (lowers_in a.delays.now S c.requires.fact.0 c.requires.fact.1 a.allowed c.requires.fact_2.0 (l.k - 1) (omega arith))
+    rw inv (lowers_in a.delays.now S c.requires.fit.0 c.requires.fit.1 a.allowed c.requires.as_long.0 (l.k - 1) (omega arith))
 
 pub loop-k-smaller : goal.loop-k-smaller
 loop-k-smaller c = omega arith
@@ -48,12 +48,12 @@ loop-k-preserved c =
     let S = (graph_slices a.nodes.now a.endpoint.now a.from.now a.to.now a.via.now) in
     let e : l.k ≡ l.k - 1 + 1 = omega arith in
     let inv = l.invariant.1 ∙ ap (λ (i : ℕ). map (required_from a.delays.now S a.allowed i) (upto (length a.nodes.now) 0)) e in
-    (omega arith, c.lower_edge.ensures ∙ rw inv (lowered_next a.delays.now S c.requires.fact.0 c.requires.fact.1 a.allowed c.requires.fact_2.0 (l.k - 1) (omega arith)))
+    (omega arith, c.lower_edge.ensures ∙ rw inv (lowered_next a.delays.now S c.requires.fit.0 c.requires.fit.1 a.allowed c.requires.as_long.0 (l.k - 1) (omega arith)))
 
 pub shape_of-requireds : goal.shape_of-requireds
 shape_of-requireds c =
     let l = c.loop-k in
-    ap length l.invariant.1 ∙ size_each _ (length c.args.nodes.now) ∙ sym c.requires.fact_2.1
+    ap length l.invariant.1 ∙ size_each _ (length c.args.nodes.now) ∙ sym c.requires.as_long.1
 
 pub returns : goal.returns
 returns c =
@@ -62,4 +62,4 @@ returns c =
     let S = (graph_slices a.nodes.now a.endpoint.now a.from.now a.to.now a.via.now) in
     let e : l.k ≡ 0 = omega arith in
     l.invariant.1 ∙ ap (λ (i : ℕ). map (required_from a.delays.now S a.allowed i) (upto (length a.nodes.now) 0)) e
-    ∙ requireds_settled a.delays.now S c.requires.fact.0 c.requires.fact.1 a.allowed c.requires.fact_2.0
+    ∙ requireds_settled a.delays.now S c.requires.fit.0 c.requires.fit.1 a.allowed c.requires.as_long.0
