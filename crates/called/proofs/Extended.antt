@@ -59,32 +59,32 @@ module _ {D : Design} {T : ℕ} {S : GraphSlices} (t : TimedOn D T S) (H : Graph
       ∙ (λ i. node_times_at (edge_early (t.design i)) (edge_late (t.design i)) (pos (t.allowed i)) H (t.design i).nodes v)
 
 -- ---- two graphs that stand for one graph and two lists, of which the second is longer
-module _ {D : Design} {T : ℕ} {S R : GraphSlices} (t : TimedOn D T S) (u : TimedOn D T R) (H J : Graph) (madeH : S ≡ slices_of H) (madeJ : R ≡ slices_of J)
+module _ {D : Design} {T : ℕ} {S R : GraphSlices} (t : TimedOn D T S) (u : TimedOn D T R) (H J : Graph) (made_h : S ≡ slices_of H) (made_j : R ≡ slices_of J)
     (G : Graph) (K L : List (List ℕ)) (more : ExtendedTo K L) (up : Rising G) (shorter : Stands G K H) (longer : Stands G L J) where
-  node_no_worse : (v : ℕ) → NoWorse (times_of t H madeH v) (times_of u J madeJ v)
+  node_no_worse : (v : ℕ) → NoWorse (times_of t H made_h v) (times_of u J made_j v)
   node_no_worse v = stands_no_worse G K L more up H J shorter longer (edge_early D) (edge_late D) (pos T) D.nodes v
 
   nothing_worse : NothingWorse t.times u.times
   nothing_worse = record {
     nodes = λ r s l m p q v h.
         let k = subst (λ (E : Design). v < E.nodes) t.design h in
-        rw (timed_records t H madeH r l p v k, timed_records u J madeJ s m q v k) (node_no_worse v);
+        rw (timed_records t H made_h r l p v k, timed_records u J made_j s m q v k) (node_no_worse v);
     node = λ r s l m e. (
-      times_of t H madeH (asked_node r),
-      times_of u J madeJ (asked_node s),
-      timed_record t H madeH r l,
-      timed_record u J madeJ s m,
-      subst (λ (v : ℕ). NoWorse (times_of t H madeH (asked_node r)) (times_of u J madeJ v)) e (node_no_worse (asked_node r)),
+      times_of t H made_h (asked_node r),
+      times_of u J made_j (asked_node s),
+      timed_record t H made_h r l,
+      timed_record u J made_j s m,
+      subst (λ (v : ℕ). NoWorse (times_of t H made_h (asked_node r)) (times_of u J made_j v)) e (node_no_worse (asked_node r)),
     );
     copies = λ h i.
-        let k : h < length J.nodes = subst (λ (F : GraphSlices). h < length F.nodes) (graph_is u J madeJ) i in
+        let k : h < length J.nodes = subst (λ (F : GraphSlices). h < length F.nodes) (graph_is u J made_j) i in
         let x = above G K L more up H J shorter longer h k in
         let g = x.0 in (
           g,
-          subst (λ (F : GraphSlices). g < length F.nodes) (sym (graph_is t H madeH)) x.1.inside,
-          ap (λ (F : GraphSlices). get_or F.nodes g 0) (graph_is t H madeH) ∙ x.1.node ∙ sym (ap (λ (F : GraphSlices). get_or F.nodes h 0) (graph_is u J madeJ)),
-          subst (λ (y : NodeTimes). NoWorse y (copy_left u.times h)) (sym (timed_copy t H madeH g x.1.inside))
-              (subst (NoWorse (copy_times_at (edge_early D) (edge_late D) (pos T) H g)) (sym (timed_copy u J madeJ h k))
+          subst (λ (F : GraphSlices). g < length F.nodes) (sym (graph_is t H made_h)) x.1.inside,
+          ap (λ (F : GraphSlices). get_or F.nodes g 0) (graph_is t H made_h) ∙ x.1.node ∙ sym (ap (λ (F : GraphSlices). get_or F.nodes h 0) (graph_is u J made_j)),
+          subst (λ (y : NodeTimes). NoWorse y (copy_left u.times h)) (sym (timed_copy t H made_h g x.1.inside))
+              (subst (NoWorse (copy_times_at (edge_early D) (edge_late D) (pos T) H g)) (sym (timed_copy u J made_j h k))
               (copy_no_worse G K L more up H J shorter longer (edge_early D) (edge_late D) (pos T) h g k x.1)),
         );
   }

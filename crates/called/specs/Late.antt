@@ -6,16 +6,16 @@ use borrow.Fn.World.{ArgsD, ResD}
 use denote.Triple.Clauses.{AtExit}
 use Rattle.timing.specs.Graphs.{Design, design}
 use Rattle.timing.specs.Calls.{GraphSlices, graph_slices}
-use Rattle.late.specs.contracts.late_or_not.{signature as lateSignature, ended as lateEnded}
+use Rattle.late.specs.contracts.late_or_not.{signature as late_signature, ended as late_ended}
 use Rattle.late.proofs.late_or_not.Reads.{Learnt as LateLearnt}
 use Rattle.called.specs.Times.{TimesCall, timed_design, allowed_time, timed_graph}
 
 -- a call of `late_or_not`
 pub record LateCall : Type 0 where
   pub lifetimes : Lfts 11
-  pub passed : ArgsD lateSignature lifetimes
-  pub answer : ResD lateSignature lifetimes
-  pub left : AtExit lateEnded lifetimes
+  pub passed : ArgsD late_signature lifetimes
+  pub answer : ResD late_signature lifetimes
+  pub left : AtExit late_ended lifetimes
   pub learnt : LateLearnt lifetimes passed answer left
 
 -- what stands in its slices: n, starts, ends, early, late, marked; T; the graph's five; the arrivals

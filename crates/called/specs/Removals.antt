@@ -9,25 +9,25 @@ use Rattle.timing.specs.Graphs.{Design, design, Graph}
 use Rattle.timing.specs.Marks.{path_list, paths_of}
 use Rattle.timing.specs.Calls.{GraphSlices, graph_slices}
 use Rattle.timing.specs.Called.{Called, held_slices, graph_on}
-use Rattle.removal.specs.contracts.remove_from_design.{signature as designSignature, ended as designEnded}
+use Rattle.removal.specs.contracts.remove_from_design.{signature as design_signature, ended as design_ended}
 use Rattle.removal.proofs.remove_from_design.Reads.{Learnt as DesignLearnt}
-use Rattle.removal.specs.contracts.remove_from_graph.{signature as graphSignature, ended as graphEnded}
+use Rattle.removal.specs.contracts.remove_from_graph.{signature as graph_signature, ended as graph_ended}
 use Rattle.removal.proofs.remove_from_graph.Reads.{Learnt as GraphLearnt}
 
 -- a call of `remove_from_design`
 pub record DesignCall : Type 0 where
   pub lifetimes : Lfts 13
-  pub passed : ArgsD designSignature lifetimes
-  pub answer : ResD designSignature lifetimes
-  pub left : AtExit designEnded lifetimes
+  pub passed : ArgsD design_signature lifetimes
+  pub answer : ResD design_signature lifetimes
+  pub left : AtExit design_ended lifetimes
   pub learnt : DesignLearnt lifetimes passed answer left
 
 -- a call of `remove_from_graph`
 pub record GraphCall : Type 0 where
   pub lifetimes : Lfts 18
-  pub passed : ArgsD graphSignature lifetimes
-  pub answer : ResD graphSignature lifetimes
-  pub left : AtExit graphEnded lifetimes
+  pub passed : ArgsD graph_signature lifetimes
+  pub answer : ResD graph_signature lifetimes
+  pub left : AtExit graph_ended lifetimes
   pub learnt : GraphLearnt lifetimes passed answer left
 
 pub data Call : Type 0 where

@@ -5,25 +5,25 @@ use borrow.Fn.World.{ArgsD, ResD}
 use denote.Triple.Clauses.{AtExit}
 use Rattle.timing.specs.Graphs.{Design, design}
 use Rattle.timing.specs.Marks.{PathList, path_list}
-use Rattle.unfit.specs.contracts.test_list.{signature as listSignature, ended as listEnded}
+use Rattle.unfit.specs.contracts.test_list.{signature as list_signature, ended as list_ended}
 use Rattle.unfit.proofs.test_list.Reads.{Learnt as ListLearnt}
-use Rattle.unfit.specs.contracts.test_deck.{signature as deckSignature, ended as deckEnded}
+use Rattle.unfit.specs.contracts.test_deck.{signature as deck_signature, ended as deck_ended}
 use Rattle.unfit.proofs.test_deck.Reads.{Learnt as DeckLearnt}
 
 -- a call of `test_list`
 pub record ListTest : Type 0 where
   pub lifetimes : Lfts 7
-  pub passed : ArgsD listSignature lifetimes
-  pub answer : ResD listSignature lifetimes
-  pub left : AtExit listEnded lifetimes
+  pub passed : ArgsD list_signature lifetimes
+  pub answer : ResD list_signature lifetimes
+  pub left : AtExit list_ended lifetimes
   pub learnt : ListLearnt lifetimes passed answer left
 
 -- a call of `test_deck`
 pub record DeckTest : Type 0 where
   pub lifetimes : Lfts 7
-  pub passed : ArgsD deckSignature lifetimes
-  pub answer : ResD deckSignature lifetimes
-  pub left : AtExit deckEnded lifetimes
+  pub passed : ArgsD deck_signature lifetimes
+  pub answer : ResD deck_signature lifetimes
+  pub left : AtExit deck_ended lifetimes
   pub learnt : DeckLearnt lifetimes passed answer left
 
 -- What stands in their slices, parameter by parameter: n, starts, ends, early, late, marked; listed, lengths; of the second T.

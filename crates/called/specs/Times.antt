@@ -10,19 +10,19 @@ use Rattle.timing.specs.Graphs.{Design, design, edge_early, edge_late, Edge}
 use Rattle.timing.specs.Calls.{GraphSlices, graph_slices}
 use Rattle.timing.specs.Demands.{PathBest}
 use Rattle.timing.specs.Extended.{times_in}
-use Rattle.times.specs.contracts.times.{signature as timesSignature, ended as timesEnded}
+use Rattle.times.specs.contracts.times.{signature as times_signature, ended as times_ended}
 use Rattle.times.proofs.times.Reads.{Learnt as TimesLearnt}
-use Rattle.records.specs.contracts.node_record.{signature as recordSignature, ended as recordEnded}
+use Rattle.records.specs.contracts.node_record.{signature as record_signature, ended as record_ended}
 use Rattle.records.proofs.node_record.Reads.{Learnt as RecordLearnt}
-use Rattle.records.specs.contracts.node_records.{signature as recordsSignature, ended as recordsEnded}
+use Rattle.records.specs.contracts.node_records.{signature as records_signature, ended as records_ended}
 use Rattle.records.proofs.node_records.Reads.{Learnt as RecordsLearnt}
 
 -- a call of `times`
 pub record TimesCall : Type 0 where
   pub lifetimes : Lfts 14
-  pub passed : ArgsD timesSignature lifetimes
-  pub answer : ResD timesSignature lifetimes
-  pub left : AtExit timesEnded lifetimes
+  pub passed : ArgsD times_signature lifetimes
+  pub answer : ResD times_signature lifetimes
+  pub left : AtExit times_ended lifetimes
   pub learnt : TimesLearnt lifetimes passed answer left
 
 -- what stands in its slices: n, starts, ends, early, late, marked; T; the graph's five; the times' four
@@ -73,9 +73,9 @@ TimesLeft c h P =
 -- a call of `node_record`
 pub record RecordCall : Type 0 where
   pub lifetimes : Lfts 5
-  pub passed : ArgsD recordSignature lifetimes
-  pub answer : ResD recordSignature lifetimes
-  pub left : AtExit recordEnded lifetimes
+  pub passed : ArgsD record_signature lifetimes
+  pub answer : ResD record_signature lifetimes
+  pub left : AtExit record_ended lifetimes
   pub learnt : RecordLearnt lifetimes passed answer left
 
 -- the node that it asks for
@@ -85,9 +85,9 @@ asked_node c = c.passed.1.1.1.1.1.1.0
 -- a call of `node_records`
 pub record RecordsCall : Type 0 where
   pub lifetimes : Lfts 10
-  pub passed : ArgsD recordsSignature lifetimes
-  pub answer : ResD recordsSignature lifetimes
-  pub left : AtExit recordsEnded lifetimes
+  pub passed : ArgsD records_signature lifetimes
+  pub answer : ResD records_signature lifetimes
+  pub left : AtExit records_ended lifetimes
   pub learnt : RecordsLearnt lifetimes passed answer left
 
 -- the slack of each node, as it was lent and as it is left

@@ -1,7 +1,7 @@
 // The tests that a writer of decks makes before it writes: 30, and the counts.
 ghost use Rattle.std.specs.Prelude.{◌≡◌, leb};
 ghost use Rattle.timing.specs.Refusals.{◌then◌};
-ghost use Rattle.timing.specs.Refusals.{unless as passedIf};
+ghost use Rattle.timing.specs.Refusals.{unless as passed_if};
 ghost use Rattle.timing.specs.Calls.{deck_write_tests};
 ghost use Rattle.deck_writer.specs.Writing.{deck_of};
 
@@ -10,8 +10,8 @@ use verdicts::{and_unless, marked_count, then};
 
 // 10, 11, 20 and 21 where the verdict passed, by the counts.
 fn and_counts(before: Verdict, n: u32, edges: usize, paths: usize, listed: usize) -> Verdict
-    ensures { let counts = passedIf 10 (leb n 4096) then passedIf 11 (leb edges 16384) in
-        result ≡ (before then counts then passedIf 20 (leb paths 1024) then passedIf 21 (leb listed 8192)) }
+    ensures { let counts = passed_if 10 (leb n 4096) then passed_if 11 (leb edges 16384) in
+        result ≡ (before then counts then passed_if 20 (leb paths 1024) then passed_if 21 (leb listed 8192)) }
 {
     let v = and_unless(before, 10, n <= timing::MAX_NODES);
     let v = and_unless(v, 11, edges <= timing::MAX_EDGES);

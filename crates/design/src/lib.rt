@@ -6,7 +6,7 @@
 ghost use Rattle.std.specs.Prelude.{◌≡◌, [], leb, length};
 ghost use Rattle.timing.specs.Lists.{upto};
 ghost use Rattle.timing.specs.Refusals.{◌then◌, first_bad};
-ghost use Rattle.timing.specs.Refusals.{unless as passedIf};
+ghost use Rattle.timing.specs.Refusals.{unless as passed_if};
 ghost use Rattle.timing.specs.Graphs.{design};
 ghost use Rattle.timing.specs.Tests.{strays, falls, out_of_range, early_above_late, design_tests};
 
@@ -19,7 +19,7 @@ mod quick;
 
 // 10 and 11, from n and m.
 fn and_design_counts(before: Verdict, n: u32, m: usize) -> Verdict
-    ensures { result ≡ (before then (passedIf 10 (leb n 4096) then passedIf 11 (leb m 16384))) }
+    ensures { result ≡ (before then (passed_if 10 (leb n 4096) then passed_if 11 (leb m 16384))) }
 {
     let nodes = and_unless(before, 10, n <= MAX_NODES);
     and_unless(nodes, 11, m <= MAX_EDGES)

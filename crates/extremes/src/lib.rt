@@ -2,16 +2,16 @@
 #![tactic(auto)]
 
 ghost use Rattle.std.specs.Prelude.{◌≡◌};
-ghost use Rattle.timing.specs.Times.{larger as largerTime, smaller as smallerTime};
+ghost use Rattle.timing.specs.Times.{larger as larger_time, smaller as smaller_time};
 
 pub fn larger(a: i64, b: i64) -> i64
-    ensures { result ≡ largerTime a b }
+    ensures { result ≡ larger_time a b }
 {
     if a < b { b } else { a }
 }
 
 pub fn smaller(a: i64, b: i64) -> i64
-    ensures { result ≡ smallerTime a b }
+    ensures { result ≡ smaller_time a b }
 {
     if b < a { b } else { a }
 }

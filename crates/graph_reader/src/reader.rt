@@ -2,7 +2,7 @@
 ghost use Rattle.std.specs.Prelude.{◌≡◌, ◌≤◌, ◌<◌, map, length, set, leb};
 ghost use Rattle.std.proofs.lemmas.List.Edits.{sets};
 ghost use Rattle.timing.specs.Refusals.{◌then◌};
-ghost use Rattle.timing.specs.Refusals.{unless as passedIf};
+ghost use Rattle.timing.specs.Refusals.{unless as passed_if};
 ghost use Rattle.timing.specs.GraphBytes.{copy_row, read_graph};
 ghost use Rattle.timing.specs.Calls.{parsed, graph_answer};
 ghost use Rattle.timing.specs.Parsing.{repeated};
@@ -16,7 +16,7 @@ use timing::{GraphMade, Looked, NumberRead, Verdict};
 
 // 32, and then the number of the room.
 fn count_test(n: u32, limit: usize, full: u32, room: usize) -> Verdict
-    ensures { result ≡ (passedIf 32 (leb n limit) then passedIf full (leb n room)) }
+    ensures { result ≡ (passed_if 32 (leb n limit) then passed_if full (leb n room)) }
 {
     let n = wide(n);
     if n <= limit {

@@ -17,7 +17,7 @@ use Rattle.timing.specs.declared.Written.TheVariants.{End}
 use Rattle.timing.specs.Graphs.{Graph, edges_of}
 use Rattle.timing.specs.GraphBytes.{copy_numbers, graph_numbers, packed_graph}
 use Rattle.timing.specs.Refusals.{◌then◌}
-use Rattle.timing.specs.Refusals.{unless as passedIf}
+use Rattle.timing.specs.Refusals.{unless as passed_if}
 use Rattle.timing.specs.Tests.{room_sizes}
 use Rattle.timing.specs.Calls.{graph_slices, graph_of, room_of, writing, room_after_writing, graph_write_tests}
 use Rattle.theorems.proofs.Lists.{and_left, and_right, holds, length_edges}
@@ -140,17 +140,17 @@ module _ (u v w x : Verdict) (p : x ≡ (u then v)) where
 pub tests_are : (nodes endpoint from to via : List ℕ)
     → graph_write_tests (graph_slices nodes endpoint from to via)
     ≡ (room_sizes (room_of (graph_slices nodes endpoint from to via))
-    then passedIf 32 (leb (length nodes) 16384 && leb (length from) 65536)
-    then passedIf 32 (zero_or_one endpoint))
+    then passed_if 32 (leb (length nodes) 16384 && leb (length from) 65536)
+    then passed_if 32 (zero_or_one endpoint))
 unfolding graph_write_tests
 tests_are nodes endpoint from to via = go (room_sizes (room_of (graph_slices nodes endpoint from to via))) refl
   where
     ends : Verdict
-    ends = passedIf 32 (zero_or_one endpoint)
+    ends = passed_if 32 (zero_or_one endpoint)
 
     go : (v : Verdict) → room_sizes (room_of (graph_slices nodes endpoint from to via)) ≡ v
-        → (v then passedIf 32 (leb (length nodes) 16384 && leb (length (edges_of from to via)) 65536) then ends)
-        ≡ (v then passedIf 32 (leb (length nodes) 16384 && leb (length from) 65536) then ends)
+        → (v then passed_if 32 (leb (length nodes) 16384 && leb (length (edges_of from to via)) 65536) then ends)
+        ≡ (v then passed_if 32 (leb (length nodes) 16384 && leb (length from) 65536) then ends)
     go Passed q =
         let p = room_passed (room_of (graph_slices nodes endpoint from to via)) q in
         rw (edge_count_lem nodes endpoint from to via p.1 p.2)
@@ -158,17 +158,17 @@ tests_are nodes endpoint from to via = go (room_sizes (room_of (graph_slices nod
 
 pub tests_fit : (nodes endpoint from to via : List ℕ)
     → (room_sizes (room_of (graph_slices nodes endpoint from to via))
-    then passedIf 32 (leb (length nodes) 16384 && leb (length from) 65536)
-    then passedIf 32 (zero_or_one endpoint))
+    then passed_if 32 (leb (length nodes) 16384 && leb (length from) 65536)
+    then passed_if 32 (zero_or_one endpoint))
     ≡ Passed → Fits nodes endpoint from to via
 tests_fit nodes endpoint from to via q =
     let R = room_of (graph_slices nodes endpoint from to via) in
     let a = leb (length nodes) 16384 in
     let b = leb (length from) 65536 in
-    let ends = passedIf 32 (zero_or_one endpoint) in
-    let r = then_passed (room_sizes R) (passedIf 32 (a && b) then ends) q in
+    let ends = passed_if 32 (zero_or_one endpoint) in
+    let r = then_passed (room_sizes R) (passed_if 32 (a && b) then ends) q in
     let s = room_passed R r.0 in
-    let t = holds (a && b) (unless_passed 32 (a && b) (then_passed (passedIf 32 (a && b)) ends r.1).0) in
+    let t = holds (a && b) (unless_passed 32 (a && b) (then_passed (passed_if 32 (a && b)) ends r.1).0) in
     record {
       copies = leb→le (length nodes) 16384 (and_left a b t);
       endpoints = s.0;

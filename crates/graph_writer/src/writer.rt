@@ -1,7 +1,7 @@
 // Writing a packed true graph. Whether it fits is settled first, so that a refusal leaves the room as it is.
 ghost use Rattle.std.specs.Prelude.{◌≡◌, ◌+◌, ◌≤◌, ◌&&◌, [], ◌∷◌, leb, length};
 ghost use Rattle.timing.specs.Refusals.{◌then◌};
-ghost use Rattle.timing.specs.Refusals.{unless as passedIf};
+ghost use Rattle.timing.specs.Refusals.{unless as passed_if};
 ghost use Rattle.timing.specs.WellFormed.{zero_or_one};
 ghost use Rattle.timing.specs.Tests.{Room, room_sizes};
 ghost use Rattle.timing.specs.GraphBytes.{copy_numbers, graph_numbers, packed_graph};
@@ -28,8 +28,8 @@ pub(crate) fn write_tests(
 ) -> Verdict
     ensures { let ends = endpoint.now in
         let R : Room = record { nodes = copies; endpoints = length ends; starts = from; ends = to; names = via } in
-        result ≡ (room_sizes R then passedIf 32 (leb copies 16384 && leb from 65536)
-        then passedIf 32 (zero_or_one ends)) }
+        result ≡ (room_sizes R then passed_if 32 (leb copies 16384 && leb from 65536)
+        then passed_if 32 (zero_or_one ends)) }
 {
     let v = verdicts::graph_sizes(copies, endpoint.len(), from, to, via);
     let few = both(copies <= timing::MAX_COPIES, from <= timing::MAX_COPY_EDGES);

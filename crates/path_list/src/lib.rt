@@ -5,7 +5,7 @@
 
 ghost use Rattle.std.specs.Prelude.{◌≡◌, List, [], ℕ, ℤ, leb, length};
 ghost use Rattle.timing.specs.Refusals.{◌then◌, first_fault};
-ghost use Rattle.timing.specs.Refusals.{unless as passedIf};
+ghost use Rattle.timing.specs.Refusals.{unless as passed_if};
 ghost use Rattle.timing.specs.Graphs.{design};
 ghost use Rattle.timing.specs.Marks.{path_list, paths_of};
 ghost use Rattle.timing.specs.Tests.{meets, empty_at, first_unknown, first_break, list_tests};
@@ -18,7 +18,7 @@ mod quick;
 
 // 20 and 21, from the count of paths and of listed edges.
 fn and_list_counts(before: Verdict, paths: usize, edges: usize) -> Verdict
-    ensures { result ≡ (before then (passedIf 20 (leb paths 1024) then passedIf 21 (leb edges 8192))) }
+    ensures { result ≡ (before then (passed_if 20 (leb paths 1024) then passed_if 21 (leb edges 8192))) }
 {
     let count = and_unless(before, 20, paths <= MAX_PATHS);
     and_unless(count, 21, edges <= MAX_LISTED_EDGES)

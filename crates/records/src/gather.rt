@@ -2,7 +2,7 @@
 // whether a copy of it was met (1 or 0), and its four times over the copies met so far.
 ghost use Rattle.std.specs.Prelude.{◌≡◌, ℕ, map, pos, length, get_or, set};
 ghost use Rattle.timing.specs.Lists.{upto};
-ghost use Rattle.timing.specs.Times.{larger as largerTime, smaller as smallerTime};
+ghost use Rattle.timing.specs.Times.{larger as larger_time, smaller as smaller_time};
 ghost use Rattle.timing.specs.Calls.{test_records, has_times, arrival_of, required_of, slack_of, earliest_of, records_after};
 ghost use Rattle.records.specs.Records.{first_or, bettered, node_so_far};
 
@@ -31,19 +31,19 @@ fn copy_met(known: &mut [u32], v: usize)
 
 // The first copy of a node gives it its time, and each other one the larger of the two.
 fn first_or_larger(known: u32, old: i64, t: i64) -> i64
-    ensures { result ≡ first_or largerTime known old t }
+    ensures { result ≡ first_or larger_time known old t }
 {
     if known == 0 { t } else { larger(old, t) }
 }
 
 fn first_or_smaller(known: u32, old: i64, t: i64) -> i64
-    ensures { result ≡ first_or smallerTime known old t }
+    ensures { result ≡ first_or smaller_time known old t }
 {
     if known == 0 { t } else { smaller(old, t) }
 }
 
 fn raise_node(known: &[u32], times: &mut [i64], v: usize, t: i64)
-    ensures { times.new ≡ bettered largerTime known.now times.old v t }
+    ensures { times.new ≡ bettered larger_time known.now times.old v t }
 {
     if v < times.len() {
         let u = first_or_larger(number_at(known, v), times[v], t);
@@ -52,7 +52,7 @@ fn raise_node(known: &[u32], times: &mut [i64], v: usize, t: i64)
 }
 
 fn lower_node(known: &[u32], times: &mut [i64], v: usize, t: i64)
-    ensures { times.new ≡ bettered smallerTime known.now times.old v t }
+    ensures { times.new ≡ bettered smaller_time known.now times.old v t }
 {
     if v < times.len() {
         let u = first_or_smaller(number_at(known, v), times[v], t);
@@ -77,10 +77,10 @@ fn count_copy(
     ensures { let met = known.old in
         let v = get_or nodes.now c 0 in
         (known.new ≡ set met v 1)
-        × (na.new ≡ bettered largerTime met na.old v (get_or arrivals.now c (pos 0)))
-        × (nr.new ≡ bettered smallerTime met nr.old v (get_or requireds.now c (pos 0)))
-        × (ns.new ≡ bettered smallerTime met ns.old v (get_or slacks.now c (pos 0)))
-        × (ne.new ≡ bettered smallerTime met ne.old v (get_or earliests.now c (pos 0))) }
+        × (na.new ≡ bettered larger_time met na.old v (get_or arrivals.now c (pos 0)))
+        × (nr.new ≡ bettered smaller_time met nr.old v (get_or requireds.now c (pos 0)))
+        × (ns.new ≡ bettered smaller_time met ns.old v (get_or slacks.now c (pos 0)))
+        × (ne.new ≡ bettered smaller_time met ne.old v (get_or earliests.now c (pos 0))) }
 {
     let v = number_at(nodes, c) as usize;
     raise_node(known, na, v, time_at(arrivals, c));

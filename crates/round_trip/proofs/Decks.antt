@@ -229,7 +229,7 @@ module _ (s : List ℕ) (bytes : Bytes s) where
   unfolding read_deck
   took_deck tables =
       let Q : Deck → ℕ → Type 0 = λ d next. packed_deck d ≡ s in
-      let markedTest : ℕ → ℕ → Verdict = λ n k. marked_count n k then unless 36 (leb k tables.marked) in
+      let marked_test : ℕ → ℕ → Verdict = λ n k. marked_count n k then unless 36 (leb k tables.marked) in
       is_onward (λ x next. Took s 0 (x ∷ []) next) Q (number s 0) _ (took_number s bytes 0)
       (λ n a hn. is_onward (TestIs (unless 10 (leb n 4096)) a) Q (tested (unless 10 (leb n 4096)) a) _ (is_tested (unless 10 (leb n 4096)) a)
       (λ u a' ta. is_onward (λ x next. Took s a' (x ∷ []) next) Q (number s a') _ (took_number s bytes a')
@@ -241,7 +241,7 @@ module _ (s : List ℕ) (bytes : Bytes s) where
       (is_tested (unless 20 (leb count 1024) then unless 36 (leb count tables.paths)) p)
       (λ u'' p' tp. is_onward (TookPaths count p') Q (paths s tables.listed count 0 p') _ (took_paths tables.listed count 0 p')
       (λ list t hp. is_onward (λ x next. Took s t (x ∷ []) next) Q (number s t) _ (took_number s bytes t)
-      (λ k x hk. is_onward (TestIs (markedTest n k) x) Q (tested (markedTest n k) x) _ (is_tested (markedTest n k) x)
+      (λ k x hk. is_onward (TestIs (marked_test n k) x) Q (tested (marked_test n k) x) _ (is_tested (marked_test n k) x)
       (λ u''' x' tx. is_onward (TookNumbers s bytes k x') Q (repeated k (number s) x') _ (took_numbers s bytes k x')
       (λ marked y hv. is_onward (λ x next. Took s y (x ∷ []) next) Q (number s y) _ (took_number s bytes y)
       (λ e f ht. is_onward (λ v z. length s ≤ f) Q (ended s f) _ (is_ended s bytes f)

@@ -3,7 +3,7 @@
 
 ghost use Rattle.std.specs.Prelude.{◌≡◌};
 ghost use Rattle.timing.specs.Refusals.{refusal, refusal_within, unless_fault, ◌then◌};
-ghost use Rattle.timing.specs.Refusals.{unless as passedIf};
+ghost use Rattle.timing.specs.Refusals.{unless as passed_if};
 ghost use Rattle.timing.specs.WellFormed.{zero_or_one};
 ghost use Rattle.timing.specs.Tests.{same_sizes, marked_count, room_sizes};
 
@@ -29,7 +29,7 @@ pub fn refuse(number: u32, place: usize) -> Refusal
 
 // A test whose place is 0.
 pub fn unless(number: u32, fit: bool) -> Verdict
-    ensures { result ≡ passedIf number fit }
+    ensures { result ≡ passed_if number fit }
 {
     if fit {
         Verdict::Passed
@@ -40,7 +40,7 @@ pub fn unless(number: u32, fit: bool) -> Verdict
 
 // A further test whose place is 0, after those that gave the verdict.
 pub fn and_unless(before: Verdict, number: u32, fit: bool) -> Verdict
-    ensures { result ≡ (before then passedIf number fit) }
+    ensures { result ≡ (before then passed_if number fit) }
 {
     let Verdict::Passed = before else {
         return before;

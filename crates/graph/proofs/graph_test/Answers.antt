@@ -1,7 +1,7 @@
 -- 10 refuses, or 32 is tested.
 use mathlib.Core.Path.{◌∙◌, ap}
 use borrow.Author.Tests.{le-leb, lt-leb}
-use Rattle.timing.specs.Refusals.{unless as passedIf}
+use Rattle.timing.specs.Refusals.{unless as passed_if}
 use borrow.Author.Rules.{rules}
 use Rattle.graph.proofs.graph_test.Goals as goal
 
@@ -10,4 +10,4 @@ returns-then-n-gt-MAX_NODES c = rw (lt-leb _ _ c.if-n-gt-MAX_NODES.true) c.unles
 
 pub returns : goal.returns
 returns c =
-    rw (le-leb _ _ c.if-n-gt-MAX_NODES.false) (c.unless-2.ensures ∙ ap (passedIf 32) c.well_formed-2.ensures)
+    rw (le-leb _ _ c.if-n-gt-MAX_NODES.false) (c.unless-2.ensures ∙ ap (passed_if 32) c.well_formed-2.ensures)
