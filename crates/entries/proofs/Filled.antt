@@ -1,6 +1,5 @@
 -- A slice that a loop fills with one value: the first k places hold it, and the others are as they were. (The kit's `fill_more`, of any elements.)
 use Prim.Native.Nat.{ℕ, zero, suc, ◌+◌, ◌<◌}
-use native.Mathlib.Omega.{arith}
 use native.Mathlib.Numerals.{add-one}
 use mathlib.Core.Path.{◌≡◌, refl, sym, ◌∙◌, ap, ap₂}
 use mathlib.Core.List.{List, ◌∷◌, ◌++◌}

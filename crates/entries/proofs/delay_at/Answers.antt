@@ -1,7 +1,6 @@
 use mathlib.Core.Path.{sym}
 use lib.ListN.{get_or-eq_default}
 use lib.IntN.{pos}
-use borrow.Author.Rules.{rules}
 use Rattle.entries.proofs.delay_at.Goals as goal
 
 pub returns-then-delays-i : goal.returns-then-delays-i

@@ -1,14 +1,11 @@
-use Prim.Native.Nat.{ℕ, ◌+◌, ◌-◌, ◌≤◌}
+use Prim.Native.Nat.{ℕ, ◌≤◌}
 use native.Mathlib.Omega.{arith}
 use mathlib.Core.Path.{◌≡◌, refl, ◌∙◌, ap}
 use mathlib.Core.List.{List, ◌++◌, append-nil}
 use lib.IntN.{ℤ}
 use lib.ListN.{length, drop, replicate, length-set, drop_of_length-le}
 use Rattle.entries.proofs.Filled.{filled_next}
-use mir.Syntax.{w64}
-use mir.Val.{to_z}
 use mir.Facts.{to_z-of_z}
-use borrow.Author.Rules.{rules}
 use Rattle.entries.proofs.fill.Goals as goal
 
 pub loop-i-init : goal.loop-i-init

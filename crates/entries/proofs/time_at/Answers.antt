@@ -2,7 +2,6 @@
 use mathlib.Core.Path.{sym}
 use lib.ListN.{get_or-eq_default}
 use lib.IntN.{pos}
-use borrow.Author.Rules.{rules}
 use Rattle.entries.proofs.time_at.Goals as goal
 
 pub returns-then-times-i : goal.returns-then-times-i

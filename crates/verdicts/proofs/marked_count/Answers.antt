@@ -1,7 +1,6 @@
 use mathlib.Core.Path.{ap}
 use borrow.Author.Tests.{le-leb, lt-leb}
 use Rattle.timing.specs.declared.Verdict.TheVariants.{Refused}
-use borrow.Author.Rules.{rules}
 use Rattle.verdicts.proofs.marked_count.Goals as goal
 
 pub returns-then-count-n : goal.returns-then-count-n

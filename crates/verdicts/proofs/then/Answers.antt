@@ -2,7 +2,6 @@
 use mathlib.Core.Path.{sym, ap}
 use Rattle.timing.specs.declared.Verdict.{Verdict}
 use Rattle.timing.specs.Refusals.{◌then◌}
-use borrow.Author.Rules.{rules}
 use Rattle.verdicts.proofs.then.Goals as goal
 
 pub returns-in-Refused : goal.returns-in-Refused

@@ -1,6 +1,5 @@
 use mathlib.Core.Path.{ap}
 use Rattle.timing.specs.declared.Verdict.TheVariants.{Refused}
-use borrow.Author.Rules.{rules}
 use Rattle.verdicts.proofs.unless.Goals as goal
 
 pub returns-else-fit : goal.returns-else-fit

@@ -3,7 +3,6 @@ use mathlib.Core.Path.{sym, ◌∙◌, ap}
 use Rattle.timing.specs.declared.Verdict.TheVariants.{Refused}
 use Rattle.timing.specs.declared.Fault.{Fault}
 use Rattle.timing.specs.Refusals.{unless_fault}
-use borrow.Author.Rules.{rules}
 use Rattle.verdicts.proofs.unless_fault.Goals as goal
 
 pub returns-in-At : goal.returns-in-At
