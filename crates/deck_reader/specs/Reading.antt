@@ -10,7 +10,7 @@ use Rattle.timing.specs.Marks.{PathList, path_list}
 use Rattle.timing.specs.Delays.{delay_of}
 use Rattle.timing.specs.Refusals.{unless, ◌then◌}
 use Rattle.timing.specs.Tests.{marked_count}
-use Rattle.timing.specs.Parsing.{Parsed, found, stopped, Reader, onward, ◌>>=◌, ◌>>◌, return, tested, number, repeated, ended}
+use Rattle.timing.specs.Parsing.{Parsed, found, stopped, Reader, ◌>>=◌, ◌>>◌, return, tested, number, repeated, ended}
 use Rattle.timing.specs.Looks.{value_at, next_at}
 use Rattle.timing.specs.Decks.{Deck, Tables, EdgeRow, edge_row, design_of, paths}
 

@@ -4,7 +4,7 @@ use native.Mathlib.Omega.{arith}
 use native.Mathlib.Decide.{ℕ_discrete}
 use mathlib.Core.Path.{◌≡◌, refl, sym, ap, subst}
 use mathlib.Core.Bool.{Bool, true, false, cond, ◌&&◌}
-use lib.Dec.{T, leb, leb→le, le→leb}
+use lib.Dec.{T, leb→le, le→leb}
 use Rattle.timing.specs.Lists.{one_if, count_of, upto}
 use Rattle.theorems.proofs.Lists.{and_intro, and_left, and_right, fails, mem_upto}
 use Rattle.theorems.proofs.Counting.{count_cons, count_positive}

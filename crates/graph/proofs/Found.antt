@@ -1,7 +1,7 @@
 -- A graph that the quick passes find to pass is well-formed.
 use Prim.Native.Nat.{ℕ, ◌+◌, ◌<◌, min}
 use native.Mathlib.Omega.{arith}
-use mathlib.Core.Path.{◌≡◌, refl, sym, ◌∙◌, subst}
+use mathlib.Core.Path.{◌≡◌, refl, sym, ◌∙◌}
 use mathlib.Core.Bool.{Bool, true, false, not, ◌&&◌, ◌||◌}
 use mathlib.Core.List.{List, []}
 use lib.Dec.{T, eqb, ltb, leb, ltb→lt, lt→ltb, eqb_refl}
@@ -10,7 +10,7 @@ use Rattle.timing.specs.Lists.{all_of, count_of, upto}
 use Rattle.timing.specs.Graphs.{design, graph}
 use Rattle.timing.specs.WellFormed.{edge_fits}
 use Rattle.theorems.proofs.Lists.{and_intro, and_left, holds}
-use Rattle.graph.specs.Passes.{formed, edge_count, Lent, Clear, FlagsSet, flag, stands, edge_at, rises_at, edge_passes, Ordered, turns, Matches, EdgesFound, joined, end_fits, copy_passes, copy_ends, lowest_after, walked}
+use Rattle.graph.specs.Passes.{formed, edge_count, Lent, Clear, FlagsSet, flag, stands, edge_at, rises_at, edge_passes, Ordered, Matches, EdgesFound, joined, end_fits, copy_passes, copy_ends, lowest_after, walked}
 use Rattle.graph.proofs.Walk.{at_all, walk_same}
 use Rattle.graph.proofs.Flags.{flags_clear, copies_agree}
 use Rattle.graph.proofs.Ends.{of_walk}

@@ -3,7 +3,7 @@ use Prim.Native.Nat.{ℕ, zero, suc, ◌+◌, ◌-◌, ◌≤◌, ◌<◌, min}
 use native.Mathlib.Omega.{arith}
 use native.Mathlib.Numerals.{add-one}
 use native.Mathlib.Decide.{ℕ_discrete}
-use mathlib.Core.Path.{◌≡◌, refl, sym, ◌∙◌, ap, subst}
+use mathlib.Core.Path.{◌≡◌, refl, sym, ◌∙◌, ap}
 use mathlib.Core.Logic.{⊎_elim}
 use mathlib.Core.Bool.{Bool, true, false, not, ◌&&◌, ◌||◌}
 use mathlib.Core.List.{List, [], ◌∷◌, ◌++◌}
@@ -13,10 +13,10 @@ use borrow.Author.Count.{below_more}
 use borrow.Author.Tests.{ltb-true, eqb-false}
 use Rattle.timing.specs.Lists.{one_if, count_of, upto}
 use Rattle.timing.proofs.Verdicts.{both_true}
-use Rattle.theorems.proofs.Lists.{and_intro, and_left, and_right, or_cases, holds, fails, mem_upto, length_upto}
+use Rattle.theorems.proofs.Lists.{and_intro, and_left, or_cases, holds, fails, mem_upto, length_upto}
 use Rattle.theorems.proofs.Counting.{count_cons, count_append, count_positive, count_all}
 use Rattle.theorems.proofs.Splits.{upto_next}
-use Rattle.graph.specs.Passes.{stands, rises_at, Ordered, turns, Matches, joined, end_fits, end_rises, copy_ends}
+use Rattle.graph.specs.Passes.{stands, rises_at, Ordered, turns, Matches, end_fits, end_rises, copy_ends}
 use Rattle.graph.proofs.Walk.{any_at, at_any}
 
 -- how many pass a test, by those that pass a narrower one

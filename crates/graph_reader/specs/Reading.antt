@@ -4,7 +4,7 @@ use Rattle.timing.specs.declared.GraphMade.{GraphMade}
 use Rattle.timing.specs.declared.GraphMade.TheVariants.{Counts}
 use Rattle.timing.specs.declared.GraphMade.TheVariants.{Refused as NoGraph}
 use Rattle.timing.specs.Refusals.{unless, ◌then◌}
-use Rattle.timing.specs.Parsing.{Parsed, found, stopped, Reader, onward, ◌>>=◌, ◌>>◌, return, tested, number, repeated, Row, row, ended}
+use Rattle.timing.specs.Parsing.{Parsed, found, stopped, Reader, ◌>>=◌, ◌>>◌, return, tested, number, repeated, Row, row, ended}
 use Rattle.timing.specs.GraphBytes.{CopyRow}
 use Rattle.timing.specs.Looks.{value_at, next_at, row_at, row_end}
 

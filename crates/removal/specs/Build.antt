@@ -6,7 +6,6 @@ use Rattle.timing.specs.Tests.{candidates}
 use Rattle.theorems.proofs.Legal.{Legal}
 use Rattle.theorems.proofs.Tested.{ListFits}
 use Rattle.removal.specs.Table.{Frame}
-use Rattle.removal.specs.Tables.{list_words}
 use Rattle.removal.specs.Tables.{Laid as LaidLists}
 use Rattle.removal.specs.declared.rows.Layout.{Layout}
 use Rattle.removal.specs.Slots.{slot_base}

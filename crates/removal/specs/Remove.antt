@@ -1,6 +1,6 @@
 -- What the passes find together, and what a whole removal answers and leaves behind.
 use Rattle.std.specs.Prelude.{ℕ, ◌+◌, ◌≤◌, ◌≡◌, length, take}
-use mathlib.Core.List.{List, flat_map}
+use mathlib.Core.List.{List}
 use Rattle.timing.specs.declared.Verdict.{Verdict}
 use Rattle.timing.specs.declared.Verdict.TheVariants.{Passed, Refused}
 use Rattle.timing.specs.declared.GraphMade.{GraphMade}

@@ -8,7 +8,7 @@ use Rattle.theorems.proofs.Legal.{Legal}
 use Rattle.theorems.proofs.Tested.{ListFits}
 use Rattle.removal.specs.Tables.{list_words, marks_below, Automaton}
 use Rattle.removal.specs.declared.rows.Layout.{Layout}
-use Rattle.removal.specs.Slots.{slots, slot_base, slot_marks, slots_of, dead_along, start_slot}
+use Rattle.removal.specs.Slots.{slot_base, slot_marks, slots_of, dead_along, start_slot}
 
 -- how many slots each copy has, as the tables say: one for the empty mark, whatever the words are, and the others up to the next base
 abbrev pub slots_in : Layout → List ℕ → ℕ → ℕ

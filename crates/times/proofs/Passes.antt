@@ -18,7 +18,7 @@ use Rattle.timing.specs.Lists.{keep, upto}
 use Rattle.timing.specs.Graphs.{Edge, edge, Graph, endpoint_of, edges_out, ends_at, edges_of, delay_along}
 use Rattle.timing.specs.Times.{smaller, largest, smallest, arrival_at, required_at, slack_at, earliest_at}
 use Rattle.timing.specs.Calls.{GraphSlices, graph_slices, graph_of}
-use Rattle.timing.proofs.Ints.{up, sub_parts, abs_is}
+use Rattle.timing.proofs.Ints.{sub_parts, abs_is}
 use Rattle.theorems.proofs.Sorting.{Sorted}
 use Rattle.theorems.proofs.Counting.{next_sorted}
 use Rattle.theorems.proofs.Lists.{get_d_mem}

@@ -1,4 +1,3 @@
-use borrow.Author.Rules.{rules}
 use Rattle.cases.proofs.Slices.{slice_is}
 use Rattle.cases.proofs.fill.Goals as goal
 

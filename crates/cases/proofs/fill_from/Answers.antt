@@ -1,11 +1,10 @@
-use Prim.Native.Nat.{ℕ, ◌-◌, ◌≤◌}
+use Prim.Native.Nat.{ℕ}
 use native.Mathlib.Omega.{arith}
-use mathlib.Core.Path.{◌≡◌, refl, sym, ◌∙◌, ap}
-use lib.ListN.{length, length-set}
+use mathlib.Core.Path.{refl, sym, ◌∙◌, ap}
+use lib.ListN.{length-set}
 use lib.Seq.{sets}
 use Rattle.cases.specs.Slices.{values, values_end, Filled}
 use Rattle.cases.proofs.Slices.{values_turn, end_turn, values_all, end_all, values_done, end_done}
-use borrow.Author.Rules.{rules}
 use Rattle.cases.proofs.fill_from.Goals as goal
 
 pub overflow_add-left : goal.overflow_add-left

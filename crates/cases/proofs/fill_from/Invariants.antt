@@ -1,12 +1,9 @@
 -- What is left to be put into the table from k on, put there, makes the whole.
-use Prim.Native.Nat.{ℕ, ◌-◌, ◌≤◌}
-use native.Mathlib.Omega.{arith}
-use mathlib.Core.Path.{◌≡◌, refl, sym, ◌∙◌, ap}
-use lib.ListN.{length, length-set}
+use Prim.Native.Nat.{◌-◌, ◌≤◌}
+use mathlib.Core.Path.{◌≡◌}
+use lib.ListN.{length}
 use lib.Seq.{sets}
-use Rattle.cases.specs.Slices.{values, values_end, Filled}
-use Rattle.cases.proofs.Slices.{values_turn, end_turn, values_all, end_all, values_done, end_done}
-use borrow.Author.Rules.{rules}
+use Rattle.cases.specs.Slices.{values, values_end}
 use Rattle.cases.proofs.fill_from.Given as goal
 
 abbrev pub invariant-loop-k : goal.invariant-loop-k

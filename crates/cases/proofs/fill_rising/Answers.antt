@@ -1,4 +1,3 @@
-use borrow.Author.Rules.{rules}
 use Rattle.cases.proofs.Slices.{rising_is}
 use Rattle.cases.proofs.fill_rising.Goals as goal
 

@@ -2,7 +2,6 @@
 use native.Mathlib.Omega.{arith}
 use mathlib.Core.Path.{◌∙◌}
 use Rattle.cases.proofs.Slices.{step_none, step_some}
-use borrow.Author.Rules.{rules}
 use Rattle.cases.proofs.step.Goals as goal
 
 pub returns-then-left-eq0 : goal.returns-then-left-eq0

@@ -1,14 +1,13 @@
-use Prim.Native.Nat.{ℕ, ◌-◌, ◌≤◌}
+use Prim.Native.Nat.{ℕ}
 use native.Mathlib.Omega.{arith}
-use mathlib.Core.Path.{◌≡◌, refl, sym, ◌∙◌, ap}
+use mathlib.Core.Path.{refl, sym, ◌∙◌, ap}
 use mir.Syntax.{w32}
 use mir.Facts.{to_z-of_z}
 use mathlib.Core.List.{map}
-use lib.ListN.{length, take, drop, length-set}
+use lib.ListN.{take, length-set}
 use lib.Seq.{sets}
 use Rattle.timing.specs.Delays.{delay_of}
 use Rattle.cases.proofs.Slices.{delays_turn, delays_all, delays_done}
-use borrow.Author.Rules.{rules}
 use Rattle.cases.proofs.unpack.Goals as goal
 
 pub loop-i-init : goal.loop-i-init

@@ -1,15 +1,10 @@
 -- What is left to be put from k on, put there, makes the whole.
-use Prim.Native.Nat.{ℕ, ◌-◌, ◌≤◌}
-use native.Mathlib.Omega.{arith}
-use mathlib.Core.Path.{◌≡◌, refl, sym, ◌∙◌, ap}
-use mir.Syntax.{w32}
-use mir.Facts.{to_z-of_z}
+use Prim.Native.Nat.{◌-◌, ◌≤◌}
+use mathlib.Core.Path.{◌≡◌}
 use mathlib.Core.List.{map}
-use lib.ListN.{length, take, drop, length-set}
+use lib.ListN.{length, take, drop}
 use lib.Seq.{sets}
 use Rattle.timing.specs.Delays.{delay_of}
-use Rattle.cases.proofs.Slices.{delays_turn, delays_all, delays_done}
-use borrow.Author.Rules.{rules}
 use Rattle.cases.proofs.unpack.Given as goal
 
 abbrev pub invariant-loop-i : goal.invariant-loop-i

@@ -2,12 +2,10 @@
 -- the tables, and the outcome
 use mathlib.Core.Path.{sym, ◌∙◌}
 use lib.ListN.{length}
-use Rattle.timing.specs.Decks.{Tables, Deck}
-use Rattle.timing.specs.Calls.{Outcome, deck_read}
+use Rattle.timing.specs.Calls.{deck_read}
 use Rattle.deck_reader.specs.Reading.{deck_from}
 use Rattle.timing.proofs.Verdicts.{edges_passed}
 use Rattle.deck_reader.proofs.Reading.{read_sizes, read_stopped, read_made, read_passed, tables_kept, tables_filled}
-use borrow.Author.Rules.{rules}
 use Rattle.deck_reader.proofs.read_deck.Goals as goal
 
 pub returns-in-Refused : goal.returns-in-Refused

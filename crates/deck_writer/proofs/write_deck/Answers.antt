@@ -2,13 +2,11 @@
 -- the deck that is written, and its tests
 use native.Mathlib.Omega.{arith}
 use mathlib.Core.Path.{◌≡◌, sym, ◌∙◌}
-use Rattle.timing.specs.Decks.{Deck}
 use Rattle.timing.specs.Calls.{deck_write_tests}
 use Rattle.deck_writer.specs.Writing.{deck_of}
 use Rattle.deck_writer.proofs.Tests.{fit_of, tests_untimed}
 use Rattle.packed_lists.proofs.Rooms.{write_refused, write_long}
 use Rattle.deck_writer.proofs.Writing.{write_done}
-use borrow.Author.Rules.{rules}
 use Rattle.deck_writer.proofs.write_deck.Goals as goal
 
 pub returns-in-Refused : goal.returns-in-Refused

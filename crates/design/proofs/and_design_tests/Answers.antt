@@ -6,7 +6,6 @@ use Rattle.timing.specs.Refusals.{◌then◌, first_bad}
 use Rattle.timing.specs.Graphs.{design}
 use Rattle.timing.specs.Tests.{design_counts, strays, falls, out_of_range, early_above_late, wrong_marked, design_tests}
 use Rattle.timing.proofs.Verdicts.{chain_three, after_four}
-use borrow.Author.Rules.{rules}
 use Rattle.design.proofs.and_design_tests.Goals as goal
 
 pub returns : goal.returns

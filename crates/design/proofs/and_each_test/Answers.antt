@@ -5,7 +5,6 @@ use Rattle.timing.specs.Refusals.{first_bad}
 use Rattle.timing.specs.Graphs.{design}
 use Rattle.timing.specs.Tests.{strays, falls, out_of_range, early_above_late}
 use Rattle.timing.proofs.Verdicts.{chain_four}
-use borrow.Author.Rules.{rules}
 use Rattle.design.proofs.and_each_test.Goals as goal
 
 pub returns : goal.returns

@@ -1,5 +1,4 @@
 -- A refusal is passed on; where there is none, the test decides.
-use borrow.Author.Rules.{rules}
 use Rattle.graph.proofs.and_graph_test.Goals as goal
 
 pub returns : goal.returns

@@ -1,9 +1,8 @@
-use Prim.Native.Nat.{◌-◌, ◌≤◌}
 use native.Mathlib.Omega.{arith}
-use mathlib.Core.Path.{◌≡◌, sym, ◌∙◌}
+use mathlib.Core.Path.{sym, ◌∙◌}
 use lib.ListN.{length}
 use borrow.Author.Tests.{not-true, not-false}
-use Rattle.graph.specs.Passes.{flag, copy_passes, lowest_after, walked}
+use Rattle.graph.specs.Passes.{flag, copy_passes, lowest_after}
 use Rattle.graph.proofs.Walk.{walk_bad, walk_good, walk_done, walk_starts}
 use mathlib.Core.Bool.{not}
 use mathlib.Core.Path.{ap}

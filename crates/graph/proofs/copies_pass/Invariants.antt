@@ -1,11 +1,8 @@
 -- The copies from c on pass, with the lowest node that is left for them, where all do.
 use Prim.Native.Nat.{◌-◌, ◌≤◌}
-use native.Mathlib.Omega.{arith}
-use mathlib.Core.Path.{◌≡◌, sym, ◌∙◌}
+use mathlib.Core.Path.{◌≡◌}
 use lib.ListN.{length}
-use borrow.Author.Tests.{not-true, not-false}
 use Rattle.graph.specs.Passes.{flag, copy_passes, lowest_after, walked}
-use Rattle.graph.proofs.Walk.{walk_bad, walk_good, walk_done, walk_starts}
 use Rattle.graph.proofs.copies_pass.Given as goal
 
 abbrev pub invariant-loop-c : goal.invariant-loop-c

@@ -5,7 +5,6 @@ use lib.Dec.{eqb}
 use lib.ListN.{get_or}
 use Rattle.graph.specs.Passes.{flag, joined, end_fits, end_rises}
 use borrow.Author.Tests.{le-ltb, lt-ltb}
-use borrow.Author.Rules.{rules}
 use Rattle.graph.proofs.copy_passes.Goals as goal
 
 pub returns-then-n-node : goal.returns-then-n-node

@@ -1,7 +1,6 @@
 -- The arrays are large enough.
 use lib.ListN.{length}
 use Rattle.graph.proofs.Flags.{clear_array}
-use borrow.Author.Rules.{rules}
 use Rattle.graph.proofs.each_formed.Goals as goal
 
 pub formed_with-requires : goal.formed_with-requires

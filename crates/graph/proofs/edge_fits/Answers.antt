@@ -1,6 +1,5 @@
 -- Each test in turn.
 use borrow.Author.Tests.{lt-ltb, le-ltb}
-use borrow.Author.Rules.{rules}
 use Rattle.graph.proofs.edge_fits.Goals as goal
 
 pub returns-then-nodes-s : goal.returns-then-nodes-s

@@ -4,7 +4,6 @@ use mathlib.Core.Bool.{◌&&◌}
 use lib.Dec.{leb}
 use lib.ListN.{get_or}
 use Rattle.graph.specs.Passes.{key_of}
-use borrow.Author.Rules.{rules}
 use Rattle.graph.proofs.edge_passes.Goals as goal
 
 pub returns-then-edge_fits : goal.returns-then-edge_fits

@@ -1,14 +1,12 @@
-use Prim.Native.Nat.{ℕ, ◌-◌, ◌≤◌, ◌<◌}
+use Prim.Native.Nat.{ℕ, ◌<◌}
 use native.Mathlib.Omega.{arith}
 use mathlib.Core.Path.{◌≡◌, refl, sym, ◌∙◌, subst}
 use lib.ListN.{length, get_or}
-use borrow.Author.Rules.{rules}
 use borrow.Author.Tests.{not-true, not-false}
-use Rattle.timing.specs.Lists.{all_of, upto}
 use Rattle.graph.specs.Passes.{edge_count, FlagsSet, edge_passes}
 use Rattle.graph.proofs.Walk.{bad_here, good_here, none_left, all_left}
 use Rattle.graph.proofs.Flags.{flags_none, flags_next}
-use Rattle.graph.proofs.Keys.{lowest_key, lowest_next, passes_is, joins}
+use Rattle.graph.proofs.Keys.{lowest_next, passes_is, joins}
 use mathlib.Core.Bool.{not}
 use mathlib.Core.Path.{ap}
 use Rattle.graph.proofs.edges_pass.Goals as goal

@@ -1,15 +1,9 @@
 -- The edges from i on pass where all do; the flags of those before it are set.
-use Prim.Native.Nat.{ℕ, ◌-◌, ◌≤◌, ◌<◌}
-use native.Mathlib.Omega.{arith}
-use mathlib.Core.Path.{◌≡◌, refl, sym, ◌∙◌, subst}
-use lib.ListN.{length, get_or}
-use borrow.Author.Rules.{rules}
-use borrow.Author.Tests.{not-true, not-false}
+use Prim.Native.Nat.{◌-◌, ◌≤◌}
+use mathlib.Core.Path.{◌≡◌}
 use Rattle.timing.specs.Lists.{all_of, upto}
-use Rattle.graph.specs.Passes.{edge_count, FlagsSet, edge_passes}
-use Rattle.graph.proofs.Walk.{bad_here, good_here, none_left, all_left}
-use Rattle.graph.proofs.Flags.{flags_none, flags_next}
-use Rattle.graph.proofs.Keys.{lowest_key, lowest_next, passes_is, joins}
+use Rattle.graph.specs.Passes.{FlagsSet, edge_passes}
+use Rattle.graph.proofs.Keys.{lowest_key}
 use Rattle.graph.proofs.edges_pass.Given as goal
 
 abbrev pub invariant-loop-i : goal.invariant-loop-i

@@ -1,4 +1,3 @@
-use borrow.Author.Rules.{rules}
 use Rattle.graph.proofs.end_rises.Goals as goal
 
 pub returns-then-end : goal.returns-then-end

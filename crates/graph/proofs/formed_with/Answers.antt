@@ -9,7 +9,6 @@ use Rattle.theorems.proofs.Lists.{holds}
 use Rattle.graph.specs.Passes.{edge_count, stands}
 use Rattle.graph.proofs.Flags.{flags_clear, copies_agree}
 use Rattle.graph.proofs.WellFormed.{formed_by}
-use borrow.Author.Rules.{rules}
 use mathlib.Core.Bool.{not}
 use mathlib.Core.Path.{ap}
 use Rattle.graph.proofs.formed_with.Goals as goal

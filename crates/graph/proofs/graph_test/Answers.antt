@@ -2,7 +2,6 @@
 use mathlib.Core.Path.{◌∙◌, ap}
 use borrow.Author.Tests.{le-leb, lt-leb}
 use Rattle.timing.specs.Refusals.{unless as passed_if}
-use borrow.Author.Rules.{rules}
 use Rattle.graph.proofs.graph_test.Goals as goal
 
 pub returns-then-n-gt-MAX_NODES : goal.returns-then-n-gt-MAX_NODES

@@ -1,6 +1,5 @@
 -- The number of an end copy below 16,384 is far below 2^64.
 use native.Mathlib.Omega.{arith}
-use borrow.Author.Rules.{rules}
 use Rattle.graph.proofs.key_after.Goals as goal
 
 pub overflow_add-result : goal.overflow_add-result

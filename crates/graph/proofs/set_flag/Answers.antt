@@ -2,7 +2,6 @@
 use mathlib.Core.Path.{sym}
 use mathlib.Core.Bool.{true}
 use lib.Seq.{set_out}
-use borrow.Author.Rules.{rules}
 use Rattle.graph.proofs.set_flag.Goals as goal
 
 pub returns-else-v-flags : goal.returns-else-v-flags

@@ -1,7 +1,6 @@
-use Prim.Native.Nat.{ℕ, ◌-◌, ◌≤◌}
+use Prim.Native.Nat.{ℕ}
 use mathlib.Core.Path.{◌≡◌, subst}
 use native.Mathlib.Omega.{arith}
-use borrow.Author.Rules.{rules}
 use Rattle.graph.specs.Passes.{FlagsSet}
 use Rattle.graph.proofs.Flags.{flags_none, flags_next}
 use Rattle.graph.proofs.set_flags.Goals as goal

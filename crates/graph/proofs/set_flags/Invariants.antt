@@ -1,10 +1,6 @@
 -- The flags of the first k numbers are set.
-use Prim.Native.Nat.{ℕ, ◌-◌, ◌≤◌}
-use mathlib.Core.Path.{◌≡◌, subst}
-use native.Mathlib.Omega.{arith}
-use borrow.Author.Rules.{rules}
+use Prim.Native.Nat.{◌-◌, ◌≤◌}
 use Rattle.graph.specs.Passes.{FlagsSet}
-use Rattle.graph.proofs.Flags.{flags_none, flags_next}
 use Rattle.graph.proofs.set_flags.Given as goal
 
 abbrev pub invariant-loop-k : goal.invariant-loop-k

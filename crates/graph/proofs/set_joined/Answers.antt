@@ -3,7 +3,6 @@ use Prim.Native.Nat.{ℕ}
 use mathlib.Core.Path.{ap}
 use mathlib.Core.Bool.{true}
 use lib.ListN.{set}
-use borrow.Author.Rules.{rules}
 use Rattle.graph.proofs.set_joined.Goals as goal
 
 pub returns : goal.returns

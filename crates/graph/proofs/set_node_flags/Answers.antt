@@ -1,5 +1,4 @@
 -- Each array holds the flags of one list.
-use borrow.Author.Rules.{rules}
 use Rattle.graph.proofs.set_node_flags.Goals as goal
 
 pub returns : goal.returns

@@ -1,7 +1,6 @@
 -- The graph has too many copies, or too many edges, or a wrong endpoint number, or is found to pass, or each edge and each copy is tested.
 use native.Mathlib.Omega.{arith}
 use mathlib.Core.Path.{sym, ◌∙◌}
-use borrow.Author.Rules.{rules}
 use borrow.Author.Tests.{not-true, not-false}
 use Rattle.theorems.proofs.Lists.{length_edges}
 use Rattle.graph.specs.Passes.{Counted}

@@ -2,10 +2,9 @@
 -- the room, and that its slices are as long as they should be
 use mathlib.Core.Path.{◌≡◌, sym, ◌∙◌}
 use lib.ListN.{length}
-use borrow.Author.Rules.{rules}
 use Rattle.timing.specs.declared.Verdict.TheVariants.{Passed}
 use Rattle.timing.specs.Tests.{room_sizes}
-use Rattle.timing.specs.Calls.{GraphSlices, graph_slices, room_of}
+use Rattle.timing.specs.Calls.{graph_slices, room_of}
 use Rattle.graph_reader.proofs.Made.{graph_read_lem, rooms_fit, answers_refused, answers_made, sizes_passed, sizes_refused, read_stopped}
 use Rattle.graph_reader.proofs.read_graph.Goals as goal
 

@@ -4,7 +4,6 @@ use native.Mathlib.Omega.{arith}
 use mathlib.Core.Path.{sym, ◌∙◌, ap}
 use lib.Dec.{leb}
 use lib.ListN.{length}
-use borrow.Author.Rules.{rules}
 use Rattle.timing.specs.Numbers.{packed}
 use Rattle.packed.proofs.Numbers.{packed_size}
 use Rattle.packed.proofs.Rooms.{left_fewer}

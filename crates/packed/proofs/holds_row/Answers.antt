@@ -5,7 +5,6 @@ use mathlib.Core.Path.{◌≡◌, sym, ◌∙◌, ap}
 use mathlib.Core.List.{[], ◌∷◌, flat_map}
 use lib.Dec.{leb}
 use lib.ListN.{length}
-use borrow.Author.Rules.{rules}
 use Rattle.timing.specs.Numbers.{packed}
 use Rattle.packed.proofs.Numbers.{packed_size}
 use Rattle.packed.proofs.Rooms.{left_fewer, row_size}

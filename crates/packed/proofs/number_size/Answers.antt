@@ -1,7 +1,5 @@
 -- Each bound is a power of 128.
 use native.Mathlib.Omega.{arith}
-use borrow.Author.Rules.{rules}
-use mathlib.Core.Path.{sym, ◌∙◌}
 use Rattle.packed.proofs.Numbers.{reached, packed_reached}
 use Rattle.packed.proofs.number_size.Goals as goal
 

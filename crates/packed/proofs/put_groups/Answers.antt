@@ -2,11 +2,10 @@ use Prim.Native.Nat.{ℕ, zero, suc, ◌+◌, ◌-◌, ◌/◌, ◌%◌, ◌≤�
 use native.Mathlib.Omega.{arith}
 use native.Mathlib.Numerals.{add-one}
 use mathlib.Core.Path.{◌≡◌, refl, sym, ◌∙◌, ap}
-use mathlib.Core.List.{List, [], ◌∷◌}
+use mathlib.Core.List.{List}
 use lib.ListN.{length, set, length-set}
 use lib.Seq.{sets}
-use borrow.Author.Tests.{lt-ltb, le-ltb}
-use Rattle.timing.specs.Numbers.{packed, packed_in}
+use Rattle.timing.specs.Numbers.{packed}
 use Rattle.packed.proofs.Numbers.{cap, packed_size, packed_low, packed_high}
 use Rattle.packed.proofs.Rooms.{written_sets}
 use Rattle.packed.proofs.put_groups.Invariants.{Left}

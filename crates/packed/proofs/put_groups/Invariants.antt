@@ -1,17 +1,13 @@
 -- A turn puts one group. What is still to be put, from the next place on, is the packed form of what is left of x, and it
 -- always comes to the room that the whole packed form comes to.
 -- one more group, one power of 128 less
-use Prim.Native.Nat.{ℕ, zero, suc, ◌+◌, ◌-◌, ◌/◌, ◌%◌, ◌≤◌, ◌<◌}
-use native.Mathlib.Omega.{arith}
-use native.Mathlib.Numerals.{add-one}
-use mathlib.Core.Path.{◌≡◌, refl, sym, ◌∙◌, ap}
-use mathlib.Core.List.{List, [], ◌∷◌}
-use lib.ListN.{length, set, length-set}
+use Prim.Native.Nat.{ℕ, ◌+◌, ◌-◌, ◌≤◌, ◌<◌}
+use mathlib.Core.Path.{◌≡◌}
+use mathlib.Core.List.{List}
+use lib.ListN.{length}
 use lib.Seq.{sets}
-use borrow.Author.Tests.{lt-ltb, le-ltb}
 use Rattle.timing.specs.Numbers.{packed, packed_in}
-use Rattle.packed.proofs.Numbers.{cap, packed_size, packed_low, packed_high}
-use Rattle.packed.proofs.Rooms.{written_sets}
+use Rattle.packed.proofs.Numbers.{cap}
 use Rattle.packed.proofs.put_groups.Given as goal
 
 -- of the packed form of x, put from `at` on, what is still to be put from `next` on

@@ -1,11 +1,10 @@
 -- The first byte, and then the packed form of what is left.
-use Prim.Native.Nat.{ℕ, suc, ◌+◌, ◌-◌, ◌/◌, ◌%◌, ◌≤◌, ◌<◌}
+use Prim.Native.Nat.{ℕ, ◌+◌, ◌/◌, ◌%◌, ◌≤◌, ◌<◌}
 use native.Mathlib.Omega.{arith}
 use native.Mathlib.Numerals.{add-one}
 use mathlib.Core.Path.{◌≡◌, sym, ◌∙◌, ap}
-use mathlib.Core.List.{List, [], ◌∷◌}
+use mathlib.Core.List.{List, ◌∷◌}
 use lib.ListN.{length, set, length-set}
-use borrow.Author.Rules.{rules}
 use Rattle.timing.specs.Numbers.{packed, written_room}
 use Rattle.packed.proofs.Numbers.{cap, packed_size, packed_low, packed_high, packed_fewer}
 use Rattle.packed.proofs.Rooms.{written_sets, written_length}

@@ -2,10 +2,9 @@
 -- after the first number, and after the second
 use Prim.Native.Nat.{◌+◌}
 use native.Mathlib.Omega.{arith}
-use mathlib.Core.Path.{◌≡◌, sym, ◌∙◌}
+use mathlib.Core.Path.{◌≡◌, ◌∙◌}
 use mathlib.Core.List.{◌++◌}
 use lib.ListN.{length, length-append}
-use borrow.Author.Rules.{rules}
 use Rattle.timing.specs.Numbers.{packed, written_room}
 use Rattle.packed.proofs.Rooms.{written_length, written_append, row_bytes, row_size}
 use Rattle.packed.proofs.put_row.Goals as goal

@@ -6,7 +6,6 @@ use Rattle.timing.specs.declared.Groups.TheVariants.{Number}
 use Rattle.timing.specs.declared.NumberRead.TheVariants.{Refused}
 use Rattle.timing.specs.Numbers.{number_answer, read_number}
 use Rattle.packed.proofs.Numbers.{Inside, number_inside}
-use borrow.Author.Rules.{rules}
 use Rattle.packed.proofs.read_groups.Goals as goal
 
 pub overflow_add-result : goal.overflow_add-result

@@ -2,7 +2,6 @@
 use Prim.Native.Nat.{◌+◌}
 use native.Mathlib.Omega.{arith}
 use mathlib.Core.Path.{sym}
-use borrow.Author.Rules.{rules}
 use Rattle.packed.proofs.Numbers.{read_one, read_two}
 use Rattle.packed.proofs.read_number.Goals as goal
 

@@ -1,10 +1,8 @@
 -- Where the packed form fits it is put; where it does not, nothing is.
 -- the two outcomes of the test
-use native.Mathlib.Omega.{arith}
 use Prim.Native.Nat.{◌+◌, ◌≤◌, ◌<◌}
-use mathlib.Core.Path.{◌≡◌, sym, ◌∙◌, ap}
+use mathlib.Core.Path.{sym, ◌∙◌, ap}
 use lib.ListN.{length}
-use borrow.Author.Rules.{rules}
 use borrow.Author.Tests.{leb-true, leb-false}
 use Rattle.timing.specs.declared.Written.TheVariants.{End, Refused}
 use Rattle.timing.specs.Numbers.{packed}

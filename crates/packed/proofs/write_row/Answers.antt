@@ -1,10 +1,8 @@
 -- Where all three fit they are put; where they do not, nothing is.
-use native.Mathlib.Omega.{arith}
 use Prim.Native.Nat.{ℕ, ◌+◌, ◌≤◌, ◌<◌}
-use mathlib.Core.Path.{◌≡◌, sym, ◌∙◌, ap}
+use mathlib.Core.Path.{sym, ◌∙◌, ap}
 use mathlib.Core.List.{List, [], ◌∷◌, flat_map}
 use lib.ListN.{length}
-use borrow.Author.Rules.{rules}
 use borrow.Author.Tests.{leb-true, leb-false}
 use Rattle.timing.specs.declared.Written.TheVariants.{End, Refused}
 use Rattle.timing.specs.Numbers.{packed}

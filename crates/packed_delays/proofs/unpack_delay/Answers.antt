@@ -8,7 +8,6 @@ use mir.Syntax.{w32}
 use mir.Val.{SFits, to_z}
 use mir.Facts.{to_z-of_z, to_z_pos}
 use Rattle.timing.proofs.Ints.{sub_parts, eq_parts, neg_nat}
-use borrow.Author.Rules.{rules}
 use Rattle.packed_delays.proofs.unpack_delay.Goals as goal
 
 half : (x : ℕ) → x < 4294967296 → to_z w32 (x / 2) ≡ pos (x / 2)

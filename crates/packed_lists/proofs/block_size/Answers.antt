@@ -1,10 +1,5 @@
-use Prim.Native.Nat.{◌+◌, ◌-◌, ◌*◌, ◌≤◌}
 use native.Mathlib.Omega.{arith}
-use mathlib.Core.Path.{◌≡◌}
-use mathlib.Core.List.{flat_map}
-use lib.ListN.{length, get_or, drop}
-use borrow.Author.Rules.{rules}
-use Rattle.timing.specs.Numbers.{packed}
+use lib.ListN.{get_or}
 use Rattle.packed.proofs.Numbers.{packed_size}
 use Rattle.packed_lists.proofs.Sizes.{size_drop, size_done}
 use Rattle.packed_lists.proofs.block_size.Goals as goal

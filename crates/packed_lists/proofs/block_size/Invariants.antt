@@ -1,13 +1,9 @@
 -- The total and what is left add up to the size of all; it is at most five for each number passed, so that no sum wraps.
 use Prim.Native.Nat.{◌+◌, ◌-◌, ◌*◌, ◌≤◌}
-use native.Mathlib.Omega.{arith}
 use mathlib.Core.Path.{◌≡◌}
 use mathlib.Core.List.{flat_map}
-use lib.ListN.{length, get_or, drop}
-use borrow.Author.Rules.{rules}
+use lib.ListN.{length, drop}
 use Rattle.timing.specs.Numbers.{packed}
-use Rattle.packed.proofs.Numbers.{packed_size}
-use Rattle.packed_lists.proofs.Sizes.{size_drop, size_done}
 use Rattle.packed_lists.proofs.block_size.Given as goal
 
 abbrev pub invariant-loop-i : goal.invariant-loop-i

@@ -1,9 +1,6 @@
-use Prim.Native.Nat.{◌-◌, ◌≤◌}
 use native.Mathlib.Omega.{arith}
-use mathlib.Core.Path.{◌≡◌, sym, ◌∙◌}
-use borrow.Author.Rules.{rules}
-use Rattle.timing.specs.Parsing.{number, repeated}
-use Rattle.timing.specs.Looks.{looked}
+use mathlib.Core.Path.{sym, ◌∙◌}
+use Rattle.timing.specs.Parsing.{number}
 use Rattle.packed_lists.proofs.Looking.{looks_turn, looks_stop, looks_end, number_found, number_stopped}
 use Rattle.packed_lists.proofs.Skipping.{skips_rest}
 use Rattle.packed_lists.proofs.look_numbers.Goals as goal

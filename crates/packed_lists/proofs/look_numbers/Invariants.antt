@@ -1,12 +1,8 @@
 -- The look from here on at the numbers that are left answers what the whole look does.
 use Prim.Native.Nat.{◌-◌, ◌≤◌}
-use native.Mathlib.Omega.{arith}
-use mathlib.Core.Path.{◌≡◌, sym, ◌∙◌}
-use borrow.Author.Rules.{rules}
+use mathlib.Core.Path.{◌≡◌}
 use Rattle.timing.specs.Parsing.{number, repeated}
 use Rattle.timing.specs.Looks.{looked}
-use Rattle.packed_lists.proofs.Looking.{looks_turn, looks_stop, looks_end, number_found, number_stopped}
-use Rattle.packed_lists.proofs.Skipping.{skips_rest}
 use Rattle.packed_lists.proofs.look_numbers.Given as goal
 
 abbrev pub invariant-loop-n : goal.invariant-loop-n

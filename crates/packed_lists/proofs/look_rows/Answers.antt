@@ -4,7 +4,6 @@ use native.Mathlib.Nat.{mul-le-mul}
 use native.Mathlib.Omega.{arith}
 use mir.Syntax.{w64}
 use mir.Val.{Fits}
-use borrow.Author.Rules.{rules}
 use Rattle.packed_lists.proofs.look_rows.Goals as goal
 
 product-fits : (x y : ℕ) → x ≤ 4294967295 → y ≤ 4294967295 → Fits w64 (x * y)

@@ -3,7 +3,6 @@ use native.Mathlib.Omega.{arith}
 use mathlib.Core.Path.{◌≡◌, ◌∙◌}
 use mathlib.Core.List.{List, flat_map}
 use lib.ListN.{length, take, drop, length-take}
-use borrow.Author.Rules.{rules}
 use Rattle.timing.specs.Numbers.{packed}
 use Rattle.packed_lists.proofs.Sizes.{size_part, size_most, size_done}
 use Rattle.packed_lists.proofs.numbers_size.Goals as goal

@@ -1,7 +1,6 @@
 -- A number is found, or nothing is.
 use mathlib.Core.Path.{refl, sym, ◌∙◌}
 use Rattle.timing.specs.Looks.{value_at, next_at}
-use borrow.Author.Rules.{rules}
 use Rattle.packed_lists.proofs.take_number.Goals as goal
 
 pub returns-in-Value : goal.returns-in-Value

@@ -5,7 +5,6 @@ use Rattle.timing.specs.Graphs.{design}
 use Rattle.timing.specs.Marks.{path_list, paths_of}
 use Rattle.timing.specs.Tests.{meets, empty_at, first_unknown, first_break}
 use Rattle.timing.proofs.Verdicts.{chain_three}
-use borrow.Author.Rules.{rules}
 use Rattle.path_list.proofs.and_each_test.Goals as goal
 
 pub returns : goal.returns

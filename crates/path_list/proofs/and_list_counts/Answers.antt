@@ -1,7 +1,6 @@
 use lib.Dec.{leb}
 use Rattle.timing.specs.Refusals.{unless}
 use Rattle.timing.proofs.Verdicts.{chain_two}
-use borrow.Author.Rules.{rules}
 use Rattle.path_list.proofs.and_list_counts.Goals as goal
 
 pub returns : goal.returns

@@ -4,7 +4,6 @@ use Rattle.timing.specs.Graphs.{design}
 use Rattle.timing.specs.Marks.{path_list, paths_of}
 use Rattle.timing.specs.Tests.{list_counts, meets, empty_at, first_unknown, first_break, list_tests}
 use Rattle.timing.proofs.Verdicts.{chain_two}
-use borrow.Author.Rules.{rules}
 use Rattle.path_list.proofs.and_list_tests.Goals as goal
 
 pub returns : goal.returns

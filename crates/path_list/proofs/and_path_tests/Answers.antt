@@ -1,5 +1,4 @@
 use mathlib.Core.Path.{sym}
-use borrow.Author.Rules.{rules}
 use Rattle.path_list.proofs.and_path_tests.Goals as goal
 
 pub returns-then-all_pass : goal.returns-then-all_pass

@@ -3,7 +3,6 @@ use mathlib.Core.Path.{◌∙◌, sym, ap}
 use Rattle.timing.specs.declared.NodeTimes.{NodeTimes}
 use Rattle.timing.specs.declared.NodeAnswer.TheVariants.{Record}
 use Rattle.timing.specs.Calls.{record_answer, record_of}
-use borrow.Author.Rules.{rules}
 use Rattle.records.proofs.node_record.Goals as goal
 
 pub returns-in-Passed : goal.returns-in-Passed

@@ -7,7 +7,6 @@ use lib.ListN.{length}
 use Rattle.timing.specs.declared.Verdict.{Verdict}
 use Rattle.timing.specs.Calls.{test_records, has_times, arrival_of, required_of, slack_of, earliest_of, records_after}
 use Rattle.timing.proofs.Verdicts.{after_told}
-use borrow.Author.Rules.{rules}
 use Rattle.records.proofs.node_records.Goals as goal
 
 pub records_where-requires : goal.records_where-requires

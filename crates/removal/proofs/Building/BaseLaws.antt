@@ -9,7 +9,7 @@ use lib.Seq.{get_or-set_same, get_or-set_other}
 use Rattle.removal.specs.Table.{Frame}
 use Rattle.removal.proofs.Listing.Region.{frame_refl, frame_set}
 use Rattle.removal.specs.declared.rows.Layout.{Layout}
-use Rattle.removal.specs.Slots.{slots, slot_base}
+use Rattle.removal.specs.Slots.{slot_base}
 use Rattle.removal.specs.Build.{slots_from, Baseable, Based}
 use Rattle.removal.proofs.Reaching.RowLaws.{base_next}
 

@@ -15,7 +15,7 @@ use Rattle.timing.specs.Graphs.{Design, Edge, edge, Graph, edges_in}
 use Rattle.timing.specs.Marks.{PathList}
 use Rattle.theorems.proofs.Lists.{of_upto}
 use Rattle.removal.specs.declared.rows.Layout.{Layout}
-use Rattle.removal.specs.Slots.{slots, slot_marks}
+use Rattle.removal.specs.Slots.{slot_marks}
 use Rattle.removal.specs.Rows.{slots_in, Tabled, Ready, InRun, run, run_from, run_to, name_in, default_in, edge_in, target, flag_in}
 use Rattle.removal.specs.Patches.{patch_at, lead_at}
 use Rattle.removal.specs.Show.{from_shown, start_flag, shown_by, edges_to, EdgesMeet}

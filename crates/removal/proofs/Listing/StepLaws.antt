@@ -1,6 +1,6 @@
 -- A step with a mark: what an edge and then the mark's class begin with tells the word. Where that is no more than the edge alone begins
 -- with, the word is that of the edge alone.
-use Prim.Native.Nat.{ℕ, zero, suc, ◌+◌, ◌-◌, ◌≤◌, ◌<◌}
+use Prim.Native.Nat.{ℕ, zero, suc, ◌+◌, ◌≤◌, ◌<◌}
 use native.Mathlib.Omega.{arith}
 use native.Mathlib.Decide.{ℕ_discrete, dec_lt}
 use mathlib.Core.Path.{◌≡◌, sym, ap, ◌∙◌, subst}

@@ -4,7 +4,6 @@ use native.Mathlib.Omega.{arith}
 use mathlib.Core.Path.{◌≡◌, sym, ap, ◌∙◌, subst}
 use mathlib.Core.List.{List, [], ◌∷◌}
 use lib.ListN.{get_or}
-use Rattle.timing.specs.Marks.{mark}
 use Rattle.theorems.proofs.Marks.{Prefix, begins}
 use Rattle.removal.specs.Classes.{Filled, class_at, Fit, Root, At}
 use Rattle.removal.specs.Tables.{Located, Stepped}

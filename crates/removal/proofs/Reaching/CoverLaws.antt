@@ -1,6 +1,6 @@
 -- Laws of the row of one copy: the patches of its reached slots, one slot after the other, and then the defaults of the edges that are not covered by all of them. No
 -- slot is counted twice at an edge, so an edge that fewer slots cover than are reached has a reached slot that leads it to its default.
-use Prim.Native.Nat.{ℕ, zero, suc, ◌+◌, ◌-◌, ◌≤◌, ◌<◌}
+use Prim.Native.Nat.{ℕ, zero, suc, ◌+◌, ◌≤◌, ◌<◌}
 use native.Mathlib.Omega.{arith}
 use native.Mathlib.Decide.{ℕ_discrete}
 use mathlib.Core.Path.{◌≡◌, refl, sym, ◌∙◌, ap, subst}

@@ -9,7 +9,7 @@ use lib.Seq.{get_or-take}
 use Rattle.timing.specs.Lists.{sum, upto}
 use Rattle.removal.specs.Slots.{slots, slot_base}
 use Rattle.removal.specs.declared.rows.Layout.{Layout}
-use Rattle.removal.specs.Rows.{slots_in, Tabled, WorkLaid, Ready, Idle, slot_place, flag_in}
+use Rattle.removal.specs.Rows.{slots_in, Tabled, WorkLaid, Ready, slot_place}
 use Rattle.removal.specs.Patches.{NamesIn}
 
 sum_map_suc : (f : ℕ → ℕ) (n i : ℕ) → sum (map f (upto (suc n) i)) ≡ sum (map f (upto n i)) + f (i + n)

@@ -1,27 +1,26 @@
 -- Where an edge leads from a slot at its end: to a slot of a lower copy, or nowhere. What the word of a step says is the place.
-use Prim.Native.Nat.{ℕ, suc, ◌+◌, ◌-◌, ◌≤◌, ◌<◌}
+use Prim.Native.Nat.{ℕ, ◌+◌, ◌-◌, ◌≤◌, ◌<◌}
 use native.Mathlib.Omega.{arith}
 use native.Mathlib.Decide.{ℕ_discrete}
-use mathlib.Core.Path.{◌≡◌, refl, sym, ◌∙◌, ap, ap₂, subst}
+use mathlib.Core.Path.{◌≡◌, refl, sym, ◌∙◌, ap, subst}
 use mathlib.Core.Logic.{◌⊎◌, inl, inr, ⊎_elim}
-use mathlib.Core.Bool.{Bool, true, false, cond, not, ◌&&◌}
+use mathlib.Core.Bool.{Bool, true, false, cond}
 use mathlib.Core.List.Memᴰ
-use mathlib.Core.List.{List, [], ◌∷◌, map, Memᴰ}
+use mathlib.Core.List.{List, [], ◌∷◌, Memᴰ}
 use lib.Dec.{ltb}
 use lib.ListN.{length, get_or, take}
 use lib.Seq.{get_or-take}
 use borrow.Author.Tests.{ltb-true, lt-ltb}
-use Rattle.timing.specs.Lists.{upto}
 use Rattle.timing.specs.Graphs.{Design, Edge, Graph, edges_in, node_of}
 use Rattle.timing.specs.Marks.{PathList, paths_of, mark}
 use Rattle.theorems.proofs.Lists.{mem_upto}
 use Rattle.theorems.proofs.Marks.{begins}
 use Rattle.theorems.proofs.Runs.{mem_in}
 use Rattle.removal.specs.Classes.{class_at, marks_at, At}
-use Rattle.removal.specs.Tables.{list_words, dead_word, loc_in, Stepped, Located, Automaton}
+use Rattle.removal.specs.Tables.{list_words, dead_word, loc_in, Stepped, Located}
 use Rattle.removal.specs.declared.rows.Layout.{Layout}
-use Rattle.removal.specs.Slots.{slots, slot_base, slot_marks, slots_of, Used, dead_along, start_slot, slot_of}
-use Rattle.removal.specs.Rows.{slots_in, slot_place, flag_in, dead_place, InRun, run, run_from, run_to, start_in, name_in, edge_in, target, Tabled, Ready}
+use Rattle.removal.specs.Slots.{slots, slot_marks, slots_of, start_slot}
+use Rattle.removal.specs.Rows.{slots_in, slot_place, flag_in, dead_place, InRun, run_from, run_to, start_in, name_in, edge_in, target, Tabled, Ready}
 use Rattle.removal.specs.Reach.{LiveIs}
 use Rattle.removal.specs.Show.{from_shown, start_flag, shown_by}
 use Rattle.removal.proofs.Listing.Region.{table_at}
@@ -30,7 +29,7 @@ use Rattle.removal.proofs.Listing.MarkLaws.{marks_first, marks_rise}
 use Rattle.removal.proofs.Listing.ClassLaws.{class_order}
 use Rattle.removal.proofs.Listing.LinkingLaws.{nil_none}
 use Rattle.removal.proofs.Reaching.SlotLaws.{setting_of, used_all, edge_slot}
-use Rattle.removal.proofs.Reaching.RowLaws.{read, place_inside, words}
+use Rattle.removal.proofs.Reaching.RowLaws.{place_inside}
 use Rattle.removal.proofs.Showing.ShowLaws.{slot_of_lem, start_dead, start_live, start_shown}
 
 module _ (D : Design) (L : PathList) (G : Graph) (l : Layout) (p : List ℕ) (t : Tabled D L G l p) where

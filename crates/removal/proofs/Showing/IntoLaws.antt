@@ -3,13 +3,13 @@ use Prim.Native.Nat.{ℕ, zero, suc, ◌≤◌, ◌<◌}
 use native.Mathlib.Omega.{arith}
 use mathlib.Core.Path.{◌≡◌, refl, sym, ap, ◌∙◌}
 use mathlib.Core.Logic.{◌⊎◌, inl, inr, ⊎_elim}
-use mathlib.Core.Bool.{Bool, true, false, cond, ◌&&◌}
+use mathlib.Core.Bool.{◌&&◌}
 use mathlib.Core.List.Memᴰ
 use mathlib.Core.List.{List, [], ◌∷◌, map, Memᴰ}
 use lib.Dec.{T, eqb, ltb, eqb→eq, eqb_refl, ltb→lt, lt→ltb}
 use lib.ListN.{length, length-map}
 use Rattle.timing.specs.Lists.{keep, each_next, upto}
-use Rattle.timing.specs.Graphs.{Design, design_graph, Edge, edge, edges_of, Graph, graph, edges_in}
+use Rattle.timing.specs.Graphs.{Design, design_graph, Edge, edge, edges_of, Graph, edges_in}
 use Rattle.timing.specs.WellFormed.{edge_rises}
 use Rattle.theorems.proofs.Lists.{and_intro, and_left, and_right, or_cases, or_left, or_right, of_keep, length_upto}
 use Rattle.theorems.proofs.Counting.{next_sorted}

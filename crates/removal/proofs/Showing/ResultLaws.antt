@@ -11,7 +11,7 @@ use lib.Dec.{T, eqb, ltb, lt→ltb}
 use lib.ListN.{length}
 use borrow.Author.Tests.{ne_eqb}
 use Rattle.timing.specs.Lists.{is_nil, keep, count_of, one_if, upto}
-use Rattle.timing.specs.Graphs.{Design, Edge, edge, Graph, graph, node_of, endpoint_of, ends_at}
+use Rattle.timing.specs.Graphs.{Design, Edge, edge, Graph, node_of, endpoint_of, ends_at}
 use Rattle.timing.specs.Marks.{PathList, paths_of, mark}
 use Rattle.timing.specs.Sorting.{before, place}
 use Rattle.timing.specs.TrueGraphs.{Copy, Join, copy_before, edge_before, copies, path_ends, numbered, true_graph}

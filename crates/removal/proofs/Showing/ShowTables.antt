@@ -20,7 +20,7 @@ use Rattle.removal.specs.Slots.{slot_marks}
 use Rattle.removal.specs.Rows.{slots_in, Tabled, Ready, flag_in, InRun, run, run_from, run_to, edge_in, default_in, target}
 use Rattle.removal.specs.Patches.{patch_at, lead_at, Patched}
 use Rattle.removal.specs.Show.{from_shown, shown_by, shown_at, edges_to, EdgesMeet, PatchedRow}
-use Rattle.removal.proofs.Reaching.RowLaws.{read, words}
+use Rattle.removal.proofs.Reaching.RowLaws.{read}
 use Rattle.removal.proofs.Reaching.TargetLaws.{target_below, comes_shown}
 use Rattle.removal.proofs.Showing.GrowLaws.{keep_same}
 

@@ -3,11 +3,10 @@ use Prim.Native.Nat.{ℕ, zero, suc, ◌+◌, ◌-◌, ◌*◌, ◌≤◌, ◌<�
 use native.Mathlib.Omega.{arith}
 use mathlib.Core.Path.{◌≡◌, refl, sym, ap, ◌∙◌, subst}
 use mathlib.Core.Bool.{Bool, true, false, cond}
-use mathlib.Core.List.{List, [], ◌∷◌, map, flat_map}
+use mathlib.Core.List.{List, [], ◌∷◌, flat_map}
 use lib.Dec.{ltb}
 use lib.ListN.{length, get_or, take, length-map}
-use borrow.Author.Tests.{lt-ltb, le-ltb}
-use Rattle.timing.specs.Lists.{one_if, keep, count_of, upto}
+use Rattle.timing.specs.Lists.{one_if, count_of, upto}
 use Rattle.timing.specs.Graphs.{Design, Graph, edges_in}
 use Rattle.timing.specs.Marks.{PathList}
 use Rattle.theorems.proofs.Lists.{length_upto}
@@ -15,7 +14,7 @@ use Rattle.theorems.proofs.Counting.{count_cons}
 use Rattle.removal.specs.declared.rows.Layout.{Layout}
 use Rattle.removal.specs.Slots.{slots, slot_base, slot_marks}
 use Rattle.removal.specs.Rows.{slots_in, Tabled, Ready, flag_in, run_from, run_to, edge_in, run}
-use Rattle.removal.specs.Result.{number_of, shown_slots}
+use Rattle.removal.specs.Result.{number_of}
 use Rattle.removal.specs.Show.{from_shown, reached_by, edges_to, finally, edges_before}
 use Rattle.removal.specs.Fill.{Fits}
 use Rattle.removal.specs.Bounds.{reached_to}

@@ -19,7 +19,7 @@ use Rattle.removal.specs.Edges.{EdgesInto}
 use Rattle.removal.specs.Result.{Slot, shown_slots}
 use Rattle.removal.specs.Show.{AllShown, FlagsReset, reached_by, shown_by, from_shown}
 use Rattle.removal.specs.Fill.{LowFlags, RowsFlagged, Fits, RoomsAlike, Fillable}
-use Rattle.removal.specs.Build.{Given, Buildable, Built}
+use Rattle.removal.specs.Build.{Buildable, Built}
 use Rattle.removal.specs.Remove.{Workable, WorkableIn, AllReached, Found}
 use Rattle.removal.proofs.Building.CountLaws.{list_countable, copies_countable}
 use Rattle.removal.proofs.Reaching.SlotLaws.{setting_of}

@@ -15,7 +15,7 @@ use Rattle.removal.specs.Slots.{slots, slot_marks}
 use Rattle.removal.specs.Rows.{slots_in, Tabled, flag_in}
 use Rattle.removal.specs.Flags.{ReachedRow}
 use Rattle.removal.specs.Result.{Slot, shown_below, shown_slots}
-use Rattle.removal.specs.Show.{reached_by, edges_to, shows, finally, edges_before, final_flag, Passed, AllShown, FlagsReset}
+use Rattle.removal.specs.Show.{reached_by, edges_to, shows, finally, edges_before, AllShown, FlagsReset}
 use Rattle.removal.specs.Fill.{LowFlags, RowsFlagged, Fits}
 use Rattle.removal.proofs.Reaching.SlotLaws.{Setting, setting_of}
 use Rattle.removal.proofs.Reaching.FlagLaws.{reached_same}

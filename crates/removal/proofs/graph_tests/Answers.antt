@@ -8,7 +8,6 @@ use Rattle.timing.specs.Refusals.{◌then◌}
 use Rattle.timing.specs.Tests.{design_sizes, list_sizes, node_count, design_tests, list_tests, graph_test}
 use Rattle.timing.specs.Calls.{graph_slices, graph_of, graph_sizes}
 use Rattle.removal.proofs.Whole.TestLaws.{graph_called}
-use borrow.Author.Rules.{rules}
 use Rattle.removal.proofs.graph_tests.Goals as goal
 
 pub returns : goal.returns

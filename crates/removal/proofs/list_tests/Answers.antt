@@ -6,7 +6,6 @@ use Rattle.timing.specs.Marks.{path_list}
 use Rattle.timing.specs.Refusals.{◌then◌}
 use Rattle.timing.specs.Tests.{design_sizes, list_sizes, design_tests, list_tests}
 use Rattle.removal.proofs.Whole.TestLaws.{list_chain}
-use borrow.Author.Rules.{rules}
 use Rattle.removal.proofs.list_tests.Goals as goal
 
 pub returns : goal.returns

@@ -7,7 +7,6 @@ use Rattle.timing.specs.Marks.{path_list}
 use Rattle.timing.specs.Calls.{Outcome, graph_slices, room_of}
 use Rattle.removal.specs.Remove.{removal_outcome}
 use Rattle.removal.proofs.Whole.TestLaws.{design_refused, design_passed, design_numberable, design_removed, rooms_alike, design_room, Stated, stated_refused, stated_removed}
-use borrow.Author.Rules.{rules}
 use Rattle.removal.proofs.remove_from_design.Goals as goal
 
 pub returns-in-Refused : goal.returns-in-Refused

@@ -7,7 +7,6 @@ use Rattle.timing.specs.Marks.{path_list}
 use Rattle.timing.specs.Calls.{Outcome, graph_slices, graph_of, room_of}
 use Rattle.removal.specs.Remove.{removal_outcome}
 use Rattle.removal.proofs.Whole.TestLaws.{graph_refused, graph_passed, graph_workable, graph_removed, rooms_alike, graph_room, Stated, stated_refused, stated_removed}
-use borrow.Author.Rules.{rules}
 use Rattle.removal.proofs.remove_from_graph.Goals as goal
 
 pub returns-in-Refused : goal.returns-in-Refused

@@ -4,7 +4,6 @@ use lib.ListN.{length, take}
 use Rattle.theorems.proofs.Lists.{length_upto}
 use Rattle.removal.proofs.Whole.EndpointLaws.{endpoints_length}
 use Rattle.removal.proofs.Whole.TestLaws.{numbered_workable, numbered_removed}
-use borrow.Author.Rules.{rules}
 use Rattle.removal.proofs.remove_numbered.Goals as goal
 
 pub slice_bounds-remove-end-2 : goal.slice_bounds-remove-end-2

@@ -1,6 +1,5 @@
 -- The arrays are room enough for so few.
 use Rattle.removal.proofs.Whole.TestLaws.{numbered_room}
-use borrow.Author.Rules.{rules}
 use Rattle.removal.proofs.remove_small.Goals as goal
 
 pub remove_numbered-requires : goal.remove_numbered-requires

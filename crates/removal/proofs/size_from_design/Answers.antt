@@ -8,7 +8,6 @@ use Rattle.timing.specs.Marks.{path_list}
 use Rattle.timing.specs.Calls.{Outcome, largest_room}
 use Rattle.removal.specs.Remove.{Sized}
 use Rattle.removal.proofs.Whole.TestLaws.{design_refused, design_passed, design_numberable, design_sized, no_room, size_design, sized_kept}
-use borrow.Author.Rules.{rules}
 use Rattle.removal.proofs.size_from_design.Goals as goal
 
 pub returns-in-Refused : goal.returns-in-Refused

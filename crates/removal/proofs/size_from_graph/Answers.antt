@@ -8,7 +8,6 @@ use Rattle.timing.specs.Marks.{path_list}
 use Rattle.timing.specs.Calls.{Outcome, graph_slices, largest_room}
 use Rattle.removal.specs.Remove.{Sized}
 use Rattle.removal.proofs.Whole.TestLaws.{graph_refused, graph_passed, graph_workable, graph_sized, no_room, size_graph, sized_kept}
-use borrow.Author.Rules.{rules}
 use Rattle.removal.proofs.size_from_graph.Goals as goal
 
 pub returns-in-Refused : goal.returns-in-Refused

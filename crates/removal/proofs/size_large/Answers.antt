@@ -1,6 +1,5 @@
 -- The arrays are room enough, since a design that passes its tests has no more nodes and edges.
 use Rattle.removal.proofs.Whole.TestLaws.{numbered_room}
-use borrow.Author.Rules.{rules}
 use Rattle.removal.proofs.size_large.Goals as goal
 
 pub size_numbered-requires : goal.size_numbered-requires

@@ -1,6 +1,5 @@
 -- The arrays are room enough for so few.
 use Rattle.removal.proofs.Whole.TestLaws.{numbered_room}
-use borrow.Author.Rules.{rules}
 use Rattle.removal.proofs.size_small.Goals as goal
 
 pub size_numbered-requires : goal.size_numbered-requires

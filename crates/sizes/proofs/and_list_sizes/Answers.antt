@@ -1,9 +1,6 @@
-use Prim.Native.Nat.{◌+◌, ◌-◌, ◌≤◌}
 use native.Mathlib.Omega.{arith}
-use mathlib.Core.Path.{◌≡◌, sym, ◌∙◌, ap}
-use lib.ListN.{length, drop}
-use borrow.Author.Rules.{rules}
-use Rattle.timing.specs.Lists.{sum}
+use mathlib.Core.Path.{sym, ◌∙◌, ap}
+use lib.ListN.{length}
 use Rattle.timing.specs.Refusals.{unless}
 use Rattle.sizes.proofs.Counted.{not_enough, counted_on, all_counted}
 use Rattle.sizes.proofs.and_list_sizes.Goals as goal

@@ -1,5 +1,4 @@
 -- One test after the other.
-use borrow.Author.Rules.{rules}
 use Rattle.sizes.proofs.edge_sizes.Goals as goal
 
 pub returns : goal.returns

@@ -1,5 +1,4 @@
 -- The largest room is the limits.
-use borrow.Author.Rules.{rules}
 use Rattle.sizes.proofs.largest_answer.Goals as goal
 
 pub returns : goal.returns

@@ -2,7 +2,6 @@
 use mathlib.Core.Path.{sym, ap, ◌∙◌}
 use Rattle.timing.specs.declared.Verdict.{Verdict}
 use Rattle.timing.specs.Calls.{counts_answer}
-use borrow.Author.Rules.{rules}
 use Rattle.sizes.proofs.room_answer.Goals as goal
 
 pub returns-in-Passed : goal.returns-in-Passed

@@ -3,7 +3,6 @@ use Prim.Native.Nat.{min}
 use native.Mathlib.Omega.{arith}
 use mathlib.Core.Path.{sym}
 use borrow.Author.Tests.{le-leb, lt-leb}
-use borrow.Author.Rules.{rules}
 use Rattle.sizes.proofs.room_tests.Goals as goal
 
 pub returns-then-least-copies : goal.returns-then-least-copies

@@ -1,6 +1,5 @@
 -- 31 where the candidates, then the listed edges, then the edges are more than the words suffice for.
 use mathlib.Core.Path.{sym, ◌∙◌, ap}
-use borrow.Author.Rules.{rules}
 use Rattle.timing.specs.Refusals.{unless}
 use Rattle.sizes.proofs.Words.{count_over, listed_over, edges_within}
 use Rattle.sizes.proofs.scratch_test.Goals as goal

@@ -1,7 +1,6 @@
 -- The tests are called from the left, and 32 comes with 10 (`called_tests`).
 use Rattle.timing.specs.Calls.{graph_slices}
 use Rattle.timed.proofs.Chain.{called_tests}
-use borrow.Author.Rules.{rules}
 use Rattle.timed.proofs.timing_tests.Goals as goal
 
 pub returns : goal.returns

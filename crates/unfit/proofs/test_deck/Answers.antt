@@ -3,7 +3,6 @@ use Rattle.timing.specs.Marks.{path_list}
 use Rattle.timing.specs.Tests.{design_sizes, list_sizes, design_tests, list_tests, allowed_test}
 use Rattle.timing.specs.Calls.{test_list, test_deck}
 use Rattle.timing.proofs.Verdicts.{after_four}
-use borrow.Author.Rules.{rules}
 use Rattle.unfit.proofs.test_deck.Goals as goal
 
 pub returns : goal.returns

@@ -1,5 +1,4 @@
 use Rattle.timing.specs.Calls.{test_design}
-use borrow.Author.Rules.{rules}
 use Rattle.unfit.proofs.test_design.Goals as goal
 
 pub returns : goal.returns

@@ -5,7 +5,6 @@ use Rattle.timing.specs.Tests.{design_sizes, list_sizes, design_tests, list_test
 use Rattle.timing.specs.Calls.{test_list}
 use mathlib.Core.Path.{◌∙◌, ap}
 use Rattle.timing.proofs.Verdicts.{chain_three}
-use borrow.Author.Rules.{rules}
 use Rattle.unfit.proofs.test_list.Goals as goal
 
 pub returns : goal.returns

@@ -1,6 +1,5 @@
 -- The count, then as many numbers.
 use mathlib.Core.Path.{◌∙◌}
-use borrow.Author.Rules.{rules}
 use Rattle.deck_reader.proofs.filler.fill_counted.Goals as goal
 
 pub returns : goal.returns

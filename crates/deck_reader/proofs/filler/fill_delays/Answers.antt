@@ -4,7 +4,6 @@ use mathlib.Core.Path.{◌∙◌, ap}
 use lib.ListN.{set}
 use Rattle.timing.specs.Delays.{delay_of}
 use Rattle.deck_reader.proofs.Reading.{two_are}
-use borrow.Author.Rules.{rules}
 use Rattle.deck_reader.proofs.filler.fill_delays.Goals as goal
 
 pub returns : goal.returns

@@ -8,7 +8,6 @@ use Rattle.timing.specs.Decks.{EdgeRow}
 use Rattle.timing.specs.Looks.{value_at, next_at}
 use Rattle.deck_reader.specs.Reading.{edge_count, edges_place}
 use Rattle.deck_reader.proofs.Reading.{rows_placed, count_place_lem}
-use borrow.Author.Rules.{rules}
 use Rattle.deck_reader.proofs.filler.fill_design.Goals as goal
 
 pub fill_rows-next-requires : goal.fill_rows-next-requires

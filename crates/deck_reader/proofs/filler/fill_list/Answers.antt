@@ -2,7 +2,6 @@
 use mathlib.Core.Path.{◌∙◌}
 use lib.ListN.{length}
 use Rattle.deck_reader.proofs.Reading.{listed_placed, lengths_placed, list_end_lem, list_fits}
-use borrow.Author.Rules.{rules}
 use Rattle.deck_reader.proofs.filler.fill_list.Goals as goal
 
 pub fill_paths-requires : goal.fill_paths-requires

@@ -4,7 +4,6 @@ use mathlib.Core.Path.{◌∙◌, ap}
 use Rattle.timing.specs.Looks.{value_at}
 use Rattle.deck_reader.specs.Reading.{counted_end}
 use Rattle.deck_reader.proofs.Reading.{marked_placed}
-use borrow.Author.Rules.{rules}
 use Rattle.deck_reader.proofs.filler.fill_lists.Goals as goal
 
 pub fill_counted-m-requires : goal.fill_counted-m-requires

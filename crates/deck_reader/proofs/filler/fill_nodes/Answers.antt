@@ -3,7 +3,6 @@ use Prim.Native.Nat.{ℕ}
 use mathlib.Core.Path.{ap}
 use lib.ListN.{set}
 use Rattle.deck_reader.proofs.Reading.{two_are}
-use borrow.Author.Rules.{rules}
 use Rattle.deck_reader.proofs.filler.fill_nodes.Goals as goal
 
 pub returns : goal.returns

@@ -1,10 +1,6 @@
-use Prim.Native.Nat.{◌+◌, ◌-◌, ◌≤◌}
 use native.Mathlib.Omega.{arith}
-use mathlib.Core.Path.{◌≡◌, refl, sym, ◌∙◌}
-use lib.ListN.{length, length-set}
-use lib.Seq.{sets}
-use borrow.Author.Rules.{rules}
-use Rattle.deck_reader.specs.Reading.{numbers_from, numbers_end}
+use mathlib.Core.Path.{refl, sym, ◌∙◌}
+use lib.ListN.{length-set}
 use Rattle.deck_reader.proofs.Reading.{numbers_step, numbers_none, numbers_whole}
 use Rattle.deck_reader.proofs.filler.fill_numbers.Goals as goal
 

@@ -1,12 +1,9 @@
 -- The numbers from i on, stored from `filled + i` on, give the table that storing all gives.
 use Prim.Native.Nat.{◌+◌, ◌-◌, ◌≤◌}
-use native.Mathlib.Omega.{arith}
-use mathlib.Core.Path.{◌≡◌, refl, sym, ◌∙◌}
-use lib.ListN.{length, length-set}
+use mathlib.Core.Path.{◌≡◌}
+use lib.ListN.{length}
 use lib.Seq.{sets}
-use borrow.Author.Rules.{rules}
 use Rattle.deck_reader.specs.Reading.{numbers_from, numbers_end}
-use Rattle.deck_reader.proofs.Reading.{numbers_step, numbers_none, numbers_whole}
 use Rattle.deck_reader.proofs.filler.fill_numbers.Given as goal
 
 abbrev pub invariant-loop-i : goal.invariant-loop-i

@@ -1,11 +1,10 @@
-use Prim.Native.Nat.{ℕ, ◌+◌, ◌-◌, ◌≤◌, ◌<◌}
+use Prim.Native.Nat.{ℕ, ◌+◌, ◌-◌, ◌<◌}
 use native.Mathlib.Omega.{arith}
-use mathlib.Core.Path.{◌≡◌, refl, sym, ◌∙◌, ap}
+use mathlib.Core.Path.{refl, sym, ◌∙◌, ap}
 use lib.ListN.{length, length-set}
-use lib.Seq.{sets, length-sets}
-use borrow.Author.Rules.{rules}
+use lib.Seq.{length-sets}
 use Rattle.timing.specs.Looks.{value_at, next_at}
-use Rattle.deck_reader.specs.Reading.{numbers_from, edges_from, lengths_from, paths_end}
+use Rattle.deck_reader.specs.Reading.{numbers_from, edges_from}
 use Rattle.deck_reader.proofs.Reading.{paths_sum, paths_next, edges_step, lengths_step, paths_whole, paths_none}
 use Rattle.deck_reader.proofs.filler.fill_paths.Goals as goal
 

@@ -1,13 +1,9 @@
 -- The paths from k on, stored from k and `filled` on, give the tables that storing all gives.
-use Prim.Native.Nat.{ℕ, ◌+◌, ◌-◌, ◌≤◌, ◌<◌}
-use native.Mathlib.Omega.{arith}
-use mathlib.Core.Path.{◌≡◌, refl, sym, ◌∙◌, ap}
-use lib.ListN.{length, length-set}
-use lib.Seq.{sets, length-sets}
-use borrow.Author.Rules.{rules}
-use Rattle.timing.specs.Looks.{value_at, next_at}
-use Rattle.deck_reader.specs.Reading.{numbers_from, edges_from, lengths_from, paths_end}
-use Rattle.deck_reader.proofs.Reading.{paths_sum, paths_next, edges_step, lengths_step, paths_whole, paths_none}
+use Prim.Native.Nat.{◌+◌, ◌-◌, ◌≤◌}
+use mathlib.Core.Path.{◌≡◌}
+use lib.ListN.{length}
+use lib.Seq.{sets}
+use Rattle.deck_reader.specs.Reading.{edges_from, lengths_from, paths_end}
 use Rattle.deck_reader.proofs.filler.fill_paths.Given as goal
 
 abbrev pub invariant-loop-k : goal.invariant-loop-k

@@ -5,7 +5,6 @@ use lib.ListN.{set}
 use Rattle.timing.specs.Delays.{delay_of}
 use Rattle.timing.specs.Looks.{value_at, next_at}
 use Rattle.deck_reader.specs.Reading.{behind_two}
-use borrow.Author.Rules.{rules}
 use Rattle.deck_reader.proofs.filler.fill_row.Goals as goal
 
 pub returns : goal.returns

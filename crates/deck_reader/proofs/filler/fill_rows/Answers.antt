@@ -1,11 +1,9 @@
-use Prim.Native.Nat.{◌-◌, ◌≤◌, ◌<◌}
+use Prim.Native.Nat.{◌≤◌, ◌<◌}
 use native.Mathlib.Omega.{arith}
-use mathlib.Core.Path.{◌≡◌, refl, sym, ◌∙◌, ap}
+use mathlib.Core.Path.{refl, sym, ◌∙◌, ap}
 use lib.ListN.{length, length-set}
-use lib.Seq.{sets}
 use Rattle.timing.specs.Delays.{delay_of}
 use Rattle.timing.specs.Decks.{EdgeRow}
-use Rattle.deck_reader.specs.Reading.{rows_end, starts_from, ends_from, early_from, late_from}
 use Rattle.deck_reader.proofs.Reading.{rows_step, rows_none, rows_whole, rows_next, rows_last, rows_start}
 use Rattle.deck_reader.proofs.filler.fill_rows.Goals as goal
 

@@ -4,7 +4,6 @@ use lib.IntN.{ℤ}
 use lib.ListN.{set}
 use mir.Syntax.{w32}
 use mir.Facts.{to_z-of_z}
-use borrow.Author.Rules.{rules}
 use Rattle.deck_reader.proofs.filler.set_delay.Goals as goal
 
 pub returns : goal.returns

@@ -3,7 +3,6 @@ use mathlib.Core.Path.{sym, ap}
 use Rattle.timing.specs.declared.Verdict.{Verdict}
 use Rattle.timing.specs.Parsing.{onward, return, tested}
 use Rattle.timing.specs.Looks.{number_of}
-use borrow.Author.Rules.{rules}
 use Rattle.deck_reader.proofs.looker.judged.Goals as goal
 
 pub returns-in-Passed : goal.returns-in-Passed

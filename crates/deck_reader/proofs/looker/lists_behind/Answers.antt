@@ -3,7 +3,6 @@ use mathlib.Core.Path.{sym, ◌∙◌, ap}
 use Rattle.timing.specs.declared.Looked.{Looked}
 use Rattle.timing.specs.Looks.{looked, value_at}
 use Rattle.deck_reader.specs.Reading.{lists_in, behind}
-use borrow.Author.Rules.{rules}
 use Rattle.deck_reader.proofs.looker.lists_behind.Goals as goal
 
 pub returns-in-At : goal.returns-in-At

@@ -2,7 +2,6 @@
 use mathlib.Core.Path.{sym, ◌∙◌}
 use Rattle.deck_reader.specs.Reading.{nodes_in, edges_in}
 use Rattle.deck_reader.proofs.Looking.{number_at, number_stop}
-use borrow.Author.Rules.{rules}
 use Rattle.deck_reader.proofs.looker.look_design.Goals as goal
 
 pub returns-in-Value : goal.returns-in-Value

@@ -4,7 +4,6 @@ use Rattle.timing.specs.Parsing.{repeated}
 use Rattle.timing.specs.Decks.{edge_row}
 use Rattle.deck_reader.specs.Reading.{count_in}
 use Rattle.deck_reader.proofs.Looking.{edges_at, number_stop}
-use borrow.Author.Rules.{rules}
 use Rattle.deck_reader.proofs.looker.look_edges.Goals as goal
 
 pub returns-in-Value : goal.returns-in-Value

@@ -4,7 +4,6 @@ use mathlib.Core.Path.{sym, ◌∙◌, ap}
 use Rattle.timing.specs.Looks.{looked, value_at}
 use Rattle.deck_reader.specs.Reading.{list_in, marked_in}
 use Rattle.deck_reader.proofs.Looking.{part_at, part_stop}
-use borrow.Author.Rules.{rules}
 use Rattle.deck_reader.proofs.looker.look_lists.Goals as goal
 
 pub returns-in-At : goal.returns-in-At

@@ -5,7 +5,6 @@ use Rattle.timing.specs.Parsing.{number, repeated}
 use Rattle.timing.specs.Looks.{looked}
 use Rattle.deck_reader.specs.Reading.{marked_count_in}
 use Rattle.deck_reader.proofs.Looking.{number_at, number_stop}
-use borrow.Author.Rules.{rules}
 use Rattle.deck_reader.proofs.looker.look_marked.Goals as goal
 
 pub returns-in-Value : goal.returns-in-Value

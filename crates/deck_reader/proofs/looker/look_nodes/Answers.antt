@@ -1,7 +1,6 @@
 -- The answer follows from what was read and from the test.
 use mathlib.Core.Path.{sym, ◌∙◌}
 use Rattle.deck_reader.proofs.Looking.{nodes_is, nodes_none}
-use borrow.Author.Rules.{rules}
 use Rattle.deck_reader.proofs.looker.look_nodes.Goals as goal
 
 pub returns-in-Value : goal.returns-in-Value

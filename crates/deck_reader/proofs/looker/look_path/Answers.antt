@@ -5,7 +5,6 @@ use mathlib.Core.Path.{◌≡◌, sym, ◌∙◌, ap}
 use Rattle.timing.specs.Parsing.{number, repeated}
 use Rattle.timing.specs.Looks.{looked}
 use Rattle.deck_reader.proofs.Looking.{path_at, path_stop, path_none, path_is}
-use borrow.Author.Rules.{rules}
 use Rattle.deck_reader.proofs.looker.look_path.Goals as goal
 
 pub returns-in-At : goal.returns-in-At

@@ -1,9 +1,5 @@
-use Prim.Native.Nat.{◌-◌, ◌≤◌}
 use native.Mathlib.Omega.{arith}
-use mathlib.Core.Path.{◌≡◌, sym, ◌∙◌}
-use borrow.Author.Rules.{rules}
-use Rattle.timing.specs.Decks.{paths}
-use Rattle.timing.specs.Looks.{looked}
+use mathlib.Core.Path.{sym, ◌∙◌}
 use Rattle.deck_reader.proofs.Looking.{path_small, paths_all, paths_turn, paths_stop, paths_end}
 use Rattle.deck_reader.proofs.looker.look_paths.Goals as goal
 

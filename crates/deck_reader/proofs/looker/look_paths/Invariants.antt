@@ -1,11 +1,8 @@
 -- The paths that are left, from here on with this sum, end where all do.
 use Prim.Native.Nat.{◌-◌, ◌≤◌}
-use native.Mathlib.Omega.{arith}
-use mathlib.Core.Path.{◌≡◌, sym, ◌∙◌}
-use borrow.Author.Rules.{rules}
+use mathlib.Core.Path.{◌≡◌}
 use Rattle.timing.specs.Decks.{paths}
 use Rattle.timing.specs.Looks.{looked}
-use Rattle.deck_reader.proofs.Looking.{path_small, paths_all, paths_turn, paths_stop, paths_end}
 use Rattle.deck_reader.proofs.looker.look_paths.Given as goal
 
 abbrev pub invariant-loop-k : goal.invariant-loop-k

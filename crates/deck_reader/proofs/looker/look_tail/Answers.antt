@@ -1,7 +1,6 @@
 -- T, then the end of the bytes.
 use mathlib.Core.Path.{sym, ◌∙◌}
 use Rattle.deck_reader.proofs.Looking.{tail_end, tail_more, tail_stop}
-use borrow.Author.Rules.{rules}
 use Rattle.deck_reader.proofs.looker.look_tail.Goals as goal
 
 pub returns-then-s-next : goal.returns-then-s-next

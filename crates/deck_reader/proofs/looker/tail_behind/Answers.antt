@@ -2,7 +2,6 @@
 use mathlib.Core.Path.{sym, ◌∙◌, ap}
 use Rattle.timing.specs.declared.Looked.{Looked}
 use Rattle.deck_reader.specs.Reading.{verdict_of, tail_in, verdict_behind}
-use borrow.Author.Rules.{rules}
 use Rattle.deck_reader.proofs.looker.tail_behind.Goals as goal
 
 pub returns-in-At : goal.returns-in-At

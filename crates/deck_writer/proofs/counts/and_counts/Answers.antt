@@ -2,7 +2,6 @@
 use lib.Dec.{leb}
 use Rattle.timing.specs.Refusals.{unless}
 use Rattle.deck_writer.proofs.Tests.{then_counts}
-use borrow.Author.Rules.{rules}
 use Rattle.deck_writer.proofs.counts.and_counts.Goals as goal
 
 pub returns : goal.returns

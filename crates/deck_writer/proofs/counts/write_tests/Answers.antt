@@ -1,7 +1,6 @@
 -- The steps are the tests of a deck that is written.
 use Rattle.deck_writer.specs.Writing.{deck_of}
 use Rattle.deck_writer.proofs.Tests.{then_tests}
-use borrow.Author.Rules.{rules}
 use Rattle.deck_writer.proofs.counts.write_tests.Goals as goal
 
 pub returns : goal.returns

@@ -2,7 +2,6 @@
 use native.Mathlib.Omega.{arith}
 use Rattle.deck_writer.specs.Writing.{deck_of}
 use Rattle.deck_writer.proofs.Writing.{size_deck}
-use borrow.Author.Rules.{rules}
 use Rattle.deck_writer.proofs.writer.deck_size.Goals as goal
 
 pub returns : goal.returns

@@ -5,7 +5,6 @@ use mir.Syntax.{w32}
 use mathlib.Core.Path.{◌∙◌, ap}
 use mir.Facts.{to_z-of_z}
 use Rattle.timing.specs.Delays.{packed_delay}
-use borrow.Author.Rules.{rules}
 use Rattle.deck_writer.proofs.writer.delay_number.Goals as goal
 
 pub returns : goal.returns

@@ -1,14 +1,10 @@
 use Prim.Native.Nat.{ℕ}
 use Rattle.timing.specs.Numbers.{packed}
 use lib.IntN.{pos}
-use Prim.Native.Nat.{◌+◌, ◌-◌, ◌*◌, ◌≤◌}
 use native.Mathlib.Omega.{arith}
 use mathlib.Core.Path.{◌≡◌, ◌∙◌, ap}
-use mathlib.Core.List.{map}
-use lib.ListN.{length, get_or, drop}
-use borrow.Author.Rules.{rules}
+use lib.ListN.{length, get_or}
 use Rattle.timing.specs.Delays.{packed_delay}
-use Rattle.packed_lists.specs.Writing.{size}
 use Rattle.deck_writer.proofs.Writing.{sizes_drop, sizes_done}
 use Rattle.packed.proofs.Numbers.{packed_size}
 use Rattle.deck_writer.proofs.writer.delays_size.Goals as goal

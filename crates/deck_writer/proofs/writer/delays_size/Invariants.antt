@@ -1,17 +1,10 @@
 -- The total so far and the size of the delays from k on are the size of all.
-use Prim.Native.Nat.{ℕ}
-use Rattle.timing.specs.Numbers.{packed}
-use lib.IntN.{pos}
 use Prim.Native.Nat.{◌+◌, ◌-◌, ◌*◌, ◌≤◌}
-use native.Mathlib.Omega.{arith}
-use mathlib.Core.Path.{◌≡◌, ◌∙◌, ap}
+use mathlib.Core.Path.{◌≡◌}
 use mathlib.Core.List.{map}
-use lib.ListN.{length, get_or, drop}
-use borrow.Author.Rules.{rules}
+use lib.ListN.{length, drop}
 use Rattle.timing.specs.Delays.{packed_delay}
 use Rattle.packed_lists.specs.Writing.{size}
-use Rattle.deck_writer.proofs.Writing.{sizes_drop, sizes_done}
-use Rattle.packed.proofs.Numbers.{packed_size}
 use Rattle.deck_writer.proofs.writer.delays_size.Given as goal
 
 abbrev pub invariant-loop-k : goal.invariant-loop-k

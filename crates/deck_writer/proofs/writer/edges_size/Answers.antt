@@ -1,7 +1,6 @@
 -- Each number is counted once.
 use native.Mathlib.Omega.{arith}
 use Rattle.deck_writer.proofs.Writing.{size_edges}
-use borrow.Author.Rules.{rules}
 use Rattle.deck_writer.proofs.writer.edges_size.Goals as goal
 
 pub overflow_add-result : goal.overflow_add-result

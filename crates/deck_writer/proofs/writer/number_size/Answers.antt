@@ -1,7 +1,6 @@
 -- A number takes at most five bytes.
 use native.Mathlib.Omega.{arith}
 use Rattle.packed.proofs.Numbers.{packed_size}
-use borrow.Author.Rules.{rules}
 use Rattle.deck_writer.proofs.writer.number_size.Goals as goal
 
 pub returns : goal.returns

@@ -2,7 +2,6 @@
 use native.Mathlib.Omega.{arith}
 use Rattle.packed_lists.proofs.Sizes.{size_most}
 use Rattle.packed_lists.specs.Writing.{bytes_of}
-use borrow.Author.Rules.{rules}
 use Rattle.deck_writer.proofs.writer.numbers_size.Goals as goal
 
 pub returns : goal.returns

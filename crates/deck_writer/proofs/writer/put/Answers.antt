@@ -2,7 +2,6 @@
 use Rattle.packed_lists.proofs.Writing.{bytes_one, put_fits, put_never}
 use mathlib.Core.Path.{sym, ◌∙◌}
 use mathlib.Core.List.{[], ◌∷◌}
-use borrow.Author.Rules.{rules}
 use Rattle.deck_writer.proofs.writer.put.Goals as goal
 
 pub returns-in-End : goal.returns-in-End

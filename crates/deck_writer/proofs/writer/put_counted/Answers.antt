@@ -2,7 +2,6 @@
 use mathlib.Core.List.{[], ◌∷◌}
 use lib.ListN.{take, drop}
 use Rattle.packed_lists.proofs.Writing.{fits_first, fits_second, wrote_both}
-use borrow.Author.Rules.{rules}
 use Rattle.deck_writer.proofs.writer.put_counted.Goals as goal
 
 pub put-at-requires : goal.put-at-requires

@@ -2,11 +2,9 @@
 -- the deck that is written
 use native.Mathlib.Omega.{arith}
 use mathlib.Core.List.{◌++◌}
-use Rattle.timing.specs.Decks.{Deck}
 use Rattle.deck_writer.specs.Writing.{deck_of}
 use Rattle.packed_lists.proofs.Writing.{fits_first, fits_second, wrote_both}
 use Rattle.deck_writer.proofs.Writing.{design_numbers, list_numbers, last_numbers, deck_parts, deck_fits}
-use borrow.Author.Rules.{rules}
 use Rattle.deck_writer.proofs.writer.put_deck.Goals as goal
 
 pub put_design-at-requires : goal.put_design-at-requires

@@ -3,7 +3,6 @@ use mathlib.Core.List.{[], ◌∷◌}
 use lib.ListN.{length}
 use Rattle.timing.specs.Decks.{edge_numbers}
 use Rattle.packed_lists.proofs.Writing.{fits_first, fits_second, wrote_both}
-use borrow.Author.Rules.{rules}
 use Rattle.deck_writer.proofs.writer.put_design.Goals as goal
 
 pub put-at-requires : goal.put-at-requires

@@ -1,15 +1,8 @@
 -- The numbers of the edges from k on are left to be written.
-use Prim.Native.Nat.{◌+◌, ◌-◌, ◌≤◌}
-use native.Mathlib.Omega.{arith}
-use mathlib.Core.List.{[], ◌∷◌, ◌++◌}
-use lib.IntN.{pos}
-use lib.ListN.{length, get_or, drop}
-use borrow.Author.Rules.{rules}
-use Rattle.timing.specs.Delays.{packed_delay}
+use Prim.Native.Nat.{◌-◌, ◌≤◌}
+use lib.ListN.{length, drop}
 use Rattle.timing.specs.Decks.{edge_numbers}
 use Rattle.packed_lists.specs.Writing.{Left}
-use Rattle.packed_lists.proofs.Writing.{left_all, left_fits, left_turn, left_none}
-use Rattle.deck_writer.proofs.Writing.{edges_turn, edges_done}
 use Rattle.deck_writer.proofs.writer.put_edges.Given as goal
 
 abbrev pub invariant-loop-k : goal.invariant-loop-k

@@ -4,7 +4,6 @@ use lib.ListN.{length}
 use Rattle.timing.specs.Marks.{cut}
 use Rattle.timing.specs.Decks.{path_numbers}
 use Rattle.packed_lists.proofs.Writing.{fits_first, fits_second, wrote_both}
-use borrow.Author.Rules.{rules}
 use Rattle.deck_writer.proofs.writer.put_list.Goals as goal
 
 pub put-at-requires : goal.put-at-requires

@@ -1,12 +1,7 @@
 -- The numbers from k on are left to be written.
 use Prim.Native.Nat.{◌+◌, ◌-◌, ◌≤◌}
-use native.Mathlib.Omega.{arith}
-use mathlib.Core.List.{[], ◌∷◌, ◌++◌}
-use lib.ListN.{get_or, drop, take}
-use borrow.Author.Rules.{rules}
+use lib.ListN.{drop, take}
 use Rattle.packed_lists.specs.Writing.{Left}
-use Rattle.packed_lists.proofs.Writing.{left_all, left_fits, left_turn, left_none}
-use Rattle.deck_writer.proofs.Writing.{part_all, part_turn, part_done}
 use Rattle.deck_writer.proofs.writer.put_numbers.Given as goal
 
 abbrev pub invariant-loop-k : goal.invariant-loop-k

@@ -1,10 +1,7 @@
-use Prim.Native.Nat.{◌+◌, ◌-◌, ◌≤◌}
+use Prim.Native.Nat.{◌+◌}
 use native.Mathlib.Omega.{arith}
-use mathlib.Core.Path.{◌≡◌}
 use mathlib.Core.List.{◌∷◌, ◌++◌, flat_map}
-use lib.ListN.{length, get_or, drop, take}
-use borrow.Author.Rules.{rules}
-use Rattle.timing.specs.Lists.{sum}
+use lib.ListN.{get_or, drop, take}
 use Rattle.timing.specs.Marks.{cut}
 use Rattle.timing.specs.Decks.{path_numbers}
 use Rattle.packed_lists.specs.Writing.{Left}

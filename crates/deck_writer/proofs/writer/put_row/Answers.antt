@@ -1,7 +1,6 @@
 -- The nodes, then the delays.
 use mathlib.Core.List.{[], ◌∷◌}
 use Rattle.packed_lists.proofs.Writing.{fits_first, fits_second, wrote_both}
-use borrow.Author.Rules.{rules}
 use Rattle.deck_writer.proofs.writer.put_row.Goals as goal
 
 pub put_two-at-requires : goal.put_two-at-requires

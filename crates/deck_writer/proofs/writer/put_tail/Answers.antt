@@ -4,7 +4,6 @@ use mathlib.Core.List.{[], ◌∷◌}
 use lib.ListN.{length}
 use lib.Seq.{take-length}
 use Rattle.packed_lists.proofs.Writing.{fits_first, fits_second, wrote_both}
-use borrow.Author.Rules.{rules}
 use Rattle.deck_writer.proofs.writer.put_tail.Goals as goal
 
 pub put_counted-at-requires : goal.put_counted-at-requires

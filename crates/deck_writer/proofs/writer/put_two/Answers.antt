@@ -1,7 +1,6 @@
 -- One number, then the other.
 use mathlib.Core.List.{[], ◌∷◌}
 use Rattle.packed_lists.proofs.Writing.{fits_first, fits_second, wrote_both}
-use borrow.Author.Rules.{rules}
 use Rattle.deck_writer.proofs.writer.put_two.Goals as goal
 
 pub put-at-requires : goal.put-at-requires

@@ -1,11 +1,7 @@
-use Prim.Native.Nat.{◌-◌, ◌≤◌}
 use native.Mathlib.Omega.{arith}
-use mathlib.Core.Path.{◌≡◌, sym, ◌∙◌, ap}
+use mathlib.Core.Path.{sym, ◌∙◌, ap}
 use mathlib.Core.List.{[]}
-use borrow.Author.Rules.{rules}
 use Rattle.timing.specs.declared.Verdict.TheVariants.{Refused}
-use Rattle.timing.specs.Lists.{upto}
-use Rattle.timing.specs.Refusals.{first_bad}
 use Rattle.timing.specs.Graphs.{design}
 use Rattle.timing.specs.Tests.{early_above_late}
 use Rattle.timing.proofs.FirstBad.{bad_here, good_here, none_left, all_left}

@@ -1,13 +1,9 @@
-use Prim.Native.Nat.{◌-◌, ◌≤◌}
 use native.Mathlib.Omega.{arith}
-use mathlib.Core.Path.{◌≡◌, sym, ◌∙◌, ap}
+use mathlib.Core.Path.{sym, ◌∙◌, ap}
 use mathlib.Core.Bool.{not}
 use mathlib.Core.List.{[]}
 use lib.ListN.{length}
-use borrow.Author.Rules.{rules}
 use Rattle.timing.specs.declared.Verdict.TheVariants.{Refused}
-use Rattle.timing.specs.Lists.{upto}
-use Rattle.timing.specs.Refusals.{first_bad}
 use Rattle.timing.specs.Graphs.{design}
 use Rattle.timing.specs.Tests.{falls}
 use Rattle.timing.proofs.FirstBad.{bad_here, good_here, none_left, all_left}

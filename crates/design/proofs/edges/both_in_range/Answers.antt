@@ -1,4 +1,3 @@
-use borrow.Author.Rules.{rules}
 use Rattle.design.proofs.edges.both_in_range.Goals as goal
 
 pub returns-then-in_range : goal.returns-then-in_range

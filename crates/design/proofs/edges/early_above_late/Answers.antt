@@ -1,5 +1,4 @@
 -- The test reads both delays back from the machine.
-use borrow.Author.Rules.{rules}
 use mir.Syntax.{w32}
 use mir.Val.{SFits}
 use mir.Facts.{to_z-of_z}

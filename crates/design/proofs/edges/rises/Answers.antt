@@ -1,4 +1,3 @@
-use borrow.Author.Rules.{rules}
 use Rattle.design.proofs.edges.rises.Goals as goal
 
 pub returns : goal.returns

@@ -1,16 +1,12 @@
 -- The first bad marked node of all is the first of those from i on.
 use Prim.Native.Nat.{◌-◌, ◌≤◌}
-use native.Mathlib.Omega.{arith}
-use mathlib.Core.Path.{◌≡◌, sym, ◌∙◌, ap}
+use mathlib.Core.Path.{◌≡◌}
 use mathlib.Core.List.{[]}
 use lib.ListN.{length}
-use borrow.Author.Rules.{rules}
-use Rattle.timing.specs.declared.Verdict.TheVariants.{Refused}
 use Rattle.timing.specs.Lists.{upto}
 use Rattle.timing.specs.Refusals.{first_bad}
 use Rattle.timing.specs.Graphs.{design}
 use Rattle.timing.specs.Tests.{wrong_marked}
-use Rattle.timing.proofs.FirstBad.{bad_here, good_here, none_left, all_left}
 use Rattle.design.proofs.marked.and_marked.Given as goal
 
 abbrev pub invariant-loop-i : goal.invariant-loop-i

@@ -6,7 +6,6 @@ use mathlib.Core.List.{List}
 use lib.Dec.{leb}
 use lib.ListN.{get_or}
 use Rattle.timing.specs.Tests.{rises_not}
-use borrow.Author.Rules.{rules}
 use Rattle.design.proofs.marked.rises_not.Goals as goal
 
 later : (l : List ℕ) (i : ℕ) → 0 < i → rises_not l i ≡ leb (get_or l i 0) (get_or l (i - 1) 0)

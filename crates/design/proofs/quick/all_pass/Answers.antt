@@ -3,7 +3,6 @@ use mathlib.Core.Path.{sym, subst}
 use mathlib.Core.List.{[]}
 use lib.Dec.{T}
 use lib.ListN.{length}
-use borrow.Author.Rules.{rules}
 use Rattle.timing.specs.Graphs.{design}
 use Rattle.timing.specs.Tests.{strays, falls, out_of_range, early_above_late}
 use Rattle.design.proofs.Passes.{four_pass}

@@ -1,6 +1,5 @@
 -- The tests read both delays back from the machine.
 use mir.Facts.{to_z-of_z}
-use borrow.Author.Rules.{rules}
 use Rattle.design.proofs.Passes.{edge_fine}
 use Rattle.design.proofs.quick.edge_passes.Goals as goal
 

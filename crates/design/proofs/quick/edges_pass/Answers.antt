@@ -1,16 +1,10 @@
-use Prim.Native.Nat.{ℕ, ◌-◌, ◌≤◌, ◌<◌}
 use native.Mathlib.Omega.{arith}
-use mathlib.Core.Path.{◌≡◌}
-use mathlib.Core.Bool.{true, false}
 use mathlib.Core.List.{[]}
-use lib.ListN.{length}
 use mir.Syntax.{w32}
 use mir.Val.{SFits}
 use mir.Facts.{to_z-of_z}
 use borrow.Author.Count.{below_more}
-use borrow.Author.Rules.{rules}
-use Rattle.timing.specs.Graphs.{Design, design, edge_early, edge_late}
-use Rattle.timing.specs.Tests.{strays, falls, out_of_range, early_above_late}
+use Rattle.timing.specs.Graphs.{design, edge_early, edge_late}
 use Rattle.timing.proofs.Verdicts.{both_true}
 use Rattle.design.proofs.quick.edges_pass.Invariants.{Fine}
 use Rattle.design.proofs.quick.edges_pass.Goals as goal

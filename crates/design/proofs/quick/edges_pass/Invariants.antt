@@ -1,19 +1,12 @@
 -- Where all passes up to edge k, each edge before k passes.
 -- edge k passes 12 to 15
 use Prim.Native.Nat.{ℕ, ◌-◌, ◌≤◌, ◌<◌}
-use native.Mathlib.Omega.{arith}
 use mathlib.Core.Path.{◌≡◌}
 use mathlib.Core.Bool.{true, false}
 use mathlib.Core.List.{[]}
 use lib.ListN.{length}
-use mir.Syntax.{w32}
-use mir.Val.{SFits}
-use mir.Facts.{to_z-of_z}
-use borrow.Author.Count.{below_more}
-use borrow.Author.Rules.{rules}
-use Rattle.timing.specs.Graphs.{Design, design, edge_early, edge_late}
+use Rattle.timing.specs.Graphs.{Design, design}
 use Rattle.timing.specs.Tests.{strays, falls, out_of_range, early_above_late}
-use Rattle.timing.proofs.Verdicts.{both_true}
 use Rattle.design.proofs.quick.edges_pass.Given as goal
 
 abbrev pub Fine : Design → ℕ → Type 0

@@ -1,6 +1,5 @@
 -- Where lists are found to be of other lengths the answer is no.
 use native.Mathlib.Omega.{arith}
-use borrow.Author.Rules.{rules}
 use Rattle.graph.proofs.Turns.{never}
 use Rattle.graph.proofs.quick.all_pass.Goals as goal
 

@@ -1,12 +1,11 @@
-use Prim.Native.Nat.{ℕ, ◌+◌, ◌-◌, ◌≤◌, ◌<◌}
+use Prim.Native.Nat.{ℕ, ◌+◌, ◌<◌}
 use native.Mathlib.Omega.{arith}
 use mathlib.Core.Path.{◌≡◌, refl, sym, ◌∙◌, ap}
 use mathlib.Core.Bool.{not}
 use lib.ListN.{length, get_or}
-use borrow.Author.Rules.{rules}
 use borrow.Author.Tests.{eqb-true, not-false}
 use Rattle.timing.specs.Lists.{one_if, count_of, upto}
-use Rattle.graph.specs.Passes.{flag, copy_ends, lowest_after, walked}
+use Rattle.graph.specs.Passes.{flag, copy_ends, lowest_after}
 use Rattle.graph.proofs.Walk.{walk_good, walk_done, walk_starts}
 use Rattle.graph.proofs.Turns.{never, count_next, copy_node}
 use Rattle.graph.proofs.quick.copies_end.Goals as goal

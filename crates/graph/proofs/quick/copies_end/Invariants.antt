@@ -1,15 +1,10 @@
 -- The copies from c on pass, with the lowest node that is left for them, where all do; those of sources before c are counted.
-use Prim.Native.Nat.{ℕ, ◌+◌, ◌-◌, ◌≤◌, ◌<◌}
-use native.Mathlib.Omega.{arith}
-use mathlib.Core.Path.{◌≡◌, refl, sym, ◌∙◌, ap}
+use Prim.Native.Nat.{◌-◌, ◌≤◌}
+use mathlib.Core.Path.{◌≡◌}
 use mathlib.Core.Bool.{not}
 use lib.ListN.{length, get_or}
-use borrow.Author.Rules.{rules}
-use borrow.Author.Tests.{eqb-true, not-false}
-use Rattle.timing.specs.Lists.{one_if, count_of, upto}
+use Rattle.timing.specs.Lists.{count_of, upto}
 use Rattle.graph.specs.Passes.{flag, copy_ends, lowest_after, walked}
-use Rattle.graph.proofs.Walk.{walk_good, walk_done, walk_starts}
-use Rattle.graph.proofs.Turns.{never, count_next, copy_node}
 use Rattle.graph.proofs.quick.copies_end.Given as goal
 
 abbrev pub invariant-loop-c : goal.invariant-loop-c

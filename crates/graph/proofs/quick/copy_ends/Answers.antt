@@ -3,9 +3,7 @@ use Prim.Native.Nat.{ℕ}
 use mathlib.Core.Path.{sym, ◌∙◌, ap}
 use mathlib.Core.Bool.{◌&&◌}
 use lib.Dec.{leb}
-use lib.ListN.{get_or}
 use borrow.Author.Tests.{le-ltb, lt-ltb, eq-eqb, ne_eqb, not-true, not-false}
-use borrow.Author.Rules.{rules}
 use Rattle.graph.specs.Passes.{flag, joined}
 use Rattle.graph.proofs.Turns.{and_true}
 use mathlib.Core.Bool.{not}

@@ -2,7 +2,6 @@
 use Prim.Native.Nat.{◌<◌}
 use native.Mathlib.Omega.{arith}
 use lib.ListN.{length}
-use borrow.Author.Rules.{rules}
 use Rattle.graph.proofs.Flags.{flags_clear}
 use Rattle.graph.proofs.quick.edges_found.Goals as goal
 

@@ -1,14 +1,7 @@
 -- The edges before i join what their design edges join, and the flags of the copies that they leave are set.
 use Prim.Native.Nat.{ℕ, ◌-◌, ◌≤◌, ◌<◌}
-use native.Mathlib.Omega.{arith}
-use mathlib.Core.Path.{◌≡◌, sym, ◌∙◌, ap, subst}
-use mathlib.Core.Bool.{true}
-use lib.ListN.{length, get_or, set}
-use borrow.Author.Count.{below_more}
-use borrow.Author.Rules.{rules}
+use lib.ListN.{length}
 use Rattle.graph.specs.Passes.{FlagsSet, Matches}
-use Rattle.graph.proofs.Flags.{flags_none, flags_next}
-use Rattle.graph.proofs.Turns.{never}
 use Rattle.graph.proofs.quick.edges_match.Given as goal
 
 abbrev pub invariant-loop-i : goal.invariant-loop-i

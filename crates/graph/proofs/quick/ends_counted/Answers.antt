@@ -1,9 +1,7 @@
-use Prim.Native.Nat.{ℕ, ◌-◌, ◌≤◌}
+use Prim.Native.Nat.{ℕ}
 use native.Mathlib.Omega.{arith}
 use mathlib.Core.Path.{◌≡◌, refl, sym, ◌∙◌, ap, subst}
-use mathlib.Core.Bool.{true}
 use lib.ListN.{length}
-use borrow.Author.Rules.{rules}
 use Rattle.timing.proofs.Verdicts.{both_true}
 use Rattle.graph.specs.Passes.{Ordered, turns}
 use Rattle.graph.proofs.Turns.{ordered_none, ordered_more, rises_here, turns_next}

@@ -1,13 +1,9 @@
 -- The edges before i are in order where all passed, and end at as many copies as they turn.
-use Prim.Native.Nat.{ℕ, ◌-◌, ◌≤◌}
-use native.Mathlib.Omega.{arith}
-use mathlib.Core.Path.{◌≡◌, refl, sym, ◌∙◌, ap, subst}
+use Prim.Native.Nat.{◌-◌, ◌≤◌}
+use mathlib.Core.Path.{◌≡◌}
 use mathlib.Core.Bool.{true}
 use lib.ListN.{length}
-use borrow.Author.Rules.{rules}
-use Rattle.timing.proofs.Verdicts.{both_true}
 use Rattle.graph.specs.Passes.{Ordered, turns}
-use Rattle.graph.proofs.Turns.{ordered_none, ordered_more, rises_here, turns_next}
 use Rattle.graph.proofs.quick.ends_counted.Given as goal
 
 abbrev pub invariant-loop-i : goal.invariant-loop-i

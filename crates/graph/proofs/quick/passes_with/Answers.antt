@@ -1,6 +1,5 @@
 -- The edges pass, and the copies end where they may; the flags hold what the lists say.
 use native.Mathlib.Omega.{arith}
-use borrow.Author.Rules.{rules}
 use Rattle.graph.proofs.Found.{found}
 use Rattle.graph.proofs.quick.passes_with.Goals as goal
 

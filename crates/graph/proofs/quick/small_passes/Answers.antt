@@ -4,7 +4,6 @@ use native.Mathlib.Omega.{arith}
 use lib.ListN.{length}
 use Rattle.graph.proofs.Flags.{clear_array}
 use Rattle.graph.proofs.Turns.{never}
-use borrow.Author.Rules.{rules}
 use Rattle.graph.proofs.quick.small_passes.Goals as goal
 
 pub edges_found-entered-requires : goal.edges_found-entered-requires

@@ -5,7 +5,6 @@ use mathlib.Core.Path.{◌∙◌, ap}
 use lib.Dec.{leb}
 use borrow.Author.Tests.{le-leb, lt-leb}
 use Rattle.timing.specs.Refusals.{unless as passed_if}
-use borrow.Author.Rules.{rules}
 use Rattle.graph_reader.proofs.reader.count_test.Goals as goal
 
 pub returns-then-n-limit : goal.returns-then-n-limit

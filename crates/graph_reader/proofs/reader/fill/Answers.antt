@@ -4,7 +4,6 @@ use mathlib.Core.List.{map}
 use lib.Seq.{sets}
 use Rattle.timing.specs.Looks.{next_at}
 use Rattle.graph_reader.specs.Reading.{copies_from, copies_end, rows_from}
-use borrow.Author.Rules.{rules}
 use Rattle.graph_reader.proofs.reader.fill.Goals as goal
 
 pub returns : goal.returns

@@ -1,8 +1,7 @@
-use Prim.Native.Nat.{◌-◌, ◌≤◌}
 use native.Mathlib.Omega.{arith}
-use mathlib.Core.Path.{◌≡◌, ◌∙◌}
-use Rattle.graph_reader.specs.Reading.{copy_at, copy_end, copies_end}
-use Rattle.graph_reader.proofs.Filling.{place_turn, place_none, place_all, Column, column_all, column_turn, column_none}
+use mathlib.Core.Path.{◌∙◌}
+use Rattle.graph_reader.specs.Reading.{copy_at, copy_end}
+use Rattle.graph_reader.proofs.Filling.{place_turn, place_none, place_all, column_all, column_turn, column_none}
 use Rattle.graph_reader.proofs.reader.fill_copies.Goals as goal
 
 pub loop-i-init : goal.loop-i-init

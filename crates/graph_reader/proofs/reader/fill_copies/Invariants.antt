@@ -1,9 +1,8 @@
 -- Each slice is filled below i, and what is left comes from here on.
 use Prim.Native.Nat.{◌-◌, ◌≤◌}
-use native.Mathlib.Omega.{arith}
-use mathlib.Core.Path.{◌≡◌, ◌∙◌}
+use mathlib.Core.Path.{◌≡◌}
 use Rattle.graph_reader.specs.Reading.{copy_at, copy_end, copies_end}
-use Rattle.graph_reader.proofs.Filling.{place_turn, place_none, place_all, Column, column_all, column_turn, column_none}
+use Rattle.graph_reader.proofs.Filling.{Column}
 use Rattle.graph_reader.proofs.reader.fill_copies.Given as goal
 
 abbrev pub invariant-loop-i : goal.invariant-loop-i

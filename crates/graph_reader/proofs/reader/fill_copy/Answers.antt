@@ -2,7 +2,6 @@
 use mathlib.Core.Path.{◌∙◌, ap}
 use lib.ListN.{set}
 use Rattle.timing.specs.Looks.{value_at, next_at}
-use borrow.Author.Rules.{rules}
 use Rattle.graph_reader.proofs.reader.fill_copy.Goals as goal
 
 pub returns : goal.returns

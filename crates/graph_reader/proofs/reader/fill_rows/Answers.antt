@@ -1,7 +1,6 @@
-use Prim.Native.Nat.{◌-◌, ◌≤◌}
 use native.Mathlib.Omega.{arith}
 use Rattle.timing.specs.Looks.{row_at, row_end}
-use Rattle.graph_reader.proofs.Filling.{Column, column_all, column_turn, column_none}
+use Rattle.graph_reader.proofs.Filling.{column_all, column_turn, column_none}
 use Rattle.graph_reader.proofs.reader.fill_rows.Goals as goal
 
 pub loop-i-init : goal.loop-i-init

@@ -1,8 +1,7 @@
 -- Each slice is filled below i, and what is left comes from here on.
 use Prim.Native.Nat.{◌-◌, ◌≤◌}
-use native.Mathlib.Omega.{arith}
 use Rattle.timing.specs.Looks.{row_at, row_end}
-use Rattle.graph_reader.proofs.Filling.{Column, column_all, column_turn, column_none}
+use Rattle.graph_reader.proofs.Filling.{Column}
 use Rattle.graph_reader.proofs.reader.fill_rows.Given as goal
 
 abbrev pub invariant-loop-i : goal.invariant-loop-i

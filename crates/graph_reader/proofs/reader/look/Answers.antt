@@ -1,7 +1,6 @@
 -- One return for each way in which the copies end.
 use mathlib.Core.Path.{sym, ◌∙◌}
 use Rattle.graph_reader.proofs.Looking.{graph_rest, graph_stop, graph_none}
-use borrow.Author.Rules.{rules}
 use Rattle.graph_reader.proofs.reader.look.Goals as goal
 
 pub returns-in-At : goal.returns-in-At

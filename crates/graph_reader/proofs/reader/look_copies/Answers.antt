@@ -1,10 +1,6 @@
-use Prim.Native.Nat.{◌-◌, ◌≤◌}
 use native.Mathlib.Omega.{arith}
-use mathlib.Core.Path.{◌≡◌, sym, ◌∙◌}
-use borrow.Author.Rules.{rules}
+use mathlib.Core.Path.{sym, ◌∙◌}
 use Rattle.timing.specs.GraphBytes.{copy_row}
-use Rattle.timing.specs.Parsing.{repeated}
-use Rattle.timing.specs.Looks.{looked}
 use Rattle.packed_lists.proofs.Looking.{looks_turn, looks_stop, looks_all, looks_end}
 use Rattle.graph_reader.proofs.reader.look_copies.Goals as goal
 

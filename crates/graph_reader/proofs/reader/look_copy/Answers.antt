@@ -1,7 +1,6 @@
 -- The node is read, and the endpoint number decides; or the node is not read.
 use mathlib.Core.Path.{sym, ◌∙◌}
 use Rattle.graph_reader.proofs.Looking.{copy_rest, copy_none}
-use borrow.Author.Rules.{rules}
 use Rattle.graph_reader.proofs.reader.look_copy.Goals as goal
 
 pub returns-in-Value : goal.returns-in-Value

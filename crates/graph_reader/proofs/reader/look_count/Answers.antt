@@ -1,7 +1,6 @@
 -- The number is read and passes; or its test refuses; or it is not read.
 use mathlib.Core.Path.{sym, ◌∙◌}
 use Rattle.graph_reader.proofs.Looking.{count_value, count_refused, count_none}
-use borrow.Author.Rules.{rules}
 use Rattle.graph_reader.proofs.reader.look_count.Goals as goal
 
 pub returns-in-Passed : goal.returns-in-Passed

@@ -1,7 +1,6 @@
 -- One return for each way in which the edges end.
 use mathlib.Core.Path.{sym, ◌∙◌}
 use Rattle.graph_reader.proofs.Looking.{edges_end, edges_more, edges_stop, edges_none}
-use borrow.Author.Rules.{rules}
 use Rattle.graph_reader.proofs.reader.look_edges.Goals as goal
 
 pub returns-then-s-after : goal.returns-then-s-after

@@ -1,7 +1,6 @@
 -- The number is read, and is 0 or 1 or not; or it is not read.
 use mathlib.Core.Path.{sym, ◌∙◌}
 use Rattle.graph_reader.proofs.Looking.{endpoint_in_lem, endpoint_above, endpoint_none}
-use borrow.Author.Rules.{rules}
 use Rattle.graph_reader.proofs.reader.look_endpoint.Goals as goal
 
 pub returns-then-value-le1 : goal.returns-then-value-le1

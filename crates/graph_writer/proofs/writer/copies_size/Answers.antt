@@ -6,7 +6,6 @@ use Rattle.packed.proofs.Numbers.{packed_size}
 use Rattle.packed_lists.specs.Writing.{bytes_of}
 use Rattle.packed_lists.proofs.Sizes.{size_most, size_cons}
 use Rattle.graph_writer.proofs.Writing.{size_copies}
-use borrow.Author.Rules.{rules}
 use Rattle.graph_writer.proofs.writer.copies_size.Goals as goal
 
 pub overflow_add-result : goal.overflow_add-result

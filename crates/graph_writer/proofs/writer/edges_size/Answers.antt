@@ -6,7 +6,6 @@ use Rattle.packed_lists.specs.Writing.{bytes_of}
 use Rattle.packed_lists.proofs.Sizes.{size_most, size_cons}
 use Rattle.graph_writer.specs.Writing.{rows_of}
 use Rattle.graph_writer.proofs.Writing.{size_rows}
-use borrow.Author.Rules.{rules}
 use Rattle.graph_writer.proofs.writer.edges_size.Goals as goal
 
 pub overflow_add-result : goal.overflow_add-result

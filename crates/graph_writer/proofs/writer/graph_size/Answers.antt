@@ -2,7 +2,6 @@
 use Prim.Native.Nat.{◌+◌}
 use mathlib.Core.Path.{◌∙◌}
 use Rattle.graph_writer.proofs.Writing.{size_graph}
-use borrow.Author.Rules.{rules}
 use Rattle.graph_writer.proofs.writer.graph_size.Goals as goal
 
 pub returns : goal.returns

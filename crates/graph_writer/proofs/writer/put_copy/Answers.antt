@@ -1,7 +1,6 @@
 -- The node, then the endpoint number.
 use mathlib.Core.List.{[], ◌∷◌}
 use Rattle.packed_lists.proofs.Writing.{fits_first, fits_second, wrote_both}
-use borrow.Author.Rules.{rules}
 use Rattle.graph_writer.proofs.writer.put_copy.Goals as goal
 
 pub put-at-requires : goal.put-at-requires

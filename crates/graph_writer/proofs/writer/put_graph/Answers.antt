@@ -1,14 +1,13 @@
 -- The four parts, one after the other.
 -- the numbers in front of the copies, of the edges, and of all
-use mathlib.Core.List.{List, [], ◌∷◌, ◌++◌}
-use Prim.Native.Nat.{ℕ, ◌+◌, ◌≤◌}
+use mathlib.Core.List.{[], ◌∷◌, ◌++◌}
+use Prim.Native.Nat.{◌+◌, ◌≤◌}
 use lib.ListN.{length}
 use Rattle.timing.specs.GraphBytes.{copy_numbers}
 use Rattle.packed_lists.specs.Writing.{size, Wrote}
 use Rattle.packed_lists.proofs.Writing.{fits_first, fits_second, wrote_both}
 use Rattle.graph_writer.specs.Writing.{rows_of}
 use Rattle.graph_writer.proofs.Writing.{graph_numbers_lem, parts_fit}
-use borrow.Author.Rules.{rules}
 use Rattle.graph_writer.proofs.writer.put_graph.Goals as goal
 
 pub put-at-requires : goal.put-at-requires

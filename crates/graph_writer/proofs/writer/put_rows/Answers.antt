@@ -1,8 +1,7 @@
-use Prim.Native.Nat.{◌+◌, ◌-◌, ◌≤◌}
+use Prim.Native.Nat.{◌+◌}
 use native.Mathlib.Omega.{arith}
 use mathlib.Core.List.{[], ◌∷◌, ◌++◌}
-use lib.ListN.{length, get_or}
-use borrow.Author.Rules.{rules}
+use lib.ListN.{get_or}
 use Rattle.packed_lists.specs.Writing.{Left}
 use Rattle.packed_lists.proofs.Writing.{left_all, left_fits, left_turn, left_none}
 use Rattle.graph_writer.specs.Writing.{rows_of, rows_from}

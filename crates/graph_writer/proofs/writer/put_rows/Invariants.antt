@@ -1,13 +1,8 @@
 -- The numbers of the edges from k on are left to be written.
-use Prim.Native.Nat.{◌+◌, ◌-◌, ◌≤◌}
-use native.Mathlib.Omega.{arith}
-use mathlib.Core.List.{[], ◌∷◌, ◌++◌}
-use lib.ListN.{length, get_or}
-use borrow.Author.Rules.{rules}
+use Prim.Native.Nat.{◌-◌, ◌≤◌}
+use lib.ListN.{length}
 use Rattle.packed_lists.specs.Writing.{Left}
-use Rattle.packed_lists.proofs.Writing.{left_all, left_fits, left_turn, left_none}
 use Rattle.graph_writer.specs.Writing.{rows_of, rows_from}
-use Rattle.graph_writer.proofs.Writing.{rows_turn, rows_done}
 use Rattle.graph_writer.proofs.writer.put_rows.Given as goal
 
 abbrev pub invariant-loop-k : goal.invariant-loop-k

@@ -5,12 +5,10 @@ use mathlib.Core.Path.{◌≡◌, ◌∙◌, ap}
 use lib.Dec.{leb}
 use lib.ListN.{length}
 use Rattle.timing.specs.WellFormed.{zero_or_one}
-use Rattle.timing.specs.declared.Verdict.{Verdict}
 use Rattle.timing.specs.Refusals.{◌then◌}
 use Rattle.timing.specs.Refusals.{unless as passed_if}
 use Rattle.timing.specs.Tests.{room_sizes}
 use Rattle.graph_writer.proofs.Writing.{then_refused, then_next}
-use borrow.Author.Rules.{rules}
 use Rattle.graph_writer.proofs.writer.write_tests.Goals as goal
 
 pub returns-in_default : goal.returns-in_default

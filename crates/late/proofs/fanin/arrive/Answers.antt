@@ -1,15 +1,12 @@
-use Prim.Native.Nat.{◌-◌, ◌≤◌, ◌<◌}
+use Prim.Native.Nat.{◌<◌}
 use native.Mathlib.Omega.{arith}
 use mathlib.Core.Path.{◌≡◌, sym, ◌∙◌, ap, ap₂}
-use mir.Syntax.{w64}
-use mir.Val.{to_z}
 use lib.ListN.{length, get_or, set}
-use borrow.Author.Rules.{rules}
-use Rattle.timing.specs.Times.{larger, largest}
+use Rattle.timing.specs.Times.{larger}
 use Rattle.timing.proofs.Ints.{read_back}
 use Rattle.theorems.proofs.Extremes.{larges}
-use Rattle.times.specs.Fanins.{over, best_over}
-use Rattle.times.proofs.Fanins.{Into, here, fanin_ends, into_none, into_next, over_none, over_one, over_more}
+use Rattle.times.specs.Fanins.{over}
+use Rattle.times.proofs.Fanins.{here, fanin_ends, into_none, into_next, over_none, over_one, over_more}
 use Rattle.late.proofs.fanin.arrive.Goals as goal
 
 pub over_edge-t-requires : goal.over_edge-t-requires

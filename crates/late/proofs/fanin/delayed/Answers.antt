@@ -1,5 +1,5 @@
 -- Both are far below 2^63, and so is their sum.
-use mir.Syntax.{w32, w64}
+use mir.Syntax.{w64}
 use mir.Val.{SFits}
 use mir.Facts.{to_z-of_z}
 use native.Mathlib.Omega.{arith}

@@ -4,7 +4,6 @@ use lib.ListN.{get_or}
 use mir.Syntax.{w32}
 use mir.Facts.{to_z-of_z}
 use Rattle.timing.proofs.Ints.{read_back}
-use borrow.Author.Rules.{rules}
 use Rattle.late.proofs.fanin.over_edge.Goals as goal
 
 pub delayed-requires : goal.delayed-requires

@@ -1,4 +1,4 @@
-use Prim.Native.Nat.{ℕ, ◌-◌}
+use Prim.Native.Nat.{ℕ}
 use native.Mathlib.Omega.{arith}
 use mathlib.Core.Path.{◌≡◌, sym, ◌∙◌, ap}
 use mathlib.Core.Bool.{◌&&◌}
@@ -7,13 +7,12 @@ use lib.Dec.{eqb}
 use lib.IntN.{ℤ, pos}
 use lib.ListN.{length, get_or}
 use lib.Signed.{lt_z}
-use borrow.Author.Rules.{rules}
 use Rattle.timing.specs.Lists.{upto, placed}
 use Rattle.timing.specs.Times.{arrival_at, late_at, late_copies}
 use Rattle.timing.specs.Calls.{graph_slices, graph_of}
 use Rattle.timing.proofs.Ints.{read_back}
 use Rattle.times.specs.Passes.{delay_of}
-use Rattle.late.proofs.Found.{Searched, searched_none, searched_ready, done_placed, found_arrival, found_written, searched_next, late_here, none_late}
+use Rattle.late.proofs.Found.{searched_none, searched_ready, done_placed, found_arrival, found_written, searched_next, late_here, none_late}
 use Rattle.late.proofs.search.find_late.Goals as goal
 
 pub loop-c-init : goal.loop-c-init

@@ -7,7 +7,6 @@ use lib.IntN.{pos}
 use lib.Signed.{lt_z}
 use mir.Syntax.{w64}
 use mir.Facts.{to_z-of_z, to_z_pos}
-use borrow.Author.Rules.{rules}
 use Rattle.late.proofs.search.is_late.Goals as goal
 
 both : (a b : Bool) → b ≡ true → a ≡ (a && b)

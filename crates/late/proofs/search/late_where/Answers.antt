@@ -8,7 +8,6 @@ use Rattle.timing.specs.Tests.{same_sizes}
 use Rattle.timing.specs.Calls.{graph_slices, test_late, late_answer, arrivals_after_late}
 use Rattle.timing.proofs.Verdicts.{same_passed}
 use Rattle.times.proofs.Passed.{passed_ready}
-use borrow.Author.Rules.{rules}
 use Rattle.late.proofs.search.late_where.Goals as goal
 
 pub find_late-requires : goal.find_late-requires

@@ -1,7 +1,6 @@
-use Prim.Native.Nat.{◌+◌, ◌-◌, ◌≤◌}
+use Prim.Native.Nat.{◌+◌, ◌-◌}
 use native.Mathlib.Omega.{arith}
 use mathlib.Core.Path.{◌≡◌, sym, ◌∙◌}
-use borrow.Author.Rules.{rules}
 use Rattle.packed_lists.specs.Skips.{Scanned}
 use Rattle.packed_lists.proofs.Skipping.{skips_none, scanned_none, scanned_step, scanned_end}
 use Rattle.packed_lists.proofs.skips.skip_block.Goals as goal

@@ -1,10 +1,7 @@
 -- As long as no byte is unended, the bytes gone over are numbers of one or two bytes, of which the last may not have ended.
-use Prim.Native.Nat.{◌+◌, ◌-◌, ◌≤◌}
-use native.Mathlib.Omega.{arith}
-use mathlib.Core.Path.{◌≡◌, sym, ◌∙◌}
-use borrow.Author.Rules.{rules}
+use Prim.Native.Nat.{◌-◌, ◌≤◌}
+use mathlib.Core.Path.{◌≡◌}
 use Rattle.packed_lists.specs.Skips.{Scanned}
-use Rattle.packed_lists.proofs.Skipping.{skips_none, scanned_none, scanned_step, scanned_end}
 use Rattle.packed_lists.proofs.skips.skip_block.Given as goal
 
 abbrev pub invariant-loop-i : goal.invariant-loop-i

@@ -1,9 +1,6 @@
-use Prim.Native.Nat.{◌-◌, ◌≤◌}
 use native.Mathlib.Omega.{arith}
 use mathlib.Core.Path.{sym, ◌∙◌}
-use borrow.Author.Rules.{rules}
 use borrow.Author.Tests.{leb-true}
-use Rattle.packed_lists.specs.Skips.{Skips}
 use Rattle.packed_lists.proofs.Skipping.{skips_none, skips_then}
 use Rattle.packed_lists.proofs.skips.skip_blocks.Goals as goal
 

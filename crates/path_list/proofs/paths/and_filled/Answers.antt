@@ -1,11 +1,6 @@
-use Prim.Native.Nat.{◌-◌, ◌≤◌}
 use native.Mathlib.Omega.{arith}
-use mathlib.Core.Path.{◌≡◌, refl, sym, ◌∙◌}
-use lib.ListN.{length, drop}
-use borrow.Author.Rules.{rules}
+use mathlib.Core.Path.{refl, sym, ◌∙◌}
 use Rattle.timing.specs.declared.Fault.TheVariants.{At, None}
-use Rattle.timing.specs.Refusals.{first_fault}
-use Rattle.timing.specs.Marks.{cut}
 use Rattle.timing.specs.Tests.{empty_at}
 use Rattle.path_list.proofs.Laws.{part_empty, part_filled, no_path_left, fault_path, sound_path}
 use Rattle.path_list.proofs.paths.and_filled.Goals as goal

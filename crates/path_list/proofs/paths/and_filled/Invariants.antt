@@ -1,14 +1,10 @@
 -- The first empty path of all is the first of the paths from p on, which are what is left of the flat list from `from` on.
 use Prim.Native.Nat.{◌-◌, ◌≤◌}
-use native.Mathlib.Omega.{arith}
-use mathlib.Core.Path.{◌≡◌, refl, sym, ◌∙◌}
+use mathlib.Core.Path.{◌≡◌}
 use lib.ListN.{length, drop}
-use borrow.Author.Rules.{rules}
-use Rattle.timing.specs.declared.Fault.TheVariants.{At, None}
 use Rattle.timing.specs.Refusals.{first_fault}
 use Rattle.timing.specs.Marks.{cut}
 use Rattle.timing.specs.Tests.{empty_at}
-use Rattle.path_list.proofs.Laws.{part_empty, part_filled, no_path_left, fault_path, sound_path}
 use Rattle.path_list.proofs.paths.and_filled.Given as goal
 
 abbrev pub invariant-loop-p : goal.invariant-loop-p

@@ -1,18 +1,13 @@
-use Prim.Native.Nat.{ℕ, ◌+◌, ◌-◌, ◌≤◌, ◌<◌}
+use Prim.Native.Nat.{ℕ, ◌+◌, ◌-◌}
 use native.Mathlib.Omega.{arith}
 use mathlib.Core.Path.{◌≡◌, refl, sym, ◌∙◌, ap}
-use mathlib.Core.Bool.{Bool}
-use mathlib.Core.List.{List, []}
-use mathlib.Core.Logic.{⊎_elim}
+use mathlib.Core.List.{List}
 use lib.ListN.{length, take, drop}
 use lib.Seq.{take_all}
-use borrow.Author.Rules.{rules}
 use Rattle.timing.specs.declared.Fault.{Fault}
 use Rattle.timing.specs.declared.Fault.TheVariants.{None}
-use Rattle.timing.specs.Refusals.{unless_fault, first_fault}
-use Rattle.timing.specs.Graphs.{design}
-use Rattle.timing.specs.Marks.{cut}
-use Rattle.timing.specs.Tests.{meets, first_break}
+use Rattle.timing.specs.Refusals.{unless_fault}
+use Rattle.timing.specs.Tests.{first_break}
 use Rattle.path_list.proofs.Loops.{first_edge, break_of_front}
 use Rattle.path_list.proofs.Laws.{part_length, no_path_left, fault_path, sound_path}
 use Rattle.path_list.proofs.paths.and_joined.Invariants.{meet}

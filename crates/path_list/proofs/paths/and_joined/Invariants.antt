@@ -1,23 +1,16 @@
 -- The outer loop: the first broken path of all is the first of the paths from p on, which are what is left of the flat list from `from` on. The
 -- inner one: the edges of the path before i join. What is found is a break only where the search stops.
 -- whether two edges join, by as much of the design as is read
-use Prim.Native.Nat.{ℕ, ◌+◌, ◌-◌, ◌≤◌, ◌<◌}
-use native.Mathlib.Omega.{arith}
-use mathlib.Core.Path.{◌≡◌, refl, sym, ◌∙◌, ap}
+use Prim.Native.Nat.{ℕ, ◌-◌, ◌≤◌, ◌<◌}
+use mathlib.Core.Path.{◌≡◌}
 use mathlib.Core.Bool.{Bool}
 use mathlib.Core.List.{List, []}
-use mathlib.Core.Logic.{⊎_elim}
 use lib.ListN.{length, take, drop}
-use lib.Seq.{take_all}
-use borrow.Author.Rules.{rules}
-use Rattle.timing.specs.declared.Fault.{Fault}
 use Rattle.timing.specs.declared.Fault.TheVariants.{None}
-use Rattle.timing.specs.Refusals.{unless_fault, first_fault}
+use Rattle.timing.specs.Refusals.{first_fault}
 use Rattle.timing.specs.Graphs.{design}
 use Rattle.timing.specs.Marks.{cut}
 use Rattle.timing.specs.Tests.{meets, first_break}
-use Rattle.path_list.proofs.Loops.{first_edge, break_of_front}
-use Rattle.path_list.proofs.Laws.{part_length, no_path_left, fault_path, sound_path}
 use Rattle.path_list.proofs.paths.and_joined.Given as goal
 
 abbrev pub meet : List ℕ → List ℕ → ℕ → ℕ → Bool

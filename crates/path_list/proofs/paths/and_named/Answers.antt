@@ -1,10 +1,5 @@
-use Prim.Native.Nat.{◌-◌, ◌≤◌}
 use native.Mathlib.Omega.{arith}
-use mathlib.Core.Path.{◌≡◌, refl, sym, ◌∙◌}
-use lib.ListN.{length, drop}
-use borrow.Author.Rules.{rules}
-use Rattle.timing.specs.Refusals.{first_fault}
-use Rattle.timing.specs.Marks.{cut}
+use mathlib.Core.Path.{refl, sym, ◌∙◌}
 use Rattle.timing.specs.Tests.{first_unknown}
 use Rattle.path_list.proofs.Laws.{no_path_left, fault_path, sound_path}
 use Rattle.path_list.proofs.paths.and_named.Goals as goal

@@ -1,14 +1,11 @@
 -- The first path of all that names an unknown edge is the first of the paths from p on, which are what is left of the flat list from
 -- `from` on.
 use Prim.Native.Nat.{◌-◌, ◌≤◌}
-use native.Mathlib.Omega.{arith}
-use mathlib.Core.Path.{◌≡◌, refl, sym, ◌∙◌}
+use mathlib.Core.Path.{◌≡◌}
 use lib.ListN.{length, drop}
-use borrow.Author.Rules.{rules}
 use Rattle.timing.specs.Refusals.{first_fault}
 use Rattle.timing.specs.Marks.{cut}
 use Rattle.timing.specs.Tests.{first_unknown}
-use Rattle.path_list.proofs.Laws.{no_path_left, fault_path, sound_path}
 use Rattle.path_list.proofs.paths.and_named.Given as goal
 
 abbrev pub invariant-loop-p : goal.invariant-loop-p

@@ -1,8 +1,5 @@
-use Prim.Native.Nat.{◌-◌, ◌≤◌}
 use native.Mathlib.Omega.{arith}
-use mathlib.Core.Path.{◌≡◌, refl, sym, ◌∙◌}
-use lib.ListN.{length, drop}
-use Rattle.timing.specs.Tests.{first_unknown}
+use mathlib.Core.Path.{refl, sym, ◌∙◌}
 use Rattle.path_list.proofs.Loops.{unknown_here, unknown_later, unknown_nowhere}
 use Rattle.path_list.proofs.paths.first_unknown.Goals as goal
 

@@ -1,10 +1,8 @@
 -- The answer for the whole path is the answer for its edges from i on.
 use Prim.Native.Nat.{◌-◌, ◌≤◌}
-use native.Mathlib.Omega.{arith}
-use mathlib.Core.Path.{◌≡◌, refl, sym, ◌∙◌}
+use mathlib.Core.Path.{◌≡◌}
 use lib.ListN.{length, drop}
 use Rattle.timing.specs.Tests.{first_unknown}
-use Rattle.path_list.proofs.Loops.{unknown_here, unknown_later, unknown_nowhere}
 use Rattle.path_list.proofs.paths.first_unknown.Given as goal
 
 abbrev pub invariant-loop-i : goal.invariant-loop-i

@@ -5,7 +5,6 @@ use mathlib.Core.List.{[]}
 use lib.ListN.{get_or}
 use Rattle.timing.specs.Graphs.{design}
 use Rattle.path_list.proofs.Loops.{edge_joins, edge_breaks}
-use borrow.Author.Rules.{rules}
 use Rattle.path_list.proofs.paths.join_test.Goals as goal
 
 pub returns-then-number_at : goal.returns-then-number_at

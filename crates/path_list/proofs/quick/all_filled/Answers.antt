@@ -1,13 +1,11 @@
-use Prim.Native.Nat.{ℕ, ◌*◌, ◌-◌, ◌≤◌, ◌<◌}
+use Prim.Native.Nat.{◌<◌}
 use native.Mathlib.Omega.{arith}
-use mathlib.Core.Path.{◌≡◌}
-use mathlib.Core.Bool.{true}
 use lib.Dec.{ltb, leb}
-use lib.ListN.{length, get_or}
+use lib.ListN.{get_or}
 use borrow.Author.Count.{below_more}
 use borrow.Author.Tests.{ltb-true, leb-true}
 use Rattle.timing.proofs.Verdicts.{both_true}
-use Rattle.path_list.proofs.Laws.{offset, offset_next, offset_all}
+use Rattle.path_list.proofs.Laws.{offset_next, offset_all}
 use Rattle.path_list.proofs.quick.all_filled.Goals as goal
 
 pub loop-p-init : goal.loop-p-init

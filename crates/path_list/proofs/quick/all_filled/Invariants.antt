@@ -1,14 +1,9 @@
 -- The total is the offset of path p, and where no length is 0 so far each path before p has edges. A total of at most 1,024 numbers fits.
 use Prim.Native.Nat.{ℕ, ◌*◌, ◌-◌, ◌≤◌, ◌<◌}
-use native.Mathlib.Omega.{arith}
 use mathlib.Core.Path.{◌≡◌}
 use mathlib.Core.Bool.{true}
-use lib.Dec.{ltb, leb}
 use lib.ListN.{length, get_or}
-use borrow.Author.Count.{below_more}
-use borrow.Author.Tests.{ltb-true, leb-true}
-use Rattle.timing.proofs.Verdicts.{both_true}
-use Rattle.path_list.proofs.Laws.{offset, offset_next, offset_all}
+use Rattle.path_list.proofs.Laws.{offset}
 use Rattle.path_list.proofs.quick.all_filled.Given as goal
 
 abbrev pub invariant-loop-p : goal.invariant-loop-p

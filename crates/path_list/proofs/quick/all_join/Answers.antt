@@ -1,12 +1,11 @@
-use Prim.Native.Nat.{ℕ, ◌+◌, ◌-◌, ◌≤◌, ◌<◌}
+use Prim.Native.Nat.{◌+◌, ◌-◌, ◌≤◌}
 use native.Mathlib.Omega.{arith}
 use mathlib.Core.Path.{◌≡◌, sym, subst}
-use mathlib.Core.List.{List, []}
+use mathlib.Core.List.{[]}
 use lib.Dec.{T}
-use lib.ListN.{length, get_or, take, drop}
+use lib.ListN.{length, get_or}
 use borrow.Author.Count.{below_more}
 use borrow.Author.Tests.{not-false}
-use Rattle.timing.specs.declared.Fault.TheVariants.{None}
 use Rattle.timing.specs.Graphs.{design}
 use Rattle.timing.specs.Tests.{meets, first_break}
 use Rattle.path_list.proofs.Laws.{offset, offset_next, offset_most}

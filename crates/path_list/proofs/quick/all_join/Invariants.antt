@@ -1,18 +1,13 @@
 -- Path p starts at `from`, and the edges of each path before it join.
 -- the edges of path p join
-use Prim.Native.Nat.{ℕ, ◌+◌, ◌-◌, ◌≤◌, ◌<◌}
-use native.Mathlib.Omega.{arith}
-use mathlib.Core.Path.{◌≡◌, sym, subst}
+use Prim.Native.Nat.{ℕ, ◌-◌, ◌≤◌, ◌<◌}
+use mathlib.Core.Path.{◌≡◌}
 use mathlib.Core.List.{List, []}
-use lib.Dec.{T}
 use lib.ListN.{length, get_or, take, drop}
-use borrow.Author.Count.{below_more}
-use borrow.Author.Tests.{not-false}
 use Rattle.timing.specs.declared.Fault.TheVariants.{None}
 use Rattle.timing.specs.Graphs.{design}
 use Rattle.timing.specs.Tests.{meets, first_break}
-use Rattle.path_list.proofs.Laws.{offset, offset_next, offset_most}
-use Rattle.path_list.proofs.Sound.{cut_sound, below_part}
+use Rattle.path_list.proofs.Laws.{offset}
 use Rattle.path_list.proofs.quick.all_join.Given as goal
 
 abbrev pub Joined : List ℕ → List ℕ → List ℕ → List ℕ → ℕ → Type 0

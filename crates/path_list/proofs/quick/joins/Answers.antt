@@ -1,13 +1,12 @@
 use Prim.Native.Nat.{◌-◌, ◌<◌}
 use native.Mathlib.Omega.{arith}
-use mathlib.Core.Path.{◌≡◌, refl, sym, subst}
+use mathlib.Core.Path.{refl, sym, subst}
 use mathlib.Core.List.{[]}
 use lib.Dec.{T}
-use lib.ListN.{length, get_or, take}
+use lib.ListN.{length, get_or}
 use lib.Seq.{take_all}
-use Rattle.timing.specs.declared.Fault.TheVariants.{None}
 use Rattle.timing.specs.Graphs.{design, edge_start, edge_end}
-use Rattle.timing.specs.Tests.{meets, first_break}
+use Rattle.timing.specs.Tests.{meets}
 use Rattle.path_list.proofs.Loops.{first_edge, edge_joins}
 use Rattle.path_list.proofs.quick.joins.Goals as goal
 

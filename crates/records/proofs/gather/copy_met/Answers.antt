@@ -2,7 +2,6 @@
 use native.Mathlib.Omega.{arith}
 use mathlib.Core.Path.{sym}
 use lib.Seq.{set_out}
-use borrow.Author.Rules.{rules}
 use Rattle.records.proofs.gather.copy_met.Goals as goal
 
 pub returns-else-v-known : goal.returns-else-v-known

@@ -5,7 +5,6 @@ use lib.IntN.{pos}
 use lib.ListN.{get_or, set}
 use Rattle.timing.specs.Times.{larger, smaller}
 use Rattle.records.proofs.Records.{better_read}
-use borrow.Author.Rules.{rules}
 use Rattle.records.proofs.gather.count_copy.Goals as goal
 
 pub returns : goal.returns

@@ -1,13 +1,12 @@
-use Prim.Native.Nat.{ℕ, ◌-◌, ◌≤◌}
+use Prim.Native.Nat.{ℕ}
 use native.Mathlib.Omega.{arith}
 use mathlib.Core.Path.{◌≡◌, sym, ◌∙◌, ap}
 use mathlib.Core.List.{map}
 use lib.IntN.{pos}
 use lib.ListN.{length}
-use borrow.Author.Rules.{rules}
 use Rattle.timing.specs.Lists.{upto}
 use Rattle.theorems.proofs.Elements.{size_each, each_one}
-use Rattle.records.proofs.Records.{Gathered, gathered_none, gathered_next, gathered_sizes, gathered_all}
+use Rattle.records.proofs.Records.{gathered_none, gathered_next, gathered_sizes, gathered_all}
 use Rattle.records.proofs.gather.fill_records.Goals as goal
 
 pub loop-c-init : goal.loop-c-init

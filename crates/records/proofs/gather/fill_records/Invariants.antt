@@ -1,14 +1,7 @@
 -- Invariant: each node's place tells its times over the copies below c.
-use Prim.Native.Nat.{ℕ, ◌-◌, ◌≤◌}
-use native.Mathlib.Omega.{arith}
-use mathlib.Core.Path.{◌≡◌, sym, ◌∙◌, ap}
-use mathlib.Core.List.{map}
-use lib.IntN.{pos}
+use Prim.Native.Nat.{◌-◌, ◌≤◌}
 use lib.ListN.{length}
-use borrow.Author.Rules.{rules}
-use Rattle.timing.specs.Lists.{upto}
-use Rattle.theorems.proofs.Elements.{size_each, each_one}
-use Rattle.records.proofs.Records.{Gathered, gathered_none, gathered_next, gathered_sizes, gathered_all}
+use Rattle.records.proofs.Records.{Gathered}
 use Rattle.records.proofs.gather.fill_records.Given as goal
 
 abbrev pub invariant-loop-c : goal.invariant-loop-c

@@ -2,7 +2,6 @@
 use borrow.Author.Tests.{eq-eqb, ne_eqb}
 use mir.Facts.{to_z-of_z}
 use Rattle.timing.proofs.Ints.{read_back}
-use borrow.Author.Rules.{rules}
 use Rattle.records.proofs.gather.first_or_larger.Goals as goal
 
 pub returns-then-known-eq0 : goal.returns-then-known-eq0

@@ -6,7 +6,6 @@ use lib.ListN.{get_or}
 use mir.Facts.{to_z-of_z}
 use lib.Seq.{set_out}
 use Rattle.timing.proofs.Ints.{read_back}
-use borrow.Author.Rules.{rules}
 use Rattle.records.proofs.gather.lower_node.Goals as goal
 
 pub returns-then-v-times : goal.returns-then-v-times

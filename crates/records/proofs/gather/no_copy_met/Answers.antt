@@ -1,9 +1,6 @@
-use Prim.Native.Nat.{ℕ, ◌-◌, ◌≤◌}
 use native.Mathlib.Omega.{arith}
 use mathlib.Core.Path.{refl}
-use lib.ListN.{length}
-use borrow.Author.Rules.{rules}
-use Rattle.theorems.proofs.Elements.{Done, done_none, done_next, done_all}
+use Rattle.theorems.proofs.Elements.{done_none, done_next, done_all}
 use Rattle.records.proofs.gather.no_copy_met.Goals as goal
 
 pub loop-v-init : goal.loop-v-init

@@ -4,7 +4,6 @@ use lib.IntN.{pos}
 use lib.ListN.{length}
 use Rattle.timing.specs.Calls.{has_times, arrival_of, required_of, slack_of, earliest_of}
 use Rattle.records.proofs.Records.{records_filled, records_kept, records_sizes}
-use borrow.Author.Rules.{rules}
 use Rattle.records.proofs.gather.records_where.Goals as goal
 
 pub fill_records-requires : goal.fill_records-requires

@@ -2,7 +2,6 @@
 use borrow.Author.Tests.{eq-eqb, ne_eqb}
 use mathlib.Core.Path.{sym, ◌∙◌}
 use Rattle.timing.proofs.Ints.{read_back}
-use borrow.Author.Rules.{rules}
 use Rattle.records.proofs.node.next_copy.Goals as goal
 
 pub returns-then-number_at-v : goal.returns-then-number_at-v

@@ -2,7 +2,6 @@
 use native.Mathlib.Omega.{arith}
 use mathlib.Core.Path.{◌∙◌}
 use Rattle.records.proofs.Records.{node_is, node_past}
-use borrow.Author.Rules.{rules}
 use Rattle.records.proofs.node.node_times.Goals as goal
 
 pub returns-then-v-n : goal.returns-then-v-n

@@ -1,11 +1,6 @@
-use Prim.Native.Nat.{ℕ, ◌-◌, ◌≤◌}
 use native.Mathlib.Omega.{arith}
 use mathlib.Core.Path.{◌≡◌, refl, ◌∙◌}
-use lib.Dec.{eqb}
-use lib.ListN.{length, get_or}
-use borrow.Author.Rules.{rules}
-use Rattle.timing.specs.Lists.{keep, upto}
-use Rattle.records.specs.Records.{times_of}
+use lib.ListN.{length}
 use Rattle.records.proofs.Records.{copy_next}
 use Rattle.records.proofs.node.over_copies.Goals as goal
 

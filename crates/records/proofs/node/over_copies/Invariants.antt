@@ -1,13 +1,10 @@
 -- Invariant: the times over the copies of v below c.
 use Prim.Native.Nat.{ℕ, ◌-◌, ◌≤◌}
-use native.Mathlib.Omega.{arith}
-use mathlib.Core.Path.{◌≡◌, refl, ◌∙◌}
+use mathlib.Core.Path.{◌≡◌}
 use lib.Dec.{eqb}
 use lib.ListN.{length, get_or}
-use borrow.Author.Rules.{rules}
 use Rattle.timing.specs.Lists.{keep, upto}
 use Rattle.records.specs.Records.{times_of}
-use Rattle.records.proofs.Records.{copy_next}
 use Rattle.records.proofs.node.over_copies.Given as goal
 
 abbrev pub invariant-loop-c : goal.invariant-loop-c

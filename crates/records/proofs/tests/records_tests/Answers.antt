@@ -1,5 +1,4 @@
 -- The tests one after the other.
-use borrow.Author.Rules.{rules}
 use Rattle.records.proofs.tests.records_tests.Goals as goal
 
 pub returns : goal.returns

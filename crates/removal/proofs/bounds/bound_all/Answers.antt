@@ -1,8 +1,7 @@
-use Prim.Native.Nat.{ℕ, suc, ◌+◌, ◌-◌, ◌*◌, ◌≤◌, ◌<◌}
+use Prim.Native.Nat.{ℕ, ◌+◌, ◌-◌, ◌*◌, ◌≤◌, ◌<◌}
 use native.Mathlib.Omega.{arith}
-use mathlib.Core.Path.{◌≡◌, sym, ◌∙◌, ap, subst}
+use mathlib.Core.Path.{◌≡◌, sym, subst}
 use lib.ListN.{length, get_or, take}
-use Rattle.removal.specs.Slots.{slot_base}
 use Rattle.removal.specs.Rows.{slots_in, run_to}
 use Rattle.removal.specs.Bounds.{reached_to}
 use Rattle.removal.proofs.Reaching.RowLaws.{words, read, base_up}

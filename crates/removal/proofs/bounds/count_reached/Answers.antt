@@ -1,13 +1,10 @@
-use Prim.Native.Nat.{ℕ, zero, suc, ◌+◌, ◌-◌, ◌≤◌, ◌<◌}
+use Prim.Native.Nat.{ℕ, suc, ◌+◌, ◌<◌}
 use native.Mathlib.Omega.{arith}
-use mathlib.Core.Path.{◌≡◌, refl, sym, ◌∙◌, ap}
-use mathlib.Core.Logic.{⊎_elim}
-use mathlib.Core.List.{List}
+use mathlib.Core.Path.{◌≡◌, refl, ◌∙◌, ap}
 use lib.Dec.{ltb}
 use lib.ListN.{length, get_or, take}
 use borrow.Author.Tests.{lt-ltb, le-ltb}
-use Rattle.timing.specs.Lists.{one_if, count_of, upto}
-use Rattle.removal.specs.Slots.{slot_base}
+use Rattle.timing.specs.Lists.{one_if}
 use Rattle.removal.specs.Rows.{slots_in}
 use Rattle.removal.specs.Bounds.{reached_to}
 use Rattle.removal.proofs.Reaching.RowLaws.{words, base_read, count_read, place_inside}

@@ -1,18 +1,10 @@
 -- The invariant: of the first j slots, which stand from `at` on, so many are reached.
-use Prim.Native.Nat.{ℕ, zero, suc, ◌+◌, ◌-◌, ◌≤◌, ◌<◌}
-use native.Mathlib.Omega.{arith}
-use mathlib.Core.Path.{◌≡◌, refl, sym, ◌∙◌, ap}
-use mathlib.Core.Logic.{⊎_elim}
+use Prim.Native.Nat.{ℕ, ◌+◌, ◌-◌, ◌≤◌}
+use mathlib.Core.Path.{◌≡◌}
 use mathlib.Core.List.{List}
 use lib.Dec.{ltb}
-use lib.ListN.{length, get_or, take}
-use borrow.Author.Tests.{lt-ltb, le-ltb}
-use Rattle.timing.specs.Lists.{one_if, count_of, upto}
-use Rattle.removal.specs.Slots.{slot_base}
-use Rattle.removal.specs.Rows.{slots_in}
-use Rattle.removal.specs.Bounds.{reached_to}
-use Rattle.removal.proofs.Reaching.RowLaws.{words, base_read, count_read, place_inside}
-use Rattle.removal.proofs.Whole.BoundLaws.{reached_next, reached_at}
+use lib.ListN.{get_or}
+use Rattle.timing.specs.Lists.{count_of, upto}
 use Rattle.removal.proofs.bounds.count_reached.Given as goal
 
 abbrev pub reachedFrom : List ℕ → ℕ → ℕ → ℕ

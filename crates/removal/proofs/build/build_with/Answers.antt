@@ -2,7 +2,6 @@
 use native.Mathlib.Omega.{arith}
 use mathlib.Core.Path.{refl, ◌∙◌}
 use lib.ListN.{replicate}
-use borrow.Author.Rules.{rules}
 use Rattle.removal.proofs.Building.CountLaws.{zeros}
 use Rattle.removal.proofs.Building.BuildLaws.{listed_few, given_few, makeable, baseable, sortable, clear_room, built}
 use Rattle.removal.proofs.build.build_with.Goals as goal

@@ -2,7 +2,6 @@
 use Prim.Native.Nat.{ℕ}
 use mathlib.Core.Path.{◌∙◌}
 use lib.ListN.{length-replicate}
-use borrow.Author.Rules.{rules}
 use Rattle.removal.proofs.Building.CountLaws.{zeros, shares_candidates}
 use Rattle.removal.proofs.build.count_candidates.Goals as goal
 

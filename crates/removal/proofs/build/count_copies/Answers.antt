@@ -1,9 +1,7 @@
-use Prim.Native.Nat.{◌+◌, ◌*◌, ◌-◌, ◌≤◌, ◌<◌}
+use Prim.Native.Nat.{◌≤◌, ◌<◌}
 use native.Mathlib.Omega.{arith}
 use native.Mathlib.Numerals.{add-one}
-use mathlib.Core.Path.{◌≡◌}
-use lib.ListN.{length, get_or, drop}
-use Rattle.removal.specs.Counts.{shares}
+use lib.ListN.{get_or}
 use Rattle.removal.proofs.Building.CountLaws.{shares_start, shares_turn, shares_done}
 use Rattle.removal.proofs.build.count_copies.Goals as goal
 

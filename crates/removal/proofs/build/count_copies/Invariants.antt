@@ -1,11 +1,8 @@
 -- The invariant: the total, and what the copies from c on add to it, are together the sum over all copies.
-use Prim.Native.Nat.{◌+◌, ◌*◌, ◌-◌, ◌≤◌, ◌<◌}
-use native.Mathlib.Omega.{arith}
-use native.Mathlib.Numerals.{add-one}
+use Prim.Native.Nat.{◌+◌, ◌*◌, ◌-◌, ◌≤◌}
 use mathlib.Core.Path.{◌≡◌}
-use lib.ListN.{length, get_or, drop}
+use lib.ListN.{length, drop}
 use Rattle.removal.specs.Counts.{shares}
-use Rattle.removal.proofs.Building.CountLaws.{shares_start, shares_turn, shares_done}
 use Rattle.removal.proofs.build.count_copies.Given as goal
 
 abbrev pub invariant-loop-c : goal.invariant-loop-c

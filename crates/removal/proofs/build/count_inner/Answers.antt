@@ -1,9 +1,9 @@
-use Prim.Native.Nat.{◌+◌, ◌-◌, ◌≤◌}
+use Prim.Native.Nat.{◌+◌, ◌≤◌}
 use native.Mathlib.Omega.{arith}
 use native.Mathlib.Numerals.{add-one}
 use mathlib.Core.Path.{◌∙◌, sym}
 use lib.ListN.{length, get_or}
-use Rattle.removal.proofs.Building.CountLaws.{TallyAt, tally_start, path_inside, path_counting, tally_turn, tally_done}
+use Rattle.removal.proofs.Building.CountLaws.{tally_start, path_inside, path_counting, tally_turn, tally_done}
 use Rattle.removal.proofs.build.count_inner.Goals as goal
 
 pub loop-k-init : goal.loop-k-init

@@ -1,10 +1,7 @@
 -- The invariant: the counts, and what the paths from k on add to them, are together what is to be counted.
-use Prim.Native.Nat.{◌+◌, ◌-◌, ◌≤◌}
-use native.Mathlib.Omega.{arith}
-use native.Mathlib.Numerals.{add-one}
-use mathlib.Core.Path.{◌∙◌, sym}
-use lib.ListN.{length, get_or}
-use Rattle.removal.proofs.Building.CountLaws.{TallyAt, tally_start, path_inside, path_counting, tally_turn, tally_done}
+use Prim.Native.Nat.{◌-◌}
+use lib.ListN.{length}
+use Rattle.removal.proofs.Building.CountLaws.{TallyAt}
 use Rattle.removal.proofs.build.count_inner.Given as goal
 
 abbrev pub invariant-loop-k : goal.invariant-loop-k

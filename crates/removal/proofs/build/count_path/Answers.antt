@@ -1,10 +1,7 @@
-use Prim.Native.Nat.{◌-◌}
 use native.Mathlib.Omega.{arith}
 use native.Mathlib.Numerals.{add-one}
-use mathlib.Core.Path.{◌∙◌}
-use borrow.Author.Rules.{rules}
 use lib.ListN.{get_or}
-use Rattle.removal.proofs.Building.CountLaws.{CountingAt, counting_start, counting_turn, counting_done, node_inside, node_few}
+use Rattle.removal.proofs.Building.CountLaws.{counting_start, counting_turn, counting_done, node_inside, node_few}
 use Rattle.removal.proofs.build.count_path.Goals as goal
 
 pub loop-i-init : goal.loop-i-init

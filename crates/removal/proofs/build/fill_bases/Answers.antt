@@ -2,8 +2,8 @@ use Prim.Native.Nat.{suc, ◌+◌, ◌-◌}
 use native.Mathlib.Omega.{arith}
 use native.Mathlib.Numerals.{add-one}
 use mathlib.Core.Path.{refl, ◌∙◌}
-use lib.ListN.{length, get_or, length-set}
-use Rattle.removal.proofs.Building.BaseLaws.{Basing, basing_start, basing_room, basing_few, basing_turn, basing_done}
+use lib.ListN.{get_or, length-set}
+use Rattle.removal.proofs.Building.BaseLaws.{basing_start, basing_room, basing_few, basing_turn, basing_done}
 use Rattle.removal.proofs.build.fill_bases.Goals as goal
 
 pub loop-c-init : goal.loop-c-init

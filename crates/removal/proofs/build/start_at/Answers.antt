@@ -1,5 +1,4 @@
 -- Two reads, one after the other.
-use borrow.Author.Rules.{rules}
 use Rattle.removal.proofs.build.start_at.Goals as goal
 
 pub returns : goal.returns

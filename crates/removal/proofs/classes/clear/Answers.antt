@@ -5,7 +5,6 @@ use mathlib.Core.Path.{◌≡◌, ◌∙◌, ap}
 use lib.ListN.{length, take, drop, replicate, length-replicate}
 use Rattle.removal.proofs.Listing.Region.{back_table, back_frame, table_length}
 use Rattle.removal.specs.Table.{table}
-use borrow.Author.Rules.{rules}
 use Rattle.removal.proofs.classes.clear.Goals as goal
 
 pub returns : goal.returns

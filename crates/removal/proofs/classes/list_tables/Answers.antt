@@ -2,7 +2,6 @@
 use native.Mathlib.Omega.{arith}
 use Rattle.timing.specs.Marks.{path_list, paths_of}
 use Rattle.removal.proofs.Listing.MadeLaws.{made_startable, made_numbered, made_linkable, made_few, made_placeable, made_all}
-use borrow.Author.Rules.{rules}
 use Rattle.removal.proofs.classes.list_tables.Goals as goal
 
 pub number_listed-count-requires : goal.number_listed-count-requires

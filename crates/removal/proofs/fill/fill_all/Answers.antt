@@ -1,8 +1,7 @@
-use Prim.Native.Nat.{◌-◌, ◌≤◌}
 use native.Mathlib.Omega.{arith}
 use mathlib.Core.Path.{◌≡◌, refl, ◌∙◌}
 use lib.ListN.{length}
-use Rattle.removal.specs.Fill.{Filled, slots_below}
+use Rattle.removal.specs.Fill.{slots_below}
 use Rattle.removal.proofs.Filling.StepLaws.{filled_sizes}
 use Rattle.removal.proofs.Filling.CopySteps.{all_filling, all_start, all_next, all_turn, all_shown, all_filled}
 use Rattle.removal.proofs.fill.fill_all.Goals as goal

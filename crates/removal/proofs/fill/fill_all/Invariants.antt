@@ -1,11 +1,8 @@
 -- `fill_all` meets its contract. The invariant: the shown slots of the copies before c are written.
 use Prim.Native.Nat.{◌-◌, ◌≤◌}
-use native.Mathlib.Omega.{arith}
-use mathlib.Core.Path.{◌≡◌, refl, ◌∙◌}
+use mathlib.Core.Path.{◌≡◌}
 use lib.ListN.{length}
 use Rattle.removal.specs.Fill.{Filled, slots_below}
-use Rattle.removal.proofs.Filling.StepLaws.{filled_sizes}
-use Rattle.removal.proofs.Filling.CopySteps.{all_filling, all_start, all_next, all_turn, all_shown, all_filled}
 use Rattle.removal.proofs.fill.fill_all.Given as goal
 
 abbrev pub invariant-loop-c : goal.invariant-loop-c

@@ -1,10 +1,9 @@
-use Prim.Native.Nat.{ℕ, ◌+◌, ◌-◌, ◌≤◌}
+use Prim.Native.Nat.{ℕ, ◌+◌, ◌-◌}
 use native.Mathlib.Omega.{arith}
 use mathlib.Core.Path.{sym, ap, ◌∙◌, subst}
-use mathlib.Core.Logic.{⊎_elim}
 use mathlib.Core.List.{List, []}
 use lib.ListN.{length, get_or}
-use Rattle.removal.specs.Fill.{Filled, RowHeld, slots_to}
+use Rattle.removal.specs.Fill.{slots_to}
 use Rattle.removal.proofs.Filling.StepLaws.{filled_sizes, filling_next}
 use Rattle.removal.proofs.Filling.SlotSteps.{row_next}
 use Rattle.removal.proofs.Filling.CopySteps.{NotedSome, into_read, bases_inside, count_up, count_is, bases_few, slot_here, load_room, load_held, load_filled, filling_names, copy_start, copy_turn, copy_whole}

@@ -1,14 +1,6 @@
 -- `fill_copy` meets its contract. The invariant: the shown slots of the copy before j are written, and the row of slot 0 is at hand.
-use Prim.Native.Nat.{ℕ, ◌+◌, ◌-◌, ◌≤◌}
-use native.Mathlib.Omega.{arith}
-use mathlib.Core.Path.{sym, ap, ◌∙◌, subst}
-use mathlib.Core.Logic.{⊎_elim}
-use mathlib.Core.List.{List, []}
-use lib.ListN.{length, get_or}
+use Prim.Native.Nat.{◌-◌, ◌≤◌}
 use Rattle.removal.specs.Fill.{Filled, RowHeld, slots_to}
-use Rattle.removal.proofs.Filling.StepLaws.{filled_sizes, filling_next}
-use Rattle.removal.proofs.Filling.SlotSteps.{row_next}
-use Rattle.removal.proofs.Filling.CopySteps.{NotedSome, into_read, bases_inside, count_up, count_is, bases_few, slot_here, load_room, load_held, load_filled, filling_names, copy_start, copy_turn, copy_whole}
 use Rattle.removal.proofs.fill.fill_copy.Given as goal
 
 abbrev pub invariant-loop-j : goal.invariant-loop-j

@@ -1,8 +1,6 @@
 -- `load_row` meets its contract. The invariant: the edges before q have their flags.
 use Prim.Native.Nat.{◌-◌, ◌≤◌}
-use native.Mathlib.Omega.{arith}
-use mathlib.Core.Path.{◌≡◌, subst}
-use Rattle.removal.proofs.Filling.FlagRows.{LoadedTo, load_start, load_inside, load_next}
+use Rattle.removal.proofs.Filling.FlagRows.{LoadedTo}
 use Rattle.removal.proofs.fill.load_row.Given as goal
 
 abbrev pub invariant-loop-q : goal.invariant-loop-q

@@ -4,7 +4,6 @@ use mathlib.Core.Bool.{Bool, cond}
 use native.Mathlib.Omega.{arith}
 use lib.ListN.{get_or}
 use borrow.Author.Tests.{lt-ltb, le-ltb}
-use borrow.Author.Rules.{rules}
 use Rattle.removal.proofs.fill.shown_flag.Goals as goal
 
 pub returns-then-v-ge2 : goal.returns-then-v-ge2

@@ -3,7 +3,6 @@ use mathlib.Core.Path.{sym, ap}
 use mathlib.Core.Bool.{Bool, cond}
 use lib.ListN.{get_or}
 use borrow.Author.Tests.{eq-eqb, ne_eqb}
-use borrow.Author.Rules.{rules}
 use Rattle.removal.proofs.fill.slot_endpoint.Goals as goal
 
 pub returns-then-j-eq0 : goal.returns-then-j-eq0

@@ -1,6 +1,5 @@
 -- `write_edges` meets its contract: a row in which as many edges come from shown slots as it has edges is full.
 use Rattle.removal.proofs.Filling.FlagRows.{row_full}
-use borrow.Author.Rules.{rules}
 use Rattle.removal.proofs.fill.write_edges.Goals as goal
 
 pub write_full-requires : goal.write_full-requires

@@ -1,9 +1,9 @@
-use Prim.Native.Nat.{◌+◌, ◌-◌, ◌*◌, ◌≤◌, ◌<◌}
+use Prim.Native.Nat.{◌+◌, ◌*◌, ◌<◌}
 use native.Mathlib.Omega.{arith}
 use mathlib.Core.Path.{◌≡◌, refl}
 use lib.ListN.{length}
 use Rattle.removal.specs.Fill.{comes_at}
-use Rattle.removal.proofs.Filling.FlagRows.{RowSoFar, edges_start, edges_whole, edges_kept, edge_room, edge_write}
+use Rattle.removal.proofs.Filling.FlagRows.{edges_start, edges_whole, edges_kept, edge_room, edge_write}
 use Rattle.removal.proofs.fill.write_full.Goals as goal
 
 pub loop-q-init : goal.loop-q-init

@@ -1,10 +1,6 @@
 -- `write_full` meets its contract. The invariant: the edges of the row before q are written, and each of them comes from a shown slot.
-use Prim.Native.Nat.{◌+◌, ◌-◌, ◌*◌, ◌≤◌, ◌<◌}
-use native.Mathlib.Omega.{arith}
-use mathlib.Core.Path.{◌≡◌, refl}
-use lib.ListN.{length}
-use Rattle.removal.specs.Fill.{comes_at}
-use Rattle.removal.proofs.Filling.FlagRows.{RowSoFar, edges_start, edges_whole, edges_kept, edge_room, edge_write}
+use Prim.Native.Nat.{◌-◌, ◌≤◌}
+use Rattle.removal.proofs.Filling.FlagRows.{RowSoFar}
 use Rattle.removal.proofs.fill.write_full.Given as goal
 
 abbrev pub invariant-loop-q : goal.invariant-loop-q

@@ -1,7 +1,5 @@
-use Prim.Native.Nat.{◌-◌, ◌≤◌}
 use native.Mathlib.Omega.{arith}
-use mathlib.Core.Logic.{⊎_elim}
-use Rattle.removal.proofs.Filling.FlagRows.{RowSoFar, edges_start, edges_whole, edges_kept, edge_skip, edge_room, edge_write}
+use Rattle.removal.proofs.Filling.FlagRows.{edges_start, edges_whole, edges_kept, edge_skip, edge_room, edge_write}
 use Rattle.removal.proofs.fill.write_row.Goals as goal
 use Rattle.removal.proofs.fill.write_row.Goals.{else-v-ne0, then-v-ne0}
 

@@ -1,8 +1,6 @@
 -- `write_row` meets its contract. The invariant: the edges of the row before q are written.
 use Prim.Native.Nat.{◌-◌, ◌≤◌}
-use native.Mathlib.Omega.{arith}
-use mathlib.Core.Logic.{⊎_elim}
-use Rattle.removal.proofs.Filling.FlagRows.{RowSoFar, edges_start, edges_whole, edges_kept, edge_skip, edge_room, edge_write}
+use Rattle.removal.proofs.Filling.FlagRows.{RowSoFar}
 use Rattle.removal.proofs.fill.write_row.Given as goal
 
 abbrev pub invariant-loop-q : goal.invariant-loop-q

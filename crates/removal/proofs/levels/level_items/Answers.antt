@@ -1,8 +1,8 @@
-use Prim.Native.Nat.{ℕ, ◌-◌, ◌≤◌, ◌<◌}
+use Prim.Native.Nat.{ℕ, ◌-◌, ◌<◌}
 use native.Mathlib.Omega.{arith}
 use mathlib.Core.Path.{refl}
-use lib.ListN.{length, get_or}
-use Rattle.theorems.proofs.Elements.{Done, done_none, done_next}
+use lib.ListN.{get_or}
+use Rattle.theorems.proofs.Elements.{done_none, done_next}
 use Rattle.removal.specs.Levels.{path_of, item_of}
 use Rattle.removal.proofs.levels.level_items.Goals as goal
 

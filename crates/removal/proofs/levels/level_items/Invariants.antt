@@ -1,10 +1,8 @@
 -- The invariant: the items before i are those of the words there.
-use Prim.Native.Nat.{ℕ, ◌-◌, ◌≤◌, ◌<◌}
-use native.Mathlib.Omega.{arith}
-use mathlib.Core.Path.{refl}
+use Prim.Native.Nat.{ℕ, ◌-◌, ◌≤◌}
 use lib.ListN.{length, get_or}
-use Rattle.theorems.proofs.Elements.{Done, done_none, done_next}
-use Rattle.removal.specs.Levels.{path_of, item_of}
+use Rattle.theorems.proofs.Elements.{Done}
+use Rattle.removal.specs.Levels.{item_of}
 use Rattle.removal.proofs.levels.level_items.Given as goal
 
 abbrev pub invariant-loop-i : goal.invariant-loop-i

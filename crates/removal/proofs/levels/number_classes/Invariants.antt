@@ -1,15 +1,9 @@
 -- The invariant: the suffixes of fewer than d edges are numbered, and n paths with at least d edges wait. The measure: while a path waits, d is at
 -- most the number of listed edges.
-use Prim.Native.Nat.{ℕ, suc, ◌+◌, ◌-◌, ◌≤◌, ◌<◌}
-use native.Mathlib.Omega.{arith}
-use mathlib.Core.Path.{◌≡◌, refl, sym, ◌∙◌, ap, ap₂, subst, subst₂}
-use mathlib.Core.List.{List, ◌++◌}
-use lib.ListN.{length, get_or, take, drop, length-append, length-drop}
-use lib.Seq.{get_or-take, length-take-le, length_front, take_at}
-use Rattle.removal.specs.Items.{Different, InOrder}
-use Rattle.removal.specs.Levels.{item_of, Numberable, Passed}
-use Rattle.removal.proofs.Listing.LevelLaws.{Leveled, Level, ItemsMade, edged, items_made}
-use Rattle.removal.proofs.Listing.NumberedLaws.{Given, level_start, level_bound, level_ready, level_step, all_numbered}
+use Prim.Native.Nat.{◌+◌, ◌-◌, ◌≤◌}
+use mathlib.Core.Path.{◌≡◌}
+use lib.ListN.{length}
+use Rattle.removal.proofs.Listing.LevelLaws.{Leveled}
 use Rattle.removal.proofs.levels.number_classes.Given as goal
 
 abbrev pub invariant-loop-n : goal.invariant-loop-n

@@ -1,13 +1,8 @@
 -- The invariant: the first i items are passed, and `last` is the key before item i.
-use Prim.Native.Nat.{ℕ, suc, ◌+◌, ◌-◌, ◌*◌, ◌≤◌, ◌<◌}
-use native.Mathlib.Omega.{arith}
-use native.Mathlib.Numerals.{add-one}
-use mathlib.Core.Path.{◌≡◌, refl, sym, ◌∙◌, ap, subst, subst₂, subst₃}
-use mathlib.Core.Logic.{⊎_elim}
-use mathlib.Core.List.{List}
-use lib.ListN.{length, get_or, length-set}
-use Rattle.removal.specs.Levels.{path_of, key_of, key_before, Passed}
-use Rattle.removal.proofs.Listing.NumberLaws.{key_first, key_next, id_most, Opened, pass_start, open_old, open_new, close_end, close_on, opened_few}
+use Prim.Native.Nat.{◌-◌, ◌≤◌}
+use mathlib.Core.Path.{◌≡◌}
+use lib.ListN.{length}
+use Rattle.removal.specs.Levels.{key_before, Passed}
 use Rattle.removal.proofs.levels.number_level.Given as goal
 
 abbrev pub invariant-loop-i : goal.invariant-loop-i

@@ -1,10 +1,10 @@
-use Prim.Native.Nat.{ℕ, suc, ◌+◌, ◌-◌, ◌≤◌, ◌<◌}
+use Prim.Native.Nat.{ℕ, suc, ◌+◌, ◌<◌}
 use native.Mathlib.Omega.{arith}
 use native.Mathlib.Numerals.{add-one}
 use mathlib.Core.Path.{◌≡◌, refl, sym, ◌∙◌, ap}
 use lib.ListN.{length, get_or, take}
 use Rattle.timing.specs.Lists.{sum}
-use Rattle.theorems.proofs.Elements.{Done, done_none, done_next}
+use Rattle.theorems.proofs.Elements.{done_none, done_next}
 use Rattle.removal.specs.Levels.{end_of}
 use Rattle.removal.proofs.Listing.SumLaws.{sum_step, sum_take}
 use Rattle.removal.proofs.levels.path_ends.Goals as goal

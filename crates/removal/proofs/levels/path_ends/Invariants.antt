@@ -1,13 +1,10 @@
 -- The invariant: `at` is where the paths before k end, and these have their words.
-use Prim.Native.Nat.{ℕ, suc, ◌+◌, ◌-◌, ◌≤◌, ◌<◌}
-use native.Mathlib.Omega.{arith}
-use native.Mathlib.Numerals.{add-one}
-use mathlib.Core.Path.{◌≡◌, refl, sym, ◌∙◌, ap}
-use lib.ListN.{length, get_or, take}
+use Prim.Native.Nat.{ℕ, ◌-◌, ◌≤◌}
+use mathlib.Core.Path.{◌≡◌}
+use lib.ListN.{length, take}
 use Rattle.timing.specs.Lists.{sum}
-use Rattle.theorems.proofs.Elements.{Done, done_none, done_next}
+use Rattle.theorems.proofs.Elements.{Done}
 use Rattle.removal.specs.Levels.{end_of}
-use Rattle.removal.proofs.Listing.SumLaws.{sum_step, sum_take}
 use Rattle.removal.proofs.levels.path_ends.Given as goal
 
 abbrev pub invariant-loop-k : goal.invariant-loop-k

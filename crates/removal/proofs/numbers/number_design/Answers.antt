@@ -1,6 +1,5 @@
 -- Each table by its own loop.
 use native.Mathlib.Omega.{arith}
-use borrow.Author.Rules.{rules}
 use Rattle.removal.proofs.numbers.number_design.Goals as goal
 
 pub number_places-requires : goal.number_places-requires

@@ -3,7 +3,6 @@ use native.Mathlib.Omega.{arith}
 use mathlib.Core.Path.{ap, ◌∙◌}
 use lib.ListN.{length}
 use Rattle.removal.proofs.Whole.EndpointLaws.{stored_length, endpoints_made}
-use borrow.Author.Rules.{rules}
 use Rattle.removal.proofs.numbers.number_endpoints.Goals as goal
 
 pub store_at-requires : goal.store_at-requires

@@ -1,9 +1,7 @@
 -- Invariant: the places below i hold their own numbers.
 use Prim.Native.Nat.{ℕ, ◌-◌, ◌≤◌, ◌<◌}
-use native.Mathlib.Omega.{arith}
-use mathlib.Core.Path.{◌≡◌, refl, ◌∙◌}
-use lib.ListN.{length, get_or, length-set}
-use Rattle.removal.proofs.Whole.TestLaws.{front_upto, numbered_next}
+use mathlib.Core.Path.{◌≡◌}
+use lib.ListN.{length, get_or}
 use Rattle.removal.proofs.numbers.number_places.Given as goal
 
 abbrev pub invariant-loop-i : goal.invariant-loop-i

@@ -1,8 +1,8 @@
-use Prim.Native.Nat.{ℕ, ◌-◌, ◌≤◌, ◌<◌}
+use Prim.Native.Nat.{ℕ, ◌<◌}
 use native.Mathlib.Omega.{arith}
-use mathlib.Core.Path.{◌≡◌, refl, sym, ◌∙◌, ap}
+use mathlib.Core.Path.{refl, sym, ◌∙◌, ap}
 use mathlib.Core.List.{List}
-use lib.ListN.{length, get_or, drop, length-set}
+use lib.ListN.{length, get_or, length-set}
 use Rattle.removal.specs.Endpoints.{stored_at}
 use Rattle.removal.proofs.Whole.EndpointLaws.{store_next, drop_end}
 use Rattle.removal.proofs.numbers.store_at.Goals as goal

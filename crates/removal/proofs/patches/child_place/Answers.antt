@@ -3,7 +3,6 @@ use Prim.Native.Nat.{◌+◌, ◌<◌}
 use native.Mathlib.Omega.{arith}
 use mathlib.Core.Path.{◌≡◌}
 use lib.ListN.{length, get_or, take}
-use borrow.Author.Rules.{rules}
 use Rattle.removal.specs.Patches.{child_place}
 use Rattle.removal.proofs.Patching.PlaceLaws.{place_dead, place_live, start_room}
 use Rattle.removal.proofs.patches.child_place.Goals as goal

@@ -2,7 +2,6 @@
 -- the number of the mark, and its class, are in the tables
 use Prim.Native.Nat.{◌+◌, ◌*◌, ◌<◌}
 use native.Mathlib.Omega.{arith}
-use borrow.Author.Rules.{rules}
 use lib.ListN.{length, get_or}
 use Rattle.removal.proofs.Patching.GatherLaws.{row_searching, row_room, row_mark, row_forgettable, row_collected}
 use Rattle.removal.proofs.patches.collect.Goals as goal

@@ -1,8 +1,8 @@
-use Prim.Native.Nat.{◌+◌, ◌-◌, ◌≤◌, ◌<◌}
+use Prim.Native.Nat.{◌+◌, ◌-◌, ◌<◌}
 use native.Mathlib.Omega.{arith}
 use mathlib.Core.Path.{◌≡◌}
 use lib.ListN.{length, get_or, take}
-use Rattle.removal.specs.Patches.{kids_from, kids_to, TriedKids}
+use Rattle.removal.specs.Patches.{kids_to}
 use Rattle.removal.proofs.Patching.NoteLaws.{searching_next}
 use Rattle.removal.proofs.Patching.KidLaws.{room, from_read, to_read, kids_start, kid_room, kid_tells, kids_next, kids_all}
 use Rattle.removal.proofs.patches.collect_kids.Goals as goal

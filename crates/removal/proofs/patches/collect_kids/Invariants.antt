@@ -1,11 +1,7 @@
 -- The children before child i are tried: no edge that is not seen is theirs.
-use Prim.Native.Nat.{◌+◌, ◌-◌, ◌≤◌, ◌<◌}
-use native.Mathlib.Omega.{arith}
-use mathlib.Core.Path.{◌≡◌}
-use lib.ListN.{length, get_or, take}
-use Rattle.removal.specs.Patches.{kids_from, kids_to, TriedKids}
-use Rattle.removal.proofs.Patching.NoteLaws.{searching_next}
-use Rattle.removal.proofs.Patching.KidLaws.{room, from_read, to_read, kids_start, kid_room, kid_tells, kids_next, kids_all}
+use Prim.Native.Nat.{◌-◌, ◌≤◌}
+use lib.ListN.{take}
+use Rattle.removal.specs.Patches.{kids_from, TriedKids}
 use Rattle.removal.proofs.patches.collect_kids.Given as goal
 
 abbrev pub invariant-loop-i : goal.invariant-loop-i

@@ -1,8 +1,7 @@
-use Prim.Native.Nat.{◌+◌, ◌-◌, ◌≤◌, ◌<◌}
+use Prim.Native.Nat.{◌+◌, ◌<◌}
 use native.Mathlib.Omega.{arith}
 use mathlib.Core.Path.{◌≡◌}
 use lib.ListN.{length, get_or}
-use Rattle.removal.specs.Patches.{Forgotten}
 use Rattle.removal.proofs.Patching.NoteLaws.{forget_start, forget_room, forget_next, forget_all}
 use Rattle.removal.proofs.patches.forget.Goals as goal
 

@@ -2,7 +2,6 @@
 use Prim.Native.Nat.{◌+◌, ◌*◌, ◌/◌, ◌<◌}
 use native.Mathlib.Omega.{arith}
 use mathlib.Core.Path.{◌≡◌, refl, sym, ◌∙◌, ap}
-use borrow.Author.Rules.{rules}
 use lib.ListN.{length, get_or, take, set, length-set}
 use Rattle.removal.specs.Rows.{InRun, name_in}
 use Rattle.removal.proofs.Patching.NoteLaws.{run_inside, edge_places, name_read, missed, placed, store_room, found}

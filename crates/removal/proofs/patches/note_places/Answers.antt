@@ -1,9 +1,9 @@
-use Prim.Native.Nat.{◌+◌, ◌-◌, ◌<◌}
+use Prim.Native.Nat.{◌+◌, ◌<◌}
 use native.Mathlib.Omega.{arith}
 use mathlib.Core.Path.{◌≡◌}
 use lib.ListN.{length, get_or, take}
 use Rattle.removal.specs.Rows.{run_to}
-use Rattle.removal.proofs.Patching.NoteLaws.{NotedTo, noted_start, noted_edge, noted_room, noted_next, noted_all, edge_places}
+use Rattle.removal.proofs.Patching.NoteLaws.{noted_start, noted_edge, noted_room, noted_next, noted_all, edge_places}
 use Rattle.removal.proofs.patches.note_places.Goals as goal
 
 pub loop-q-init : goal.loop-q-init

@@ -1,7 +1,6 @@
 -- The store is made where the place is not the dead one.
 use native.Mathlib.Omega.{arith}
 use mathlib.Core.Path.{sym}
-use borrow.Author.Rules.{rules}
 use Rattle.removal.proofs.Reaching.PushLaws.{flag_dead, flag_live}
 use Rattle.removal.proofs.reach.flag.Goals as goal
 

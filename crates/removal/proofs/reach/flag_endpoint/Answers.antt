@@ -4,7 +4,6 @@ use native.Mathlib.Omega.{arith}
 use mathlib.Core.Path.{ap}
 use lib.ListN.{get_or, set}
 use borrow.Author.Tests.{eq-eqb, ne_eqb}
-use borrow.Author.Rules.{rules}
 use Rattle.removal.proofs.Reaching.CopyLaws.{slot_first, slot_low}
 use Rattle.removal.proofs.reach.flag_endpoint.Goals as goal
 

@@ -1,5 +1,4 @@
 -- The patches that are collected are flagged and counted.
-use borrow.Author.Rules.{rules}
 use Rattle.removal.proofs.Reaching.CoverLaws.{mark_pushable, mark_pushed}
 use Rattle.removal.proofs.reach.push_mark.Goals as goal
 

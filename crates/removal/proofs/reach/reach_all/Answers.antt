@@ -3,7 +3,7 @@ use native.Mathlib.Omega.{arith}
 use mathlib.Core.Path.{◌≡◌, refl, sym, ◌∙◌, subst}
 use mathlib.Core.List.{List}
 use lib.ListN.{length, take}
-use Rattle.removal.specs.Rows.{Idle, run_from, run_to}
+use Rattle.removal.specs.Rows.{run_from, run_to}
 use Rattle.removal.specs.Patches.{NamesIn}
 use Rattle.removal.specs.Reach.{flag_of, Still, Uncovered, CopyPushed, RowsReached}
 use Rattle.removal.proofs.Reaching.RowLaws.{ready_same, names_same}

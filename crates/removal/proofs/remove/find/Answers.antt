@@ -1,6 +1,5 @@
 -- Each pass meets what the next one asks, and together they are what is found.
 use lib.ListN.{length}
-use borrow.Author.Rules.{rules}
 use Rattle.removal.proofs.Reaching.RowLaws.{names_more}
 use Rattle.removal.proofs.Whole.RemoveLaws.{buildable, built_ready, endpoints_all, found}
 use Rattle.removal.proofs.remove.find.Goals as goal

@@ -7,7 +7,6 @@ use Rattle.removal.specs.declared.remove.Searched.{Searched}
 use Rattle.removal.specs.Remove.{AllSearched}
 use Rattle.removal.proofs.Reaching.RowLaws.{names_more}
 use Rattle.removal.proofs.Whole.AnswerLaws.{removed_refused, removed_made, removed_none}
-use borrow.Author.Rules.{rules}
 use Rattle.removal.proofs.remove.remove_with.Goals as goal
 
 pub write_result-made-requires : goal.write_result-made-requires

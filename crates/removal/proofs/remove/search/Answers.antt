@@ -6,7 +6,6 @@ use Rattle.timing.specs.Tests.{words_test}
 use Rattle.removal.specs.Remove.{WorkableIn}
 use Rattle.removal.proofs.Whole.AnswerLaws.{work_countable, work_in}
 use native.Mathlib.Omega.{arith}
-use borrow.Author.Rules.{rules}
 use Rattle.removal.proofs.remove.search.Goals as goal
 
 pub count_candidates-candidates-requires : goal.count_candidates-candidates-requires

@@ -1,6 +1,5 @@
 -- A design has at most 16,384 edges.
 use Rattle.removal.proofs.Whole.RemoveLaws.{work_few}
-use borrow.Author.Rules.{rules}
 use Rattle.removal.proofs.remove.size_many.Goals as goal
 
 pub size_with-requires : goal.size_with-requires

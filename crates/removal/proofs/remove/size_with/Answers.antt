@@ -7,7 +7,6 @@ use Rattle.removal.specs.declared.remove.Searched.{Searched}
 use Rattle.removal.specs.Remove.{AllSearched}
 use Rattle.removal.proofs.Reaching.RowLaws.{names_more}
 use Rattle.removal.proofs.Whole.AnswerLaws.{sized_refused, sized_made, sized_none}
-use borrow.Author.Rules.{rules}
 use Rattle.removal.proofs.remove.size_with.Goals as goal
 
 pub show_all-counts-requires : goal.show_all-counts-requires

@@ -1,7 +1,6 @@
 -- Where there is room for what is reached, the result is written at once; and else it is counted first.
 use mathlib.Core.Path.{◌≡◌, sym, ◌∙◌}
 use lib.ListN.{length}
-use borrow.Author.Rules.{rules}
 use Rattle.timing.specs.declared.Verdict.TheVariants.{Passed}
 use Rattle.timing.specs.Tests.{count_tests}
 use Rattle.removal.proofs.Whole.RemoveLaws.{fillable_now}

@@ -3,7 +3,6 @@ use Prim.Native.Nat.{ℕ, suc, ◌+◌, ◌-◌}
 use native.Mathlib.Omega.{arith}
 use mathlib.Core.Path.{◌≡◌, sym, ◌∙◌, ap}
 use lib.ListN.{take}
-use borrow.Author.Rules.{rules}
 use Rattle.removal.specs.Rows.{run_from}
 use Rattle.removal.proofs.Reaching.RowLaws.{read}
 use Rattle.removal.proofs.rows.run_from.Goals as goal

@@ -1,9 +1,8 @@
 use Prim.Native.Nat.{ℕ, ◌+◌, ◌-◌, ◌/◌, ◌≤◌, ◌<◌}
 use native.Mathlib.Omega.{arith}
-use mathlib.Core.List.{List}
 use lib.ListN.{length, get_or}
 use Rattle.removal.specs.Classes.{class_count}
-use Rattle.removal.proofs.Listing.SearchLaws.{Sought, sought_start, kid_place, kids_up, kids_within, sought_up, sought_down, child_found, child_none}
+use Rattle.removal.proofs.Listing.SearchLaws.{sought_start, kid_place, kids_up, kids_within, sought_up, sought_down, child_found, child_none}
 use Rattle.removal.proofs.search.kid_of.Goals as goal
 
 pub overflow_add-end : goal.overflow_add-end

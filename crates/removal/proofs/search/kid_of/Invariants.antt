@@ -1,10 +1,6 @@
 -- The edges before lo are below e, and those from hi on are not.
-use Prim.Native.Nat.{ℕ, ◌+◌, ◌-◌, ◌/◌, ◌≤◌, ◌<◌}
-use native.Mathlib.Omega.{arith}
-use mathlib.Core.List.{List}
-use lib.ListN.{length, get_or}
-use Rattle.removal.specs.Classes.{class_count}
-use Rattle.removal.proofs.Listing.SearchLaws.{Sought, sought_start, kid_place, kids_up, kids_within, sought_up, sought_down, child_found, child_none}
+use Prim.Native.Nat.{◌-◌}
+use Rattle.removal.proofs.Listing.SearchLaws.{Sought}
 use Rattle.removal.proofs.search.kid_of.Given as goal
 
 abbrev pub invariant-loop-lo : goal.invariant-loop-lo

@@ -1,6 +1,5 @@
 -- The row of the empty mark has no patches; those of any other are collected, and change how many edges come to it.
 use native.Mathlib.Omega.{arith}
-use borrow.Author.Rules.{rules}
 use Rattle.removal.proofs.Showing.RowSteps.{row_empty, row_rowed, row_patched, row_met}
 use Rattle.removal.proofs.show.row_of.Goals as goal
 

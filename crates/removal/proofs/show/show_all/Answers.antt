@@ -1,10 +1,8 @@
-use Prim.Native.Nat.{ℕ, ◌+◌, ◌-◌, ◌≤◌}
+use Prim.Native.Nat.{ℕ, ◌+◌}
 use native.Mathlib.Omega.{arith}
-use mathlib.Core.Path.{◌≡◌, refl, sym, ◌∙◌, subst}
+use mathlib.Core.Path.{refl, sym, ◌∙◌, subst}
 use lib.ListN.{length}
-use Rattle.removal.specs.Rows.{Idle}
 use Rattle.removal.specs.Patches.{NamesIn}
-use Rattle.removal.specs.Show.{PassedTo}
 use Rattle.removal.proofs.Reaching.RowLaws.{names_same}
 use Rattle.removal.proofs.Showing.ShowSteps.{to_start, to_more, to_all, to_ready, to_next}
 use Rattle.removal.proofs.show.show_all.Goals as goal

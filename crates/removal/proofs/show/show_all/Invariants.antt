@@ -1,13 +1,9 @@
 -- The invariant: the pass has come to copy c, and no row is at hand. The measure is how many copies are left.
-use Prim.Native.Nat.{ℕ, ◌+◌, ◌-◌, ◌≤◌}
-use native.Mathlib.Omega.{arith}
-use mathlib.Core.Path.{◌≡◌, refl, sym, ◌∙◌, subst}
+use Prim.Native.Nat.{◌-◌, ◌≤◌}
+use mathlib.Core.Path.{◌≡◌}
 use lib.ListN.{length}
 use Rattle.removal.specs.Rows.{Idle}
-use Rattle.removal.specs.Patches.{NamesIn}
 use Rattle.removal.specs.Show.{PassedTo}
-use Rattle.removal.proofs.Reaching.RowLaws.{names_same}
-use Rattle.removal.proofs.Showing.ShowSteps.{to_start, to_more, to_all, to_ready, to_next}
 use Rattle.removal.proofs.show.show_all.Given as goal
 
 abbrev pub invariant-loop-c : goal.invariant-loop-c

@@ -1,13 +1,11 @@
-use Prim.Native.Nat.{ℕ, ◌+◌, ◌*◌, ◌-◌, ◌≤◌, ◌<◌}
+use Prim.Native.Nat.{ℕ, ◌+◌, ◌*◌, ◌<◌}
 use native.Mathlib.Omega.{arith}
 use mathlib.Core.Path.{◌≡◌, sym, ap, ◌∙◌, subst}
-use mathlib.Core.Logic.{⊎_elim}
 use mathlib.Core.List.{List}
 use lib.ListN.{length, get_or, take}
 use Rattle.removal.specs.Slots.{slots}
-use Rattle.removal.specs.Rows.{slots_in, Idle}
+use Rattle.removal.specs.Rows.{slots_in}
 use Rattle.removal.specs.Patches.{Noted, NamesIn}
-use Rattle.removal.specs.Show.{EdgesMeet, PassedTo}
 use Rattle.removal.proofs.Showing.ShowSteps.{to_start, to_slot, to_copy}
 use Rattle.removal.proofs.Showing.RowSteps.{CopyWords, copy_words, row_next}
 use Rattle.removal.proofs.show.show_copy.Goals as goal

@@ -4,7 +4,6 @@ use Prim.Native.Nat.{ℕ, ◌+◌, ◌*◌, ◌<◌}
 use native.Mathlib.Omega.{arith}
 use mathlib.Core.Path.{◌≡◌, sym, subst}
 use lib.ListN.{length, get_or, take}
-use borrow.Author.Rules.{rules}
 use Rattle.removal.specs.Rows.{slot_place}
 use Rattle.removal.proofs.Reaching.RowLaws.{base_read, place_inside, words}
 use Rattle.removal.proofs.Showing.ShowTables.{work_words}

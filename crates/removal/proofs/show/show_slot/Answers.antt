@@ -2,9 +2,8 @@
 use Prim.Native.Nat.{ℕ, ◌+◌, ◌*◌, ◌<◌}
 use native.Mathlib.Omega.{arith}
 use mathlib.Core.Path.{◌≡◌, refl, sym, subst}
-use mathlib.Core.Logic.{inl, inr, ⊎_elim}
+use mathlib.Core.Logic.{inl, inr}
 use lib.ListN.{length, get_or, take, set}
-use borrow.Author.Rules.{rules}
 use Rattle.removal.specs.Rows.{slots_in, slot_place}
 use Rattle.removal.specs.Show.{SlotShown, WorkKept}
 use Rattle.removal.proofs.Reaching.RowLaws.{base_up, base_read, words}

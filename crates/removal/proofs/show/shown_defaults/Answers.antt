@@ -1,8 +1,8 @@
 use Prim.Native.Nat.{ℕ, ◌+◌, ◌*◌, ◌-◌, ◌≤◌, ◌<◌}
 use native.Mathlib.Omega.{arith}
-use mathlib.Core.Path.{◌≡◌, ap}
+use mathlib.Core.Path.{ap}
 use lib.ListN.{length, get_or, take}
-use Rattle.timing.specs.Lists.{one_if, count_of, upto}
+use Rattle.timing.specs.Lists.{one_if}
 use Rattle.removal.specs.Rows.{InRun}
 use Rattle.removal.specs.Show.{shown_at}
 use Rattle.removal.proofs.Showing.ShowTables.{default_test, one_small, count_few, turn_first, turn_next, default_word, default_read, default_place, default_end, work_words}

@@ -1,16 +1,10 @@
 -- Invariant: the edges from `first` to before k end at c, and t and e are the largest and the smallest over these.
 use Prim.Native.Nat.{◌-◌, ◌≤◌, ◌<◌}
-use native.Mathlib.Omega.{arith}
-use mathlib.Core.Path.{◌≡◌, sym, ◌∙◌, ap, ap₂}
-use mir.Syntax.{w64}
-use mir.Val.{to_z}
-use lib.ListN.{length, get_or, set}
-use borrow.Author.Rules.{rules}
-use Rattle.timing.specs.Times.{larger, smaller, largest, smallest}
-use Rattle.timing.proofs.Ints.{read_back}
-use Rattle.theorems.proofs.Extremes.{larges, smalls}
-use Rattle.times.specs.Fanins.{over, best_over}
-use Rattle.times.proofs.Fanins.{Into, here, fanin_ends, into_none, into_next, over_none, over_one, over_more}
+use mathlib.Core.Path.{◌≡◌}
+use lib.ListN.{length}
+use Rattle.timing.specs.Times.{largest, smallest}
+use Rattle.times.specs.Fanins.{best_over}
+use Rattle.times.proofs.Fanins.{Into}
 use Rattle.times.proofs.arrivals.arrive.Given as goal
 
 abbrev pub invariant-loop-arrivals : goal.invariant-loop-arrivals

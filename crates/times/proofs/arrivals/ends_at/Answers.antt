@@ -1,6 +1,5 @@
 -- Both tests, one after the other.
 use borrow.Author.Tests.{lt-ltb, le-ltb}
-use borrow.Author.Rules.{rules}
 use Rattle.times.proofs.arrivals.ends_at.Goals as goal
 
 pub returns-then-k-to : goal.returns-then-k-to

@@ -1,17 +1,13 @@
 -- Invariant: the copies below c hold their times, and the fanin of c stands from `first` on.
-use Prim.Native.Nat.{ℕ, ◌-◌, ◌≤◌}
-use native.Mathlib.Omega.{arith}
-use mathlib.Core.Path.{◌∙◌, ap}
-use mathlib.Core.List.{[], map}
+use Prim.Native.Nat.{◌-◌, ◌≤◌}
+use mathlib.Core.List.{[]}
 use lib.IntN.{pos}
 use lib.ListN.{length}
-use Rattle.timing.specs.Lists.{upto}
 use Rattle.timing.specs.Times.{arrival_at, earliest_at}
 use Rattle.timing.specs.Calls.{graph_slices, graph_of}
-use Rattle.theorems.proofs.Elements.{Done, done_none, done_all}
+use Rattle.theorems.proofs.Elements.{Done}
 use Rattle.times.specs.Passes.{delay_of}
 use Rattle.times.specs.Fanins.{FaninFrom}
-use Rattle.times.proofs.Fanins.{arrivals_pass, earliests_pass, fanin_first, fanin_next, copy_ready, copy_done}
 use Rattle.times.proofs.arrivals.fill_arrivals.Given as goal
 
 abbrev pub invariant-loop-c : goal.invariant-loop-c

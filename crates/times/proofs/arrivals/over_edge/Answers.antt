@@ -5,7 +5,6 @@ use lib.ListN.{get_or}
 use mir.Syntax.{w32}
 use mir.Facts.{to_z-of_z}
 use Rattle.timing.proofs.Ints.{read_back}
-use borrow.Author.Rules.{rules}
 use Rattle.times.proofs.arrivals.over_edge.Goals as goal
 
 pub sum-requires : goal.sum-requires

@@ -1,11 +1,9 @@
-use Prim.Native.Nat.{ℕ, ◌-◌, ◌≤◌}
 use native.Mathlib.Omega.{arith}
 use mathlib.Core.Path.{◌∙◌, ap₂}
 use lib.IntN.{pos, ◌-ℤ◌}
-use lib.ListN.{length, get_or}
+use lib.ListN.{get_or}
 use Rattle.timing.proofs.Ints.{read_back}
-use Rattle.theorems.proofs.Elements.{Done, done_none, done_next, done_all}
-use borrow.Author.Rules.{rules}
+use Rattle.theorems.proofs.Elements.{done_none, done_next, done_all}
 use Rattle.times.proofs.copies.fill_slacks.Goals as goal
 
 pub loop-i-init : goal.loop-i-init

@@ -1,12 +1,8 @@
 -- Invariant: the places below i hold their slack, and the others what they held.
 use Prim.Native.Nat.{ℕ, ◌-◌, ◌≤◌}
-use native.Mathlib.Omega.{arith}
-use mathlib.Core.Path.{◌∙◌, ap₂}
 use lib.IntN.{pos, ◌-ℤ◌}
 use lib.ListN.{length, get_or}
-use Rattle.timing.proofs.Ints.{read_back}
-use Rattle.theorems.proofs.Elements.{Done, done_none, done_next, done_all}
-use borrow.Author.Rules.{rules}
+use Rattle.theorems.proofs.Elements.{Done}
 use Rattle.times.proofs.copies.fill_slacks.Given as goal
 
 abbrev pub invariant-loop-i : goal.invariant-loop-i

@@ -6,7 +6,6 @@ use Rattle.timing.specs.Calls.{graph_slices}
 use Rattle.theorems.proofs.Elements.{size_each}
 use Rattle.times.specs.Passes.{Small}
 use Rattle.times.proofs.Passes.{arrivals_small, requireds_small, fit_ends, arrivals_any, earliests_any, slacks_are}
-use borrow.Author.Rules.{rules}
 use Rattle.times.proofs.copies.fill_times.Goals as goal
 
 pub fill_arrivals-requires : goal.fill_arrivals-requires

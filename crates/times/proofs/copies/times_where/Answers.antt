@@ -8,7 +8,6 @@ use Rattle.timing.specs.Graphs.{design}
 use Rattle.timing.specs.Calls.{graph_slices, test_times, arrivals_after, requireds_after, slacks_after, earliests_after}
 use Rattle.timing.proofs.Verdicts.{times_passed, after_told}
 use Rattle.times.proofs.Passed.{passed_ready}
-use borrow.Author.Rules.{rules}
 use Rattle.times.proofs.copies.times_where.Goals as goal
 
 pub fill_times-requires : goal.fill_times-requires

@@ -6,7 +6,6 @@ use mir.Syntax.{w32, w64}
 use mir.Val.{SFits}
 use mir.Facts.{to_z-of_z}
 use Rattle.timing.proofs.Ints.{sub_parts, neg_up, neg_dn, eq_parts, neg_nat, read_back}
-use borrow.Author.Rules.{rules}
 use Rattle.times.proofs.numbers.negated.Goals as goal
 
 zero-less : (d : ℤ) → pos 0 -ℤ d ≡ neg_ℤ d

@@ -1,11 +1,10 @@
 use Rattle.timing.proofs.Ints.{read_back}
-use Prim.Native.Nat.{ℕ, ◌+◌, ◌-◌, ◌≤◌}
+use Prim.Native.Nat.{ℕ, ◌+◌, ◌-◌}
 use native.Mathlib.Omega.{arith}
 use mathlib.Core.Path.{◌≡◌, sym, ◌∙◌, ap}
 use mathlib.Core.List.{map}
 use lib.IntN.{pos}
 use lib.ListN.{length, get_or}
-use borrow.Author.Rules.{rules}
 use Rattle.timing.specs.Lists.{upto}
 use Rattle.timing.specs.Calls.{graph_slices}
 use Rattle.times.specs.Passes.{first_required}

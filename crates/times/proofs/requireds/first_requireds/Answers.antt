@@ -1,15 +1,9 @@
-use Prim.Native.Nat.{ℕ, ◌-◌, ◌≤◌}
 use native.Mathlib.Omega.{arith}
 use mathlib.Core.Path.{◌∙◌}
 use lib.IntN.{pos}
-use lib.ListN.{length, get_or}
-use mir.Syntax.{w64}
-use mir.Val.{to_z}
 use mir.Facts.{to_z-of_z}
-use Rattle.times.specs.Passes.{first_required}
 use Rattle.timing.proofs.Ints.{read_back}
-use Rattle.theorems.proofs.Elements.{Done, done_none, done_next, done_all}
-use borrow.Author.Rules.{rules}
+use Rattle.theorems.proofs.Elements.{done_none, done_next, done_all}
 use Rattle.times.proofs.requireds.first_requireds.Goals as goal
 
 pub loop-i-init : goal.loop-i-init

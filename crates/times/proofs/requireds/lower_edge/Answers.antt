@@ -6,7 +6,6 @@ use mir.Syntax.{w32}
 use mir.Facts.{to_z-of_z}
 use Rattle.timing.proofs.Ints.{abs_neg, read_back}
 use Rattle.times.specs.Passes.{delay_of, lowered}
-use borrow.Author.Rules.{rules}
 use Rattle.times.proofs.requireds.lower_edge.Goals as goal
 
 pub sum-t-requires : goal.sum-t-requires
