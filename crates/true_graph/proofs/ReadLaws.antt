@@ -14,7 +14,7 @@ use Rattle.timing.specs.declared.Groups.TheVariants.{Number, Ended, Unfit}
 use Rattle.timing.specs.Refusals.{refusal, unless, ◌then◌}
 use Rattle.timing.specs.Numbers.{groups_in, number_answer, read_number}
 use Rattle.timing.specs.Delays.{delay_of}
-use Rattle.timing.specs.Parsing.{Parsed, found, stopped, Reader, onward, ◌>>=◌, ◌>>◌, return, tested, parsed_number, number, repeated, ended}
+use Rattle.timing.specs.Parsing.{Parsed, found, stopped, Reader, onward, ◌>>=◌, return, tested, parsed_number, number, repeated, ended}
 use Rattle.timing.specs.Decks.{Deck, Tables, EdgeRow, edge_row, paths, read_deck}
 use Rattle.timing.specs.Tests.{marked_count}
 use Rattle.timing.specs.Calls.{Outcome, made, refused, parsed}

@@ -7,8 +7,7 @@ use lib.ListN.{length-replicate}
 use Rattle.timing.specs.declared.Written.TheVariants.{Refused as NotWritten}
 use Rattle.timing.specs.Graphs.{Graph}
 use Rattle.timing.specs.Calls.{Outcome, c_written, room_after_c}
-use Rattle.true_graph.proofs.ProgramLaws.{program_long, Lent, lent, lent_after, tables, tables_read, read_fits, read_program}
-use borrow.Author.Rules.{rules}
+use Rattle.true_graph.proofs.ProgramLaws.{program_long, lent, lent_after, tables, tables_read, read_fits, read_program}
 use Rattle.true_graph.proofs.pack.Goals as goal
 
 pub returns-then-deck-gt-MAX_DECK_BYTES : goal.returns-then-deck-gt-MAX_DECK_BYTES

@@ -2,14 +2,13 @@
 use Prim.Native.Nat.{ℕ}
 use mathlib.Core.Path.{◌≡◌, sym, ap}
 use lib.ListN.{length-replicate}
-use Rattle.timing.specs.Graphs.{Design, design, Graph}
+use Rattle.timing.specs.Graphs.{design}
 use Rattle.timing.specs.Marks.{path_list}
-use Rattle.timing.specs.Calls.{GraphSlices, graph_slices, Outcome, Removal, removal, room_of, remove_from_design, program_room}
+use Rattle.timing.specs.Calls.{GraphSlices, graph_slices, removal, room_of, remove_from_design, program_room}
 use Rattle.timing.specs.Tests.{Room}
 use Rattle.removal.specs.Remove.{Answered}
 use Rattle.true_graph.proofs.Small.{small_from_design}
 use Rattle.true_graph.proofs.DeckLaws.{ended_design, made_fits, made_written_lem, made_room_lem, zeros, program_room_lem}
-use borrow.Author.Rules.{rules}
 use Rattle.true_graph.proofs.pack_graph.Goals as goal
 
 abbrev rooms : GraphSlices

@@ -7,7 +7,6 @@ use Rattle.timing.specs.Graphs.{Graph}
 use Rattle.timing.specs.Calls.{Outcome, c_written, room_after_c}
 use Rattle.true_graph.specs.Deck.{ReadFits, read_removal}
 use Rattle.true_graph.proofs.DeckLaws.{length_front}
-use borrow.Author.Rules.{rules}
 use Rattle.true_graph.proofs.pack_read.Goals as goal
 
 pub slice_bounds-pack_tested-end : goal.slice_bounds-pack_tested-end

@@ -1,10 +1,9 @@
 -- The tests refuse; or they pass, and removal from the design makes what the deck asks for.
 use mathlib.Core.Path.{sym, ap, ◌∙◌}
-use Rattle.timing.specs.Graphs.{Design, design, Graph}
-use Rattle.timing.specs.Marks.{PathList, path_list}
+use Rattle.timing.specs.Graphs.{design, Graph}
+use Rattle.timing.specs.Marks.{path_list}
 use Rattle.timing.specs.Calls.{Outcome, c_written, room_after_c}
 use Rattle.true_graph.proofs.DeckLaws.{deck_refused, deck_tested, deck_passed}
-use borrow.Author.Rules.{rules}
 use Rattle.true_graph.proofs.pack_tested.Goals as goal
 
 pub test_deck-verdict-requires : goal.test_deck-verdict-requires

@@ -1,10 +1,9 @@
 -- Where 31 passes with half of the scratch, half is enough; else all of it is lent.
 use native.Mathlib.Omega.{arith}
 use mathlib.Core.Path.{sym, ◌∙◌}
-use Rattle.timing.specs.Graphs.{Design, design}
-use Rattle.timing.specs.Marks.{PathList, path_list}
+use Rattle.timing.specs.Graphs.{design}
+use Rattle.timing.specs.Marks.{path_list}
 use Rattle.true_graph.proofs.Halves.{few_paths, half_same}
-use borrow.Author.Rules.{rules}
 use Rattle.true_graph.proofs.remove_tested.Goals as goal
 
 pub overflow_sub-candidates : goal.overflow_sub-candidates

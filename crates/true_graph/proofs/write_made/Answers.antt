@@ -2,10 +2,9 @@
 use mathlib.Core.Path.{sym, ap, ◌∙◌, subst}
 use Rattle.timing.specs.declared.GraphMade.{GraphMade}
 use Rattle.timing.specs.declared.GraphMade.TheVariants.{Counts}
-use Rattle.timing.specs.Calls.{GraphSlices, graph_slices}
+use Rattle.timing.specs.Calls.{graph_slices}
 use Rattle.true_graph.specs.Deck.{MadeFits, made_written, made_room}
 use Rattle.true_graph.proofs.DeckLaws.{length_front}
-use borrow.Author.Rules.{rules}
 use Rattle.true_graph.proofs.write_made.Goals as goal
 
 pub slice_bounds-write_graph-end : goal.slice_bounds-write_graph-end
