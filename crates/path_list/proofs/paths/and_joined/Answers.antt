@@ -17,6 +17,7 @@ use Rattle.path_list.proofs.Loops.{first_edge, break_of_front}
 use Rattle.path_list.proofs.Laws.{part_length, no_path_left, fault_path, sound_path}
 use Rattle.path_list.proofs.paths.and_joined.Invariants.{meet}
 use Rattle.path_list.proofs.paths.and_joined.Goals as goal
+use Rattle.path_list.proofs.paths.and_joined.Goals.{else-paths-test, then-paths-test+then-loop-i-test+in_default-found}
 
 pub paths-init : goal.paths-init
 paths-init c = (omega arith, omega arith, refl, refl)
@@ -83,12 +84,20 @@ returns c =
     let m = meet a.starts.now a.ends.now in
     rw c.in-Passed.is
     (c.unless_fault.ensures
-    ∙ ⊎_elim
-    (λ w.
-    ap (λ (f : Fault). unless_fault 24 c.paths.p f) (w.1 ∙ c.paths.invariant.2)
-    ∙ sym (no_path_left 24 (first_break m 0) a.listed.now a.lengths.now c.paths.p c.paths.from w.0.left))
-    (λ w.
-    ap (λ (f : Fault). unless_fault 24 c.paths.p f) w.9
-    ∙ sym (hit (record { before = record { before = record { before = record { before = record { before = record { before = record { before = record { before = record { before = c; paths-test = w.0 }; shared-slice-known5 = w.1 }; path-end = w.2 }; path = w.3 }; loop = w.4 }; loop-test = w.5 }; join-test = w.6 }; match2 = w.7 }; enum-told4 = w.8 })))
-    c.paths-test.branch
+    ∙ elim c.paths-test.branch [
+      | else-paths-test w ↦
+          ap (λ (f : Fault). unless_fault 24 c.paths.p f) (w.found-is ∙ c.paths.invariant.2)
+          ∙ sym (no_path_left 24 (first_break m 0) a.listed.now a.lengths.now c.paths.p c.paths.from w.paths-test.false)
+      | then-paths-test+then-loop-i-test+in_default-found w ↦
+          -- where the search stops, what was found is the verdict on all that is left
+          let path = take (w.path_end-to.result - c.paths.from) (drop c.paths.from a.listed.now) in
+          let d = w.in_default-found in
+          ap (λ (f : Fault). unless_fault 24 c.paths.p f) w.found-is
+          ∙ sym (
+          fault_path 24 (first_break m 0) a.listed.now a.lengths.now c.paths.p c.paths.from w.path_end-to.result w.paths-test.true c.paths.invariant.1 w.path_end-to.ensures
+          w.join_test-found.result
+          (d.is ∙ sym (break_of_front m 0 (w.loop-i.i + 1) _ path (sym w.join_test-found.ensures ∙ d.is)))
+          d.is
+          )
+    ]
     ∙ c.paths.invariant.3)
