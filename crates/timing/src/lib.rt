@@ -25,7 +25,7 @@ pub const WORDS_PER_UNIT: usize = 8;
 
 // A refusal: its number in documents 01 and 02, and the place of the fault. Where the place is a path (22 to 24), `index`
 // is a second one: that of an edge within the path, or 0 where the path is empty. Else it is 0.
-#[derive(Drop)]
+#[derive(Clone, Copy)]
 pub struct Refusal {
     pub number: u32,
     pub place: usize,
@@ -71,21 +71,21 @@ pub struct Taken {
 }
 
 // How far a look at bytes gets: the place behind what it looked at.
-#[derive(Drop)]
+#[derive(Clone, Copy)]
 pub enum Looked {
     At(usize),
     Refused(Refusal),
 }
 
 // What a writer answers: the place behind the last byte that it wrote.
-#[derive(Drop)]
+#[derive(Clone, Copy)]
 pub enum Written {
     End(usize),
     Refused(Refusal),
 }
 
 // What the deck reader answers: n, how many places of each table it filled, and T.
-#[derive(Drop)]
+#[derive(Clone, Copy)]
 pub enum DeckRead {
     Deck {
         nodes: u32,
@@ -99,7 +99,7 @@ pub enum DeckRead {
 }
 
 // What a removal, the call that tells its size and the reader of a packed true graph answer.
-#[derive(Drop)]
+#[derive(Clone, Copy)]
 pub enum GraphMade {
     Counts { copies: usize, edges: usize },
     Refused(Refusal),
