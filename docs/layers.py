@@ -25,7 +25,7 @@ def read_crates():
     """The crates of the repository, each with those of the repository that it is built on."""
     crates = {}
     for line in (TOP / "crates.txt").read_text().splitlines():
-        match = re.match(r"\s*(\w+)\s*:(.*)", line.split("#")[0])
+        match = re.match(r"\s*(\w+)[^:]*:(.*)", line.split("#")[0])
         if match:
             crates[match[1]] = match[2].split()
     return {name: [below for below in names if below in crates] for name, names in crates.items()}

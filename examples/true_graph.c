@@ -4,7 +4,7 @@
  * in the same way; a hold check, by jaqhweni_times; the slack at an observed pin, with and without the logic behind it; and last, by
  * jaqhweni_late, whether any path takes too long.
  *
- *     cc -std=c11 -Wall -Wextra -Werror -I include examples/true_graph.c target/staticlib/libjaqhweni.a -o true_graph && ./true_graph
+ *     cc -std=c11 -Wall -Wextra -Werror -I include examples/true_graph.c crates/jaqhweni/out/libjaqhweni.a -o true_graph && ./true_graph
  *
  * Two sources, 0 and 1, meet in node 2, from which edges lead to the sinks 3 and 4. The path 1, 2, 3 (edges 1 and 2) can never be
  * exercised. So node 2 gets two copies: one that only source 0 leads to and that goes on to node 3, and one for node 4. Node 2 is also an

@@ -1,8 +1,8 @@
 #!/usr/bin/env python3
 """The deck program and the C calls against tests/walker.py, byte for byte, on generated decks, designs and series.
 
-    python3 tests/against_walker.py              target/bin/deck_program and target/staticlib/libjaqhweni.a; about a minute, and at most
-                                                 two unless the least count of random cases (LEAST) takes longer
+    python3 tests/against_walker.py              crates/deck_program/out/deck_program and crates/jaqhweni/out/libjaqhweni.a; about a
+                                                 minute, and at most two unless the least count of random cases (LEAST) takes longer
     python3 tests/against_walker.py --long       ten times as many random cases, from other seeds, and no bound on time
     python3 tests/against_walker.py --stand-in   the reference program of bench/ in place of the library and the deck program
     python3 tests/against_walker.py --try-faults stand-ins with an error put in on purpose, one by one: each must be found
@@ -38,8 +38,8 @@ from walker import Graph, PathList, Room
 
 HERE = pathlib.Path(__file__).resolve().parent.parent
 BUILT = HERE / "target" / "against_walker"
-LIBRARY = HERE / "target" / "staticlib" / "libjaqhweni.a"
-PROGRAM = HERE / "target" / "bin" / "deck_program"
+LIBRARY = HERE / "crates" / "jaqhweni" / "out" / "libjaqhweni.a"
+PROGRAM = HERE / "crates" / "deck_program" / "out" / "deck_program"
 (TRUE_GRAPH, REMOVE_FROM_DESIGN, REMOVE_FROM_GRAPH, TIMES, WRITE_GRAPH, SIZE_FROM_DESIGN, SIZE_FROM_GRAPH, FILL_FROM_DESIGN,
  FILL_FROM_GRAPH, LATE) = range(10)
 PARTS = ["decks", "fixed", "random"]

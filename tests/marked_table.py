@@ -1,7 +1,7 @@
 #!/usr/bin/env python3
 """The table of marked cases, crates/timing/proofs/Marked.antt, with every result from walker.py.
 
-python3 tests/marked_table.py           writes the file (then: rt fmt)
+python3 tests/marked_table.py           writes the file (then: rt fmt in crates/timing)
 python3 tests/marked_table.py --check   says whether the file is what it would write, up to layout
 
 The rows are facts about the definitions of crates/timing/specs, which the proof computes. So a row that the walker and
@@ -63,40 +63,40 @@ MANY_EMPTY = w.PathList([0] * 1025, [])
 
 # What has a name in the table: the name, what it is, and the comment there.
 NAMES = [
-    ("deckA", A, "Deck A: its design, its list, its true graph and its bytes with T 10."),
-    ("listA", LIST_A, None),
-    ("graphA", GRAPH_A, None),
-    ("bytesA", w.write_deck(w.Deck(A, LIST_A, 10), 65536), None),
-    ("noPaths", NONE, "The other designs, lists and graphs that rows are about."),
-    ("noNodes", NO_NODES, None),
-    ("oneNode", ONE_NODE, None),
+    ("deck_a", A, "Deck A: its design, its list, its true graph and its bytes with T 10."),
+    ("list_a", LIST_A, None),
+    ("graph_a", GRAPH_A, None),
+    ("bytes_a", w.write_deck(w.Deck(A, LIST_A, 10), 65536), None),
+    ("no_paths", NONE, "The other designs, lists and graphs that rows are about."),
+    ("no_nodes", NO_NODES, None),
+    ("one_node", ONE_NODE, None),
     ("chain", CHAIN, None),
-    ("designM8", M8, None),
-    ("listM8", M8_LIST, None),
-    ("designM9", M9, None),
+    ("design_m8", M8, None),
+    ("list_m8", M8_LIST, None),
+    ("design_m9", M9, None),
     ("parallel", PARALLEL, "two edges for each step of a chain"),
-    ("twoLengths", TWO_LENGTHS, "two ways from node 2 to node 4, by one edge and by two"),
+    ("two_lengths", TWO_LENGTHS, "two ways from node 2 to node 4, by one edge and by two"),
     ("isolated", ISOLATED, "node 1 has no edge"),
     ("forked", FORKED, None),
-    ("splitSource", SPLIT_SOURCE, "of it: two copies of the source; and the same with its first two edges exchanged"),
-    ("outOfOrder", OUT_OF_ORDER, None),
+    ("split_source", SPLIT_SOURCE, "of it: two copies of the source; and the same with its first two edges exchanged"),
+    ("out_of_order", OUT_OF_ORDER, None),
     ("falling", FALLING, "edge 0 falls; and with it an edge to a node that is not there"),
-    ("fallingAndUnknown", FALLING_AND_UNKNOWN, None),
+    ("falling_and_unknown", FALLING_AND_UNKNOWN, None),
     ("joined", JOINED, "into node 3 the latest edge, the one of the smallest late delay, and the earliest"),
     ("hold", HOLD, "decks/hold.txt"),
-    ("listHold", HOLD_LIST, None),
-    ("earlyAbove", EARLY_ABOVE, "15 at edge 0; at edge 1, with delays below 0; at edge 0, with 14 and with 13 at edge 1"),
-    ("earlyAboveBelowZero", EARLY_ABOVE_BELOW_ZERO, None),
-    ("earlyAboveAndFar", EARLY_ABOVE_AND_FAR, None),
-    ("earlyAboveAndFalling", EARLY_ABOVE_AND_FALLING, None),
+    ("list_hold", HOLD_LIST, None),
+    ("early_above", EARLY_ABOVE, "15 at edge 0; at edge 1, with delays below 0; at edge 0, with 14 and with 13 at edge 1"),
+    ("early_above_below_zero", EARLY_ABOVE_BELOW_ZERO, None),
+    ("early_above_and_far", EARLY_ABOVE_AND_FAR, None),
+    ("early_above_and_falling", EARLY_ABOVE_AND_FALLING, None),
     ("ample", AMPLE, "the deck program's room"),
     ("observed", OBSERVED, "deck A with node 2 marked, and its true graph; with edge 3's delays -1; and without the edges out of node 2"),
-    ("observedGraph", OBSERVED_GRAPH, None),
-    ("observedBack", OBSERVED_BACK, None),
-    ("observedAlone", OBSERVED_ALONE, None),
-    ("observedSource", OBSERVED_SOURCE, "chain with its source marked"),
-    ("back", BACK, "observedBack with nothing marked, and its true graph without edge 2"),
-    ("backGraph", BACK_GRAPH, None),
+    ("observed_graph", OBSERVED_GRAPH, None),
+    ("observed_back", OBSERVED_BACK, None),
+    ("observed_alone", OBSERVED_ALONE, None),
+    ("observed_source", OBSERVED_SOURCE, "chain with its source marked"),
+    ("back", BACK, "observed_back with nothing marked, and its true graph without edge 2"),
+    ("back_graph", BACK_GRAPH, None),
     ("quick", QUICK, "an early delay far below the late one"),
 ]
 
@@ -299,7 +299,7 @@ def written_out(x):
         return applied("design", str(x.nodes), numbers(x.starts), numbers(x.ends), *delays, numbers(x.marked))
     if isinstance(x, w.PathList):
         many_empty = len(x.lengths) > 100 and not any(x.lengths)
-        return applied("pathList", numbers(x.flat), "zeros %d" % len(x.lengths) if many_empty else numbers(x.lengths))
+        return applied("path_list", numbers(x.flat), "zeros %d" % len(x.lengths) if many_empty else numbers(x.lengths))
     if isinstance(x, w.Graph):
         edges = items("edge %d %d %d" % e for e in zip(x.starts, x.ends, x.design_edges))
         return applied("graph", numbers(x.copy_nodes), numbers(x.endpoints), edges)
@@ -326,7 +326,7 @@ def removal_text(l, room, words):
 
 def refusal_text(refusal):
     """One place, or two."""
-    return applied("refusal" if len(refusal) == 2 else "refusalWithin", *map(str, refusal))
+    return applied("refusal" if len(refusal) == 2 else "refusal_within", *map(str, refusal))
 
 
 def outcome_text(call):
@@ -386,7 +386,7 @@ def fact(kind, *given):
     """The words of a fact: its constructor, and then its arguments."""
     if kind == "graph":
         d, lists = given
-        return "graphIs", named(d), items(map(named, lists)), named(after(d, lists))
+        return "graph_is", named(d), items(map(named, lists)), named(after(d, lists))
     if kind in ("times", "nodes"):
         d, t, lists = given
         held = after(d, lists)
@@ -394,61 +394,61 @@ def fact(kind, *given):
         if kind == "nodes":
             columns = [[x[i] for x in rows] for i in range(4)]
             rows = [w.node_record(d.nodes, held.copy_nodes, *columns, v) for v in range(d.nodes + 1)]
-        return kind + "Are", named(d), str(t), items(map(named, lists)), items(map(named, rows))
+        return kind + "_are", named(d), str(t), items(map(named, lists)), items(map(named, rows))
     if kind in ("deck", "program"):
         data = deck_bytes(*given) if kind == "deck" else given[0]
-        return "programIs", named(data), outcome_text(lambda: w.deck_and_graph(data)[1])
+        return "program_is", named(data), outcome_text(lambda: w.deck_and_graph(data)[1])
     if kind in ("c", "c room"):
         data, room = deck_bytes(*given[:3]), given[3]
         number, result = w.c_call(data, room)
         if kind == "c":
-            return "cCallIs", named(data), str(room), integer(number)
-        return "cRoomIs", named(data), str(room), numbers(result, "zeros %d" % (room - len(result)))
+            return "c_call_is", named(data), str(room), integer(number)
+        return "c_room_is", named(data), str(room), numbers(result, "zeros %d" % (room - len(result)))
     if kind == "packed":
-        return "packedIs", str(given[0]), numbers(w.write_number(given[0]))
+        return "packed_is", str(given[0]), numbers(w.write_number(given[0]))
     if kind == "read":
-        return "readIs", named(given[0]), read_text(given[0])
+        return "read_is", named(given[0]), read_text(given[0])
     if kind == "removal":
         d, l, room, words = given
         outcome = outcome_text(lambda: w.removal(d, l, None, words, room))
-        return "removalIs", named(d), removal_text(l, room, words), outcome
+        return "removal_is", named(d), removal_text(l, room, words), outcome
     if kind == "again":
         d, g, l, room, words = given
         outcome = outcome_text(lambda: w.removal(d, l, g, words, room))
-        return "againIs", named(d), named(g), removal_text(l, room, words), outcome
+        return "again_is", named(d), named(g), removal_text(l, room, words), outcome
     if kind == "size":
         d, l, words = given
-        return "sizeIs", named(d), named(l), str(words), counts_text(lambda: w.size(d, l, None, words))
+        return "size_is", named(d), named(l), str(words), counts_text(lambda: w.size(d, l, None, words))
     if kind == "size again":
         d, g, l, words = given
-        return "sizeAgainIs", named(d), named(g), named(l), str(words), counts_text(lambda: w.size(d, l, g, words))
+        return "size_again_is", named(d), named(g), named(l), str(words), counts_text(lambda: w.size(d, l, g, words))
     if kind == "late":
         d, g, t, length = given
         call = lambda: w.late(d, g, t, length)
-        return "lateIs", named(d), named(g), str(t), str(length), lateness_text(call), items(map(integer, arrivals_after(call, length)))
+        return "late_is", named(d), named(g), str(t), str(length), lateness_text(call), items(map(integer, arrivals_after(call, length)))
     if kind in ("reader", "bytes"):
         data, lent = (deck_bytes(*given[:3]), given[3]) if kind == "reader" else given
-        return "readerAnswers", named(data), numbers(lent), verdict_text(lambda: w.read_deck(data, w.Tables(*lent)))
+        return "reader_answers", named(data), numbers(lent), verdict_text(lambda: w.read_deck(data, w.Tables(*lent)))
     if kind == "deck tests":
         d, l, t = given
-        return "deckWriterAnswers", named(d), named(l), str(t), verdict_text(lambda: w.write_deck(w.Deck(d, l, t), 65536))
+        return "deck_writer_answers", named(d), named(l), str(t), verdict_text(lambda: w.write_deck(w.Deck(d, l, t), 65536))
     if kind == "packed deck":
         d, l, t = given
-        return "packedDeckIs", named(d), named(l), str(t), numbers(deck_bytes(d, l, t))
+        return "packed_deck_is", named(d), named(l), str(t), numbers(deck_bytes(d, l, t))
     if kind == "graph bytes":
         data, room = given
-        return "graphReadIs", named(data), named(room), outcome_text(lambda: w.read_graph(data, room))
+        return "graph_read_is", named(data), named(room), outcome_text(lambda: w.read_graph(data, room))
     if kind == "graph tests":
         g = given[0]
-        return "graphWriterAnswers", applied("graphSlices", *map(numbers, g)), verdict_text(lambda: w.write_graph(g, 65536))
+        return "graph_writer_answers", applied("graph_slices", *map(numbers, g)), verdict_text(lambda: w.write_graph(g, 65536))
     if kind == "times tests":
         d, g, t, lent = given
-        return "timesAnswer", named(d), named(g), str(t), numbers(lent), verdict_text(lambda: w.times(d, g, t, lent))
+        return "times_answer", named(d), named(g), str(t), numbers(lent), verdict_text(lambda: w.times(d, g, t, lent))
     if kind == "records tests":
         n, g, lent, places = given
         columns = [[0] * length for length in lent]
         verdict = verdict_text(lambda: w.node_records(n, g.copy_nodes, *columns, places))
-        return "recordsAnswer", str(n), named(g), numbers(lent), numbers(places), verdict
+        return "records_answer", str(n), named(g), numbers(lent), numbers(places), verdict
     raise ValueError(kind)
 
 
@@ -477,63 +477,63 @@ HEADER = """-- The marked cases of document 01, M1 to M10, and rows that shut ou
 -- is the walker's. "Deck A and the marked cases take early equal to late" (02, request 1). *Marked* cases are document 01's word; marked nodes
 -- are those of 02, request 6.
 use Prim.Native.Nat.{ℕ, suc}
-use mathlib.Core.Path.{_≡_, refl}
-use mathlib.Core.List.{List, [], _∷_, map, flatMap}
+use mathlib.Core.Path.{◌≡◌, refl}
+use mathlib.Core.List.{List, [], ◌∷◌, map, flat_map}
 use lib.IntN.{ℤ, pos, negsuc}
-use lib.ListN.{length, getD}
-use Rattle·timing·specs.specs.declared.Verdict.{Verdict}
-use Rattle·timing·specs.specs.declared.Verdict.the-variants.{Passed, Refused}
-use Rattle·timing·specs.specs.declared.NumberRead.{NumberRead}
-use Rattle·timing·specs.specs.declared.NumberRead.the-variants.{Refused as NotRead}
-use Rattle·timing·specs.specs.declared.NodeTimes.{NodeTimes}
-use Rattle·timing·specs.specs.declared.NodeTimes.the-variants.{Times, None}
-use Rattle·timing·specs.specs.declared.GraphMade.{GraphMade}
-use Rattle·timing·specs.specs.declared.GraphMade.the-variants.{Counts, Refused as NotMade}
-use Rattle·timing·specs.specs.declared.Lateness.{Lateness}
-use Rattle·timing·specs.specs.declared.Lateness.the-variants.{Late, OnTime, Refused as NotTimed}
-use Rattle·timing·specs.specs.Lists.{upto}
-use Rattle·timing·specs.specs.Graphs.{Design, design, edge, Graph, graph, designGraph, edgesIn, edgesOut}
-use Rattle·timing·specs.specs.Graphs.{runsTo, runsFrom, completeRuns}
-use Rattle·timing·specs.specs.Marks.{PathList, pathList, pathsOf, permitted, tails, mark}
-use Rattle·timing·specs.specs.TrueGraphs.{permittedRuns, copies, pathEnds, joins, trueGraph}
-use Rattle·timing·specs.specs.WellFormed.{wellFormed}
-use Rattle·timing·specs.specs.Times.{arrivalAt, requiredAt, slackAt, earliestAt, lateCopies, nodeTimes}
-use Rattle·timing·specs.specs.Numbers.{packedIn, packed, groupsIn, readNumber, writeAnswer, writtenRoom}
-use Rattle·timing·specs.specs.Decks.{Deck, deckNumbers, packedDeck, readDeck}
-use Rattle·timing·specs.specs.GraphBytes.{graphNumbers, packedGraph, readGraph}
-use Rattle·timing·specs.specs.Refusals.{refusal, refusalWithin}
-use Rattle·timing·specs.specs.Tests.{Room, designTests, listTests, candidates, scratchTest, roomTests}
-use Rattle·timing·specs.specs.Calls.{GraphSlices, graphSlices, slicesOf, Outcome, made, refused, Removal, removal, testDeck}
-use Rattle·timing·specs.specs.Calls.{testTimes, arrivalsAfter, requiredsAfter, slacksAfter, earliestsAfter, testLate, lateOrNot, arrivalsAfterLate, testRecords, deckRead}
-use Rattle·timing·specs.specs.Calls.{removeFromDesign, removeFromGraph, programRemoval, program, cCall, cRoom}
-use Rattle·timing·specs.specs.Calls.{deckWriteTests, graphWriteTests, graphRead, sizeFromDesign, sizeFromGraph, graphAnswer}
+use lib.ListN.{length, get_or}
+use Rattle.timing.specs.declared.Verdict.{Verdict}
+use Rattle.timing.specs.declared.Verdict.TheVariants.{Passed, Refused}
+use Rattle.timing.specs.declared.NumberRead.{NumberRead}
+use Rattle.timing.specs.declared.NumberRead.TheVariants.{Refused as NotRead}
+use Rattle.timing.specs.declared.NodeTimes.{NodeTimes}
+use Rattle.timing.specs.declared.NodeTimes.TheVariants.{Times, None}
+use Rattle.timing.specs.declared.GraphMade.{GraphMade}
+use Rattle.timing.specs.declared.GraphMade.TheVariants.{Counts, Refused as NotMade}
+use Rattle.timing.specs.declared.Lateness.{Lateness}
+use Rattle.timing.specs.declared.Lateness.TheVariants.{Late, OnTime, Refused as NotTimed}
+use Rattle.timing.specs.Lists.{upto}
+use Rattle.timing.specs.Graphs.{Design, design, edge, Graph, graph, design_graph, edges_in, edges_out}
+use Rattle.timing.specs.Graphs.{runs_to, runs_from, complete_runs}
+use Rattle.timing.specs.Marks.{PathList, path_list, paths_of, permitted, tails, mark}
+use Rattle.timing.specs.TrueGraphs.{permitted_runs, copies, path_ends, joins, true_graph}
+use Rattle.timing.specs.WellFormed.{well_formed}
+use Rattle.timing.specs.Times.{arrival_at, required_at, slack_at, earliest_at, late_copies, node_times}
+use Rattle.timing.specs.Numbers.{packed_in, packed, groups_in, read_number, write_answer, written_room}
+use Rattle.timing.specs.Decks.{Deck, deck_numbers, packed_deck, read_deck}
+use Rattle.timing.specs.GraphBytes.{graph_numbers, packed_graph, read_graph}
+use Rattle.timing.specs.Refusals.{refusal, refusal_within}
+use Rattle.timing.specs.Tests.{Room, design_tests, list_tests, candidates, scratch_test, room_tests}
+use Rattle.timing.specs.Calls.{GraphSlices, graph_slices, slices_of, Outcome, made, refused, Removal, removal, test_deck}
+use Rattle.timing.specs.Calls.{test_times, arrivals_after, requireds_after, slacks_after, earliests_after, test_late, late_or_not, arrivals_after_late, test_records, deck_read}
+use Rattle.timing.specs.Calls.{remove_from_design, remove_from_graph, program_removal, program, c_call, c_room}
+use Rattle.timing.specs.Calls.{deck_write_tests, graph_write_tests, graph_read, size_from_design, size_from_graph, graph_answer}
 
 -- the graph after some lists are removed in turn
 abbrev pub removed : Graph → List PathList → Graph
 removed G [] = G
-removed G (L ∷ Ls) = removed (trueGraph G (pathsOf L)) Ls
+removed G (L ∷ Ls) = removed (true_graph G (paths_of L)) Ls
 
 pub data Fact : Type 0 where
-  graphIs : Design → List PathList → Graph → Fact
-  timesAre : Design → ℕ → List PathList → List NodeTimes → Fact
-  nodesAre : Design → ℕ → List PathList → List NodeTimes → Fact
-  removalIs : Design → Removal → Outcome Graph → Fact
-  againIs : Design → Graph → Removal → Outcome Graph → Fact
-  programIs : List ℕ → Outcome Graph → Fact
-  cCallIs : List ℕ → ℕ → ℤ → Fact
-  cRoomIs : List ℕ → ℕ → List ℕ → Fact
-  packedIs : ℕ → List ℕ → Fact
-  readIs : List ℕ → NumberRead → Fact
-  readerAnswers : List ℕ → List ℕ → Verdict → Fact
-  timesAnswer : Design → Graph → ℕ → List ℕ → Verdict → Fact
-  recordsAnswer : ℕ → Graph → List ℕ → List ℕ → Verdict → Fact
-  packedDeckIs : Design → PathList → ℕ → List ℕ → Fact
-  deckWriterAnswers : Design → PathList → ℕ → Verdict → Fact
-  graphReadIs : List ℕ → Room → Outcome Graph → Fact
-  graphWriterAnswers : GraphSlices → Verdict → Fact
-  sizeIs : Design → PathList → ℕ → GraphMade → Fact
-  sizeAgainIs : Design → Graph → PathList → ℕ → GraphMade → Fact
-  lateIs : Design → Graph → ℕ → ℕ → Lateness → List ℤ → Fact
+  graph_is : Design → List PathList → Graph → Fact
+  times_are : Design → ℕ → List PathList → List NodeTimes → Fact
+  nodes_are : Design → ℕ → List PathList → List NodeTimes → Fact
+  removal_is : Design → Removal → Outcome Graph → Fact
+  again_is : Design → Graph → Removal → Outcome Graph → Fact
+  program_is : List ℕ → Outcome Graph → Fact
+  c_call_is : List ℕ → ℕ → ℤ → Fact
+  c_room_is : List ℕ → ℕ → List ℕ → Fact
+  packed_is : ℕ → List ℕ → Fact
+  read_is : List ℕ → NumberRead → Fact
+  reader_answers : List ℕ → List ℕ → Verdict → Fact
+  times_answer : Design → Graph → ℕ → List ℕ → Verdict → Fact
+  records_answer : ℕ → Graph → List ℕ → List ℕ → Verdict → Fact
+  packed_deck_is : Design → PathList → ℕ → List ℕ → Fact
+  deck_writer_answers : Design → PathList → ℕ → Verdict → Fact
+  graph_read_is : List ℕ → Room → Outcome Graph → Fact
+  graph_writer_answers : GraphSlices → Verdict → Fact
+  size_is : Design → PathList → ℕ → GraphMade → Fact
+  size_again_is : Design → Graph → PathList → ℕ → GraphMade → Fact
+  late_is : Design → Graph → ℕ → ℕ → Lateness → List ℤ → Fact
 
 abbrev pub zeros : ℕ → List ℕ
 zeros n = map (λ i. 0) (upto n 0)
@@ -546,76 +546,76 @@ abbrev deck : Design → PathList → ℕ → Deck
 deck D L T = record { design = D; list = L; allowed = T }
 
 -- f of the four slices that `times` fills for the copies of R
-abbrev ofTimes : {A : Type 0} → Design → ℕ → Graph → (List ℤ → List ℤ → List ℤ → List ℤ → A) → A
-ofTimes D T R f =
-    let S = slicesOf R in
-    f (arrivalsAfter D S T Passed []) (requiredsAfter D S T Passed []) (slacksAfter D S T Passed [])
-    (earliestsAfter D S Passed [])
+abbrev of_times : {A : Type 0} → Design → ℕ → Graph → (List ℤ → List ℤ → List ℤ → List ℤ → A) → A
+of_times D T R f =
+    let S = slices_of R in
+    f (arrivals_after D S T Passed []) (requireds_after D S T Passed []) (slacks_after D S T Passed [])
+    (earliests_after D S Passed [])
 
-abbrev copyTimes : List ℤ → List ℤ → List ℤ → List ℤ → ℕ → NodeTimes
-copyTimes arrivals requireds slacks earliests c =
-    let at : List ℤ → ℤ = λ ts. getD ts c (pos 0) in
+abbrev copy_times : List ℤ → List ℤ → List ℤ → List ℤ → ℕ → NodeTimes
+copy_times arrivals requireds slacks earliests c =
+    let at : List ℤ → ℤ = λ ts. get_or ts c (pos 0) in
     Times (at arrivals) (at requireds) (at slacks) (at earliests)
 
 -- the k-th of some lent lengths, and a slice of times of that length
 abbrev lent : List ℕ → ℕ → ℕ
-lent ls k = getD ls k 0
+lent ls k = get_or ls k 0
 
 abbrev slice : List ℕ → ℕ → List ℤ
 slice ls k = map (λ i. pos 0) (upto (lent ls k) 0)
 
-abbrev verdictIn : Outcome Deck → Verdict
-verdictIn (made d) = Passed
-verdictIn (refused r) = Refused r
+abbrev verdict_in : Outcome Deck → Verdict
+verdict_in (made d) = Passed
+verdict_in (refused r) = Refused r
 
 abbrev pub Holds : Fact → Type 0
-Holds (graphIs D Ls R) = removed (designGraph D) Ls ≡ R
-Holds (timesAre D T Ls ts) =
-    let R : Graph = removed (designGraph D) Ls in
-    map (ofTimes D T R copyTimes) (upto (length (R .nodes)) 0) ≡ ts
-Holds (nodesAre D T Ls ts) =
-    let R : Graph = removed (designGraph D) Ls in
-    map (ofTimes D T R (nodeTimes (D .nodes) (R .nodes))) (upto (suc (D .nodes)) 0) ≡ ts
-Holds (removalIs D r o) = removeFromDesign D r ≡ o
-Holds (againIs D G r o) = removeFromGraph D (slicesOf G) r ≡ o
-Holds (programIs s o) = program s ≡ o
-Holds (cCallIs s n z) = cCall s (zeros n) ≡ z
-Holds (cRoomIs s n bs) = cRoom s (zeros n) ≡ bs
-Holds (packedIs x bs) = packed x ≡ bs
-Holds (readIs bs r) = readNumber bs 0 ≡ r
-Holds (readerAnswers s ls v) =
-    verdictIn (deckRead s (lent ls 0) (lent ls 1) (lent ls 2) (lent ls 3) (lent ls 4) (lent ls 5) (lent ls 6)) ≡ v
-Holds (timesAnswer D G T ls v) = testTimes D (slicesOf G) T (lent ls 0) (lent ls 1) (lent ls 2) (lent ls 3) ≡ v
-Holds (recordsAnswer n G ls ps v) =
-    testRecords n (G .nodes) (slice ls 0) (slice ls 1) (slice ls 2) (slice ls 3)
+Holds (graph_is D Ls R) = removed (design_graph D) Ls ≡ R
+Holds (times_are D T Ls ts) =
+    let R : Graph = removed (design_graph D) Ls in
+    map (of_times D T R copy_times) (upto (length R.nodes) 0) ≡ ts
+Holds (nodes_are D T Ls ts) =
+    let R : Graph = removed (design_graph D) Ls in
+    map (of_times D T R (node_times D.nodes R.nodes)) (upto (suc D.nodes) 0) ≡ ts
+Holds (removal_is D r o) = remove_from_design D r ≡ o
+Holds (again_is D G r o) = remove_from_graph D (slices_of G) r ≡ o
+Holds (program_is s o) = program s ≡ o
+Holds (c_call_is s n z) = c_call s (zeros n) ≡ z
+Holds (c_room_is s n bs) = c_room s (zeros n) ≡ bs
+Holds (packed_is x bs) = packed x ≡ bs
+Holds (read_is bs r) = read_number bs 0 ≡ r
+Holds (reader_answers s ls v) =
+    verdict_in (deck_read s (lent ls 0) (lent ls 1) (lent ls 2) (lent ls 3) (lent ls 4) (lent ls 5) (lent ls 6)) ≡ v
+Holds (times_answer D G T ls v) = test_times D (slices_of G) T (lent ls 0) (lent ls 1) (lent ls 2) (lent ls 3) ≡ v
+Holds (records_answer n G ls ps v) =
+    test_records n G.nodes (slice ls 0) (slice ls 1) (slice ls 2) (slice ls 3)
     (lent ps 0) (lent ps 1) (lent ps 2) (lent ps 3) (lent ps 4) ≡ v
-Holds (packedDeckIs D L T bs) = packedDeck (deck D L T) ≡ bs
-Holds (deckWriterAnswers D L T v) = deckWriteTests (deck D L T) ≡ v
-Holds (graphReadIs s R o) = graphRead s R ≡ o
-Holds (graphWriterAnswers S v) = graphWriteTests S ≡ v
-Holds (sizeIs D L words a) = graphAnswer (sizeFromDesign D L words) ≡ a
-Holds (sizeAgainIs D G L words a) = graphAnswer (sizeFromGraph D (slicesOf G) L words) ≡ a
-Holds (lateIs D G T n a ts) =
-    let S = slicesOf G in
-    let answer = lateOrNot D S T n in
-    _≡_ {A = (x : Lateness) × List ℤ} (answer, arrivalsAfterLate D S T answer (map (λ i. pos 77) (upto n 0))) (a, ts)
+Holds (packed_deck_is D L T bs) = packed_deck (deck D L T) ≡ bs
+Holds (deck_writer_answers D L T v) = deck_write_tests (deck D L T) ≡ v
+Holds (graph_read_is s R o) = graph_read s R ≡ o
+Holds (graph_writer_answers S v) = graph_write_tests S ≡ v
+Holds (size_is D L words a) = graph_answer (size_from_design D L words) ≡ a
+Holds (size_again_is D G L words a) = graph_answer (size_from_graph D (slices_of G) L words) ≡ a
+Holds (late_is D G T n a ts) =
+    let S = slices_of G in
+    let answer = late_or_not D S T n in
+    ◌≡◌ {A = (x : Lateness) × List ℤ} (answer, arrivals_after_late D S T answer (map (λ i. pos 77) (upto n 0))) (a, ts)
 
-infixr 4 _also_
+infixr 4 ◌also◌
 pub data All : List Fact → Type 0 where
   none : All []
-  _also_ : {f : Fact} {fs : List Fact} → Holds f → All fs → All (f ∷ fs)
+  ◌also◌ : {f : Fact} {fs : List Fact} → Holds f → All fs → All (f ∷ fs)
 
 """
 
 
-# What marked-hold computes through.
+# What marked_hold computes through.
 UNFOLDING = [
-    "flatMap designGraph edgesIn edgesOut runsTo runsFrom completeRuns permitted tails mark permittedRuns copies",
-    "pathEnds joins trueGraph wellFormed arrivalAt requiredAt slackAt earliestAt nodeTimes arrivalsAfter requiredsAfter",
-    "slacksAfter earliestsAfter packedIn groupsIn readNumber writeAnswer writtenRoom readDeck graphNumbers packedGraph",
-    "designTests listTests candidates scratchTest roomTests testDeck removeFromDesign removeFromGraph programRemoval",
-    "program cCall cRoom deckRead testTimes testLate lateCopies lateOrNot arrivalsAfterLate testRecords deckNumbers",
-    "packedDeck deckWriteTests readGraph graphRead graphWriteTests sizeFromDesign sizeFromGraph",
+    "flat_map design_graph edges_in edges_out runs_to runs_from complete_runs permitted tails mark permitted_runs copies",
+    "path_ends joins true_graph well_formed arrival_at required_at slack_at earliest_at node_times arrivals_after requireds_after",
+    "slacks_after earliests_after packed_in groups_in read_number write_answer written_room read_deck graph_numbers packed_graph",
+    "design_tests list_tests candidates scratch_test room_tests test_deck remove_from_design remove_from_graph program_removal",
+    "program c_call c_room deck_read test_times test_late late_copies late_or_not arrivals_after_late test_records deck_numbers",
+    "packed_deck deck_write_tests read_graph graph_read graph_write_tests size_from_design size_from_graph",
 ]
 
 TYPES = {w.Design: "Design", w.PathList: "PathList", w.Graph: "Graph", w.Room: "Room", bytes: "List ℕ"}
@@ -634,10 +634,10 @@ def definition(name, x, comment):
 MARKING = """\
 -- Deck A with some nodes marked, and its true graph with other endpoint numbers.
 abbrev pub marking : List ℕ → Design
-marking marked = design (deckA .nodes) (deckA .starts) (deckA .ends) (deckA .early) (deckA .late) marked
+marking marked = design deck_a.nodes deck_a.starts deck_a.ends deck_a.early deck_a.late marked
 
 abbrev pub ending : List ℕ → Graph
-ending endpoints = graph (graphA .nodes) endpoints (graphA .edges)
+ending endpoints = graph graph_a.nodes endpoints graph_a.edges
 """
 
 
@@ -645,7 +645,7 @@ def table():
     lines, count = [], 0
     for name in NAMES:
         lines += definition(*name)
-        if name[0] == "bytesA":
+        if name[0] == "bytes_a":
             lines += MARKING.splitlines() + [""]
     lines += ["abbrev pub marked : List Fact", "marked ="]
     for comment, facts in ROWS:
@@ -653,9 +653,9 @@ def table():
         for f in facts:
             lines += row("    ∷ " if count else "    ", fact(*f))
             count += 1
-    lines += ["    ∷ []", "", "pub marked-hold : All marked"]
+    lines += ["    ∷ []", "", "pub marked_hold : All marked"]
     lines += ["unfolding " + UNFOLDING[0]] + ["    " + names for names in UNFOLDING[1:]]
-    lines += ["marked-hold ="] + lines_of("refl also " * count + "none", " " * 4, " also ")
+    lines += ["marked_hold ="] + lines_of("refl also " * count + "none", " " * 4, " also ")
     return HEADER + "\n".join(lines) + "\n"
 
 

@@ -5,13 +5,15 @@
 
 FOLDER has decks with what the deck program must print (NAME.deck, NAME.out), calls of the C function from deck to packed graph
 (ccall.tsv) and calls over slices (slices.jsonl); the README.md there says how they are written. All of it is asked of the walker.
-- With --program (target/bin/deck_program) the decks are asked of that deck program; and where it is not refused and lists several paths, a
-  deck again with its list in the other order, of which it must print the same lines (document 02, request 12).
-- With --library (target/staticlib/libjaqhweni.a) the calls are asked of that library, by way of tests/c_runner.c: ccall.tsv and, of
+- With --program (crates/deck_program/out/deck_program) the decks are asked of that deck program; and where it is not refused and lists
+  several paths, a deck again with its list in the other order, of which it must print the same lines (document 02, request 12).
+- With --library (crates/jaqhweni/out/libjaqhweni.a) the calls are asked of that library, by way of tests/c_runner.c: ccall.tsv and, of
   slices.jsonl, removals, the steps of series, sizes, times, late or not and written graphs, with all that was lent.
-- With --cases (target/bin/bytes_cases) the readers and writers are asked of that program; but for the graph's writer they have no C call
-  yet. Its lines must be those that tests/bytes_cases.py makes of the walker's answer, which is itself compared with the vector.
-- With --removals (target/bin/removal_cases) removals, series and sizes are asked of that program, in the same way, by tests/removal_cases.py.
+- With --cases (crates/bytes_cases/out/bytes_cases) the readers and writers are asked of that program; but for the graph's writer they
+  have no C call yet. Its lines must be those that tests/bytes_cases.py makes of the walker's answer, which is itself compared with the
+  vector.
+- With --removals (crates/removal_cases/out/removal_cases) removals, series and sizes are asked of that program, in the same way, by
+  tests/removal_cases.py.
 What is not there yet (kinds of calls), for the walker a deck with more paths than it walks, and what such a program has no room for, is
 skipped and counted. Prints every difference, and how many were compared of each kind; exit status 1 if anything differs.
 """

@@ -18,7 +18,7 @@ import tempfile
 
 HERE = pathlib.Path(__file__).resolve().parent.parent
 BENCH, BUILT = HERE / "bench", HERE / "target" / "worst_cases"
-LIBRARY = HERE / "target" / "staticlib" / "libjaqhweni.a"
+LIBRARY = HERE / "crates" / "jaqhweni" / "out" / "libjaqhweni.a"
 FLAGS = ["-O1", "-std=c11", "-Wall", "-Wextra", "-I", str(HERE / "include"), "-I", str(BENCH)]
 
 # What the error is; what stands in bench/reference.c, just once; what stands there instead.

@@ -22,10 +22,10 @@ rest_of lengths m = sum (map (λ (x : ℕ). x - m) lengths)
 -- a member stands somewhere; and a list repeats nothing where no two places do
 pub mem_at : {A : Type 0} {x : A} (l : List A) (d : A) → Memᴰ x l → (i : ℕ) × (i < length l) × (get_or l i d ≡ x)
 mem_at [] d m = absurd (Memᴰ.not-nil m)
-mem_at (y ∷ l) d m =
+mem_at {x = x} (y ∷ l) d m =
     ⊎_elim
     (λ e. (0, omega arith, sym e))
-    (λ h. let r = mem_at l d h in (suc r.0, omega (arith, r.1), r.2))
+    (λ h. let r = mem_at {x = x} l d h in (suc r.0, omega (arith, r.1), r.2))
     (Memᴰ.cases_cons m)
 
 nodup_at : {A : Type 0} (l : List A) (d : A) → ((i j : ℕ) → i < j → j < length l → get_or l i d ≡ get_or l j d → ⊥) → Nodup l

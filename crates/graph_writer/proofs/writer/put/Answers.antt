@@ -1,0 +1,16 @@
+-- The number fits, so that it is written.
+use Rattle.packed_lists.proofs.Writing.{bytes_one, put_fits, put_never}
+use mathlib.Core.Path.{sym, ◌∙◌}
+use mathlib.Core.List.{[], ◌∷◌}
+use borrow.Author.Rules.{rules}
+use Rattle.graph_writer.proofs.writer.put.Goals as goal
+
+pub returns-in-End : goal.returns-in-End
+returns-in-End c =
+    let a = c.args in
+    put_fits a.room.now a.at (a.x ∷ []) _ (bytes_one a.x) c.requires _ _ (sym c.in-End.is ∙ c.write_number-w.ensures.0) c.write_number-w.ensures.1
+
+pub returns-in-Refused : goal.returns-in-Refused
+returns-in-Refused c =
+    let a = c.args in
+    absurd (put_never a.room.now a.at (a.x ∷ []) _ (bytes_one a.x) c.requires _ (sym c.in-Refused.is ∙ c.write_number-w.ensures.0))

@@ -1,0 +1,12 @@
+-- `write_row` meets its contract. The invariant: the edges of the row before q are written.
+use Prim.Native.Nat.{◌-◌, ◌≤◌}
+use native.Mathlib.Omega.{arith}
+use mathlib.Core.Logic.{⊎_elim}
+use Rattle.removal.proofs.Filling.FlagRows.{RowSoFar, edges_start, edges_whole, edges_kept, edge_skip, edge_room, edge_write}
+use Rattle.removal.proofs.fill.write_row.Given as goal
+
+abbrev pub invariant-loop-q : goal.invariant-loop-q
+invariant-loop-q l = RowSoFar l.l l.scratch l.p0 l.number l.initial.room_from l.initial.room_to l.initial.room_via l.room_from l.room_to l.room_via l.k l.at l.q × (l.p0 ≤ l.q) × (l.q ≤ l.p1)
+
+abbrev pub decreases-loop-q : goal.decreases-loop-q
+decreases-loop-q l = l.p1 - l.q

@@ -1,0 +1,47 @@
+-- Where the tests passed, the passes have what they ask (`passed_ready`); a refusal stores nothing.
+use mathlib.Core.Path.{sym, ◌∙◌, ap}
+use mathlib.Core.List.{List}
+use lib.IntN.{ℤ}
+use Rattle.timing.specs.declared.Verdict.{Verdict}
+use Rattle.timing.specs.declared.Verdict.TheVariants.{Passed}
+use Rattle.timing.specs.Graphs.{design}
+use Rattle.timing.specs.Calls.{graph_slices, test_times, arrivals_after, requireds_after, slacks_after, earliests_after}
+use Rattle.timing.proofs.Verdicts.{times_passed, after_told}
+use Rattle.times.proofs.Passed.{passed_ready}
+use borrow.Author.Rules.{rules}
+use Rattle.times.proofs.copies.times_where.Goals as goal
+
+pub fill_times-requires : goal.fill_times-requires
+unfolding test_times
+fill_times-requires c =
+    let a = c.args in
+    let r = passed_ready (design a.n a.starts.now a.ends.now a.early.now a.late.now a.marked.now) (graph_slices a.nodes.now a.endpoint.now a.from.now a.to.now a.via.now) a.allowed _ (sym c.requires ∙ c.in-Passed.is) in record { fact = (r.late, r.early, r.onward, r.allowed, r.endpoints); fact_2 = times_passed _ _ _ _ _ r.places }
+
+pub returns-in-Passed : goal.returns-in-Passed
+unfolding arrivals_after requireds_after slacks_after earliests_after
+returns-in-Passed c =
+    let a = c.args in
+    let D = (design a.n a.starts.now a.ends.now a.early.now a.late.now a.marked.now) in
+    let S = (graph_slices a.nodes.now a.endpoint.now a.from.now a.to.now a.via.now) in
+    let told = c.in-Passed.is in
+    let f = c.fill_times.ensures in (
+      sym told,
+      after_told (List ℤ) c.fill_times.new.arrivals (λ (v : Verdict). arrivals_after D S a.allowed v a.arrivals.now) Passed a.tested (sym told) f.0,
+      after_told (List ℤ) c.fill_times.new.requireds (λ (v : Verdict). requireds_after D S a.allowed v a.requireds.now) Passed a.tested (sym told) f.1,
+      after_told (List ℤ) c.fill_times.new.slacks (λ (v : Verdict). slacks_after D S a.allowed v a.slacks.now) Passed a.tested (sym told) f.2,
+      after_told (List ℤ) c.fill_times.new.earliests (λ (v : Verdict). earliests_after D S v a.earliests.now) Passed a.tested (sym told) f.3,
+    )
+
+pub returns-in-Refused : goal.returns-in-Refused
+unfolding arrivals_after requireds_after slacks_after earliests_after
+returns-in-Refused c =
+    let a = c.args in
+    let D = (design a.n a.starts.now a.ends.now a.early.now a.late.now a.marked.now) in
+    let S = (graph_slices a.nodes.now a.endpoint.now a.from.now a.to.now a.via.now) in
+    let told = c.in-Refused.is in (
+      sym told,
+      ap (λ (v : Verdict). arrivals_after D S a.allowed v a.arrivals.now) (sym told),
+      ap (λ (v : Verdict). requireds_after D S a.allowed v a.requireds.now) (sym told),
+      ap (λ (v : Verdict). slacks_after D S a.allowed v a.slacks.now) (sym told),
+      ap (λ (v : Verdict). earliests_after D S v a.earliests.now) (sym told),
+    )
