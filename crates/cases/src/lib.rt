@@ -15,7 +15,7 @@ use packed_lists::take_number;
 use timing::Taken;
 
 // How many places of a table a slice took, and the place behind its bytes.
-#[derive(Drop)]
+#[derive(Clone, Copy)]
 pub struct Slice {
     pub len: usize,
     pub next: usize,

@@ -11,7 +11,7 @@ mod looker;
 mod reader;
 
 // n, the count of edges, and the place behind the design.
-#[derive(Drop)]
+#[derive(Clone, Copy)]
 struct DesignRead {
     nodes: u32,
     edges: usize,
@@ -19,7 +19,7 @@ struct DesignRead {
 }
 
 // The count of paths, how many edges they list, and the place behind the list.
-#[derive(Drop)]
+#[derive(Clone, Copy)]
 struct ListRead {
     paths: usize,
     listed: usize,
@@ -27,7 +27,7 @@ struct ListRead {
 }
 
 // The same with the count of marked nodes, and the place behind these.
-#[derive(Drop)]
+#[derive(Clone, Copy)]
 struct ListsRead {
     paths: usize,
     listed: usize,

@@ -12,7 +12,7 @@ use super::{filler, looker};
 use packed_lists::take_number;
 use timing::{DeckRead, Verdict};
 
-#[derive(Drop)]
+#[derive(Clone, Copy)]
 pub(crate) struct DeckReader<'a> {
     pub(crate) bytes: &'a [u8],
     pub(crate) at: usize,

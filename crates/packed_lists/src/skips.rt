@@ -9,7 +9,7 @@ use packed::has_left;
 const BLOCK: usize = 32;
 
 // How many numbers were gone over, and the place behind them.
-#[derive(Drop)]
+#[derive(Clone, Copy)]
 pub(crate) struct Skipped {
     pub(crate) numbers: usize,
     pub(crate) next: usize,

@@ -16,7 +16,7 @@ use sizes::{largest_answer, room_answer, scratch_test};
 use timing::{GraphMade, Refusal, Verdict};
 
 // What a search answers: where the tables stand, with the slots flagged that are reached; or that there is no copy; or 31.
-#[derive(Drop)]
+#[derive(Clone, Copy)]
 enum Searched {
     Found(Layout),
     Nothing,

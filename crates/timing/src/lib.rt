@@ -33,7 +33,7 @@ pub struct Refusal {
 }
 
 // What a test answers.
-#[derive(Drop)]
+#[derive(Clone, Copy)]
 pub enum Verdict {
     Passed,
     Refused(Refusal),
@@ -41,7 +41,7 @@ pub enum Verdict {
 
 // What a test of one path answers: the index within the path of the first edge that fails it (0 where it has
 // none), or that the path passes.
-#[derive(Drop)]
+#[derive(Clone, Copy)]
 pub enum Fault {
     At(usize),
     None,
@@ -49,7 +49,7 @@ pub enum Fault {
 
 // The number that some bytes begin with: its value and how many bytes it takes; the bytes end
 // inside it; or it is not shortest or too large.
-#[derive(Drop)]
+#[derive(Clone, Copy)]
 pub enum Groups {
     Number { value: u32, size: usize },
     Ended,
@@ -57,14 +57,14 @@ pub enum Groups {
 }
 
 // What reading a number at a place answers: its value and the place behind it.
-#[derive(Drop)]
+#[derive(Clone, Copy)]
 pub enum NumberRead {
     Value { value: u32, next: usize },
     Refused(Refusal),
 }
 
 // A number and the place behind it, where it is known to stand there.
-#[derive(Drop)]
+#[derive(Clone, Copy)]
 pub struct Taken {
     pub value: u32,
     pub next: usize,
@@ -106,7 +106,7 @@ pub enum GraphMade {
 }
 
 // "Either its three times or the answer none", and with the times the earliest arrival.
-#[derive(Drop)]
+#[derive(Clone, Copy)]
 pub enum NodeTimes {
     Times {
         arrival: i64,
@@ -117,21 +117,21 @@ pub enum NodeTimes {
     None,
 }
 
-#[derive(Drop)]
+#[derive(Clone, Copy)]
 pub struct NodeRecord {
     pub node: u32,
     pub times: NodeTimes,
 }
 
 // What the call for a node's record answers.
-#[derive(Drop)]
+#[derive(Clone, Copy)]
 pub enum NodeAnswer {
     Record(NodeRecord),
     Refused(Refusal),
 }
 
 // Whether a path takes longer than T: the lowest copy where paths end with an arrival above T, or that nothing is late.
-#[derive(Drop)]
+#[derive(Clone, Copy)]
 pub enum Lateness {
     Late { copy: usize },
     OnTime,

@@ -13,7 +13,10 @@ put-at-requires c =
 pub put_numbers-requires : goal.put_numbers-requires
 put_numbers-requires c =
     let a = c.args in
-    rw c.wide.ensures (c.requires.count_in_bounds, fits_second (a.count ∷ []) (take a.count (drop a.from a.s.now)) c.requires.s_in_bounds c.put-at.ensures)
+    record {
+      count_in_bounds = rw c.wide.ensures c.requires.count_in_bounds;
+      s_in_bounds = rw c.wide.ensures (fits_second (a.count ∷ []) (take a.count (drop a.from a.s.now)) c.requires.s_in_bounds c.put-at.ensures);
+    }
 
 pub returns : goal.returns
 returns c =

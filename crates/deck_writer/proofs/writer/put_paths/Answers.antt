@@ -16,7 +16,6 @@ use Rattle.deck_writer.proofs.writer.put_paths.Goals as goal
 pub loop-k-init : goal.loop-k-init
 loop-k-init c =
     let a = c.args in
-    let p = (c.requires.lengths_value, c.requires.lengths_in_bounds) in
     (omega arith, omega (arith, c.requires.lengths_value), left_all _ _ _ c.requires.lengths_in_bounds)
 
 pub put_counted-at-requires : goal.put_counted-at-requires

@@ -17,7 +17,8 @@ loop-i-init c =
 
 pub fill_copy-here-requires : goal.fill_copy-here-requires
 fill_copy-here-requires c =
-    let p = c.requires in record { filling = omega (arith, c.loop-i.invariant.2.size, p.0); c_lt_copies = omega (arith, c.loop-i.invariant.3.size, p.1) }
+    let p = c.requires in
+    (omega (arith, c.loop-i.invariant.2.size, p.0), omega (arith, c.loop-i.invariant.3.size, p.1))
 
 pub overflow_add-i : goal.overflow_add-i
 overflow_add-i c = omega arith
