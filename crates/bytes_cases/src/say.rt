@@ -16,8 +16,7 @@ pub(crate) const BYTE: u8 = 0xA5;
 // Longer slices are printed by a checksum.
 const LONGEST: usize = 24;
 
-// Large tables and rooms, full of the pattern. Each is made in a function of its own, since a proof
-// writes out all elements of an array that its function makes.
+// Large tables and rooms, full of the pattern.
 pub(crate) fn edge_table() -> [u32; 65600]
     ensures { 65600 ≡ length result }
 {

@@ -87,7 +87,7 @@ fn size_and_say<W: Write>(
     say_told(out, told, scratch)
 }
 
-// In a function of its own, since a proof writes out all elements of an array that its function makes.
+// The longest scratch that is lent.
 fn long_scratch() -> [u32; 300000]
     ensures { 300000 ≡ length result }
 {
