@@ -1,4 +1,3 @@
 -- Laws of the look and of the fill, and steps of the walks by hand.
 pub mod Looking
 pub mod Reading
-mod Walk

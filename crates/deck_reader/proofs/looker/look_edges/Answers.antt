@@ -1,0 +1,18 @@
+-- The count, then the rows.
+use mathlib.Core.Path.{sym, ◌∙◌}
+use Rattle.timing.specs.Parsing.{repeated}
+use Rattle.timing.specs.Decks.{edge_row}
+use Rattle.deck_reader.specs.Reading.{count_in}
+use Rattle.deck_reader.proofs.Looking.{edges_at, number_stop}
+use borrow.Author.Rules.{rules}
+use Rattle.deck_reader.proofs.looker.look_edges.Goals as goal
+
+pub returns-in-Value : goal.returns-in-Value
+returns-in-Value c =
+    let a = c.args in
+    edges_at a.s.now a.edges a.at _ _ _ (sym c.look_count-r.ensures ∙ c.in-Value.is) c.look_rows.ensures
+
+pub returns-in-Refused : goal.returns-in-Refused
+returns-in-Refused c =
+    let a = c.args in
+    number_stop (count_in a.s.now 0 11 16384 a.edges a.at) (λ m. repeated m (edge_row a.s.now)) _ (sym c.look_count-r.ensures ∙ c.in-Refused.is)

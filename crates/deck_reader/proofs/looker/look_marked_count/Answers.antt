@@ -1,0 +1,17 @@
+-- The answer follows from what was read and from the two tests.
+use mathlib.Core.Path.{sym, ◌∙◌}
+use Rattle.deck_reader.proofs.Looking.{marked_is, marked_none}
+use borrow.Author.Rules.{rules}
+use Rattle.deck_reader.proofs.looker.look_marked_count.Goals as goal
+
+pub returns-in-Value : goal.returns-in-Value
+returns-in-Value c =
+    let a = c.args in
+    c.judged.ensures
+    ∙ marked_is a.s.now a.n a.table a.at _ _ c.wide-count.result c.marked_count-v.result c.and_unless-v.result (sym c.read_number-r.ensures ∙ c.in-Value.is)
+    c.wide-count.ensures c.marked_count-v.ensures c.and_unless-v.ensures
+
+pub returns-in-Refused : goal.returns-in-Refused
+returns-in-Refused c =
+    let a = c.args in
+    marked_none a.s.now a.n a.table a.at _ (sym c.read_number-r.ensures ∙ c.in-Refused.is)
