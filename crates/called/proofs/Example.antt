@@ -3,7 +3,8 @@
 use mathlib.Core.Path.{◌≡◌, refl, sym, subst}
 use mathlib.Core.List.{List, [], ◌∷◌, map}
 use mathlib.Core.Option.{Option, none, some}
-use denote.Ref.{Bor}
+use denote.Bor.{Bor}
+use denote.MutBor.{MutBor}
 use lib.ListN.{length}
 use Rattle.timing.specs.Graphs.{Design}
 use Rattle.timing.specs.Marks.{path_list}
@@ -20,14 +21,18 @@ use Rattle.called.proofs.Told.{call_foretells}
 abbrev pub lent : {X : Type 0} → X → Bor X
 lent x = record { ref_ptr = (0, 0); now = x }
 
+-- and one lent to be written to
+abbrev pub lent_mut : {X : Type 0} → X → MutBor X
+lent_mut x = record { ref_ptr = (0, 0); ghost_name = 0; now = x }
+
 pub call_on : (D : Design) (held : Option GraphSlices) (c : Called) → Meets (remove_on D held (removal_of c)) c
     → (k : Call) × (design_of k ≡ D) × (earlier_of k ≡ held) × (called_of k ≡ c)
 call_on D none c m = (
   on_design record {
     lifetimes = ([], ([], ([], ([], ([], ([], ([], ([], ([], ([], ([], ([], ([], tt)))))))))))));
-    passed = (D.nodes, (lent D.starts, (lent D.ends, (lent D.early, (lent D.late, (lent D.marked, (lent c.listed, (lent c.lengths, (lent c.room.nodes, (lent c.room.endpoints, (lent c.room.starts, (lent c.room.ends, (lent c.room.names, (lent c.scratch, tt))))))))))))));
+    passed = (D.nodes, (lent D.starts, (lent D.ends, (lent D.early, (lent D.late, (lent D.marked, (lent c.listed, (lent c.lengths, (lent_mut c.room.nodes, (lent_mut c.room.endpoints, (lent_mut c.room.starts, (lent_mut c.room.ends, (lent_mut c.room.names, (lent_mut c.scratch, tt))))))))))))));
     answer = c.answer;
-    left = (D.nodes, (lent D.starts, (lent D.ends, (lent D.early, (lent D.late, (lent D.marked, (lent c.listed, (lent c.lengths, (lent c.after.nodes, (lent c.after.endpoints, (lent c.after.starts, (lent c.after.ends, (lent c.after.names, (lent c.scratch_at, tt))))))))))))));
+    left = (D.nodes, (lent D.starts, (lent D.ends, (lent D.early, (lent D.late, (lent D.marked, (lent c.listed, (lent c.lengths, (lent_mut c.after.nodes, (lent_mut c.after.endpoints, (lent_mut c.after.starts, (lent_mut c.after.ends, (lent_mut c.after.names, (lent_mut c.scratch_at, tt))))))))))))));
     learnt = (m.answer, m.nodes, m.endpoints, m.starts, m.ends, m.names, m.scratch);
   },
   refl,
@@ -37,9 +42,9 @@ call_on D none c m = (
 call_on D (some S) c m = (
   on_graph record {
     lifetimes = ([], ([], ([], ([], ([], ([], ([], ([], ([], ([], ([], ([], ([], ([], ([], ([], ([], ([], tt))))))))))))))))));
-    passed = (D.nodes, (lent D.starts, (lent D.ends, (lent D.early, (lent D.late, (lent D.marked, (lent c.listed, (lent c.lengths, (lent S.nodes, (lent S.endpoints, (lent S.starts, (lent S.ends, (lent S.names, (lent c.room.nodes, (lent c.room.endpoints, (lent c.room.starts, (lent c.room.ends, (lent c.room.names, (lent c.scratch, tt)))))))))))))))))));
+    passed = (D.nodes, (lent D.starts, (lent D.ends, (lent D.early, (lent D.late, (lent D.marked, (lent c.listed, (lent c.lengths, (lent S.nodes, (lent S.endpoints, (lent S.starts, (lent S.ends, (lent S.names, (lent_mut c.room.nodes, (lent_mut c.room.endpoints, (lent_mut c.room.starts, (lent_mut c.room.ends, (lent_mut c.room.names, (lent_mut c.scratch, tt)))))))))))))))))));
     answer = c.answer;
-    left = (D.nodes, (lent D.starts, (lent D.ends, (lent D.early, (lent D.late, (lent D.marked, (lent c.listed, (lent c.lengths, (lent S.nodes, (lent S.endpoints, (lent S.starts, (lent S.ends, (lent S.names, (lent c.after.nodes, (lent c.after.endpoints, (lent c.after.starts, (lent c.after.ends, (lent c.after.names, (lent c.scratch_at, tt)))))))))))))))))));
+    left = (D.nodes, (lent D.starts, (lent D.ends, (lent D.early, (lent D.late, (lent D.marked, (lent c.listed, (lent c.lengths, (lent S.nodes, (lent S.endpoints, (lent S.starts, (lent S.ends, (lent S.names, (lent_mut c.after.nodes, (lent_mut c.after.endpoints, (lent_mut c.after.starts, (lent_mut c.after.ends, (lent_mut c.after.names, (lent_mut c.scratch_at, tt)))))))))))))))))));
     learnt = (m.answer, m.nodes, m.endpoints, m.starts, m.ends, m.names, m.scratch);
   },
   refl,
@@ -65,9 +70,9 @@ size_of : (D : Design) (held : Option GraphSlices) (t : Telling) → Tells (size
 size_of D none t m = (
   of_design record {
     lifetimes = ([], ([], ([], ([], ([], ([], ([], ([], tt))))))));
-    passed = (D.nodes, (lent D.starts, (lent D.ends, (lent D.early, (lent D.late, (lent D.marked, (lent t.listed, (lent t.lengths, (lent t.scratch, tt)))))))));
+    passed = (D.nodes, (lent D.starts, (lent D.ends, (lent D.early, (lent D.late, (lent D.marked, (lent t.listed, (lent t.lengths, (lent_mut t.scratch, tt)))))))));
     answer = t.answer;
-    left = (D.nodes, (lent D.starts, (lent D.ends, (lent D.early, (lent D.late, (lent D.marked, (lent t.listed, (lent t.lengths, (lent t.scratch_at, tt)))))))));
+    left = (D.nodes, (lent D.starts, (lent D.ends, (lent D.early, (lent D.late, (lent D.marked, (lent t.listed, (lent t.lengths, (lent_mut t.scratch_at, tt)))))))));
     learnt = (m.answer, m.scratch);
   },
   refl,
@@ -77,9 +82,9 @@ size_of D none t m = (
 size_of D (some S) t m = (
   of_graph record {
     lifetimes = ([], ([], ([], ([], ([], ([], ([], ([], ([], ([], ([], ([], ([], tt)))))))))))));
-    passed = (D.nodes, (lent D.starts, (lent D.ends, (lent D.early, (lent D.late, (lent D.marked, (lent t.listed, (lent t.lengths, (lent S.nodes, (lent S.endpoints, (lent S.starts, (lent S.ends, (lent S.names, (lent t.scratch, tt))))))))))))));
+    passed = (D.nodes, (lent D.starts, (lent D.ends, (lent D.early, (lent D.late, (lent D.marked, (lent t.listed, (lent t.lengths, (lent S.nodes, (lent S.endpoints, (lent S.starts, (lent S.ends, (lent S.names, (lent_mut t.scratch, tt))))))))))))));
     answer = t.answer;
-    left = (D.nodes, (lent D.starts, (lent D.ends, (lent D.early, (lent D.late, (lent D.marked, (lent t.listed, (lent t.lengths, (lent S.nodes, (lent S.endpoints, (lent S.starts, (lent S.ends, (lent S.names, (lent t.scratch_at, tt))))))))))))));
+    left = (D.nodes, (lent D.starts, (lent D.ends, (lent D.early, (lent D.late, (lent D.marked, (lent t.listed, (lent t.lengths, (lent S.nodes, (lent S.endpoints, (lent S.starts, (lent S.ends, (lent S.names, (lent_mut t.scratch_at, tt))))))))))))));
     learnt = (m.answer, m.scratch);
   },
   refl,

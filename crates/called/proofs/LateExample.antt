@@ -25,7 +25,7 @@ use Rattle.called.specs.Removals.{called_of}
 use Rattle.called.specs.Times.{TimesCall, slacks_left, RecordsCall, node_slacks_left}
 use Rattle.called.specs.Late.{LateCall}
 use Rattle.called.proofs.Late.{call_late_slacks, call_late_records, series_late}
-use Rattle.called.proofs.Example.{lent, example}
+use Rattle.called.proofs.Example.{lent, lent_mut, example}
 use Rattle.called.proofs.TimesExample.{times_on, records_on, records_on_lem, held, is_held, six, timed, timed_passed}
 
 -- what the definitions say of a call is a call
@@ -34,9 +34,9 @@ late_on D T S ats =
     let x : Lateness = late_or_not D S T (length ats) in
     record {
       lifetimes = ([], ([], ([], ([], ([], ([], ([], ([], ([], ([], ([], tt)))))))))));
-      passed = (D.nodes, (lent D.starts, (lent D.ends, (lent D.early, (lent D.late, (lent D.marked, (T, (lent S.nodes, (lent S.endpoints, (lent S.starts, (lent S.ends, (lent S.names, (lent ats, tt)))))))))))));
+      passed = (D.nodes, (lent D.starts, (lent D.ends, (lent D.early, (lent D.late, (lent D.marked, (T, (lent S.nodes, (lent S.endpoints, (lent S.starts, (lent S.ends, (lent S.names, (lent_mut ats, tt)))))))))))));
       answer = x;
-      left = (D.nodes, (lent D.starts, (lent D.ends, (lent D.early, (lent D.late, (lent D.marked, (T, (lent S.nodes, (lent S.endpoints, (lent S.starts, (lent S.ends, (lent S.names, (lent (arrivals_after_late D S T x ats), tt)))))))))))));
+      left = (D.nodes, (lent D.starts, (lent D.ends, (lent D.early, (lent D.late, (lent D.marked, (T, (lent S.nodes, (lent S.endpoints, (lent S.starts, (lent S.ends, (lent S.names, (lent_mut (arrivals_after_late D S T x ats), tt)))))))))))));
       learnt = (refl, refl);
     }
 

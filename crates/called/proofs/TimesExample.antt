@@ -23,16 +23,16 @@ use Rattle.timing.proofs.Marked.{deck_a}
 use Rattle.called.specs.Removals.{called_of}
 use Rattle.called.specs.Times.{TimesCall, timed_design, timed_graph, arrivals_left, requireds_left, slacks_left, earliests_left, RecordCall, RecordAfter, RecordsCall, RecordsAfter}
 use Rattle.called.proofs.Times.{earliest_below, series_record}
-use Rattle.called.proofs.Example.{lent, example}
+use Rattle.called.proofs.Example.{lent, lent_mut, example}
 
 abbrev pub times_on : Design → ℕ → GraphSlices → List ℤ → List ℤ → List ℤ → List ℤ → TimesCall
 times_on D T S ats rts sts ets =
     let v : Verdict = test_times D S T (length ats) (length rts) (length sts) (length ets) in
     record {
       lifetimes = ([], ([], ([], ([], ([], ([], ([], ([], ([], ([], ([], ([], ([], ([], tt))))))))))))));
-      passed = (D.nodes, (lent D.starts, (lent D.ends, (lent D.early, (lent D.late, (lent D.marked, (T, (lent S.nodes, (lent S.endpoints, (lent S.starts, (lent S.ends, (lent S.names, (lent ats, (lent rts, (lent sts, (lent ets, tt))))))))))))))));
+      passed = (D.nodes, (lent D.starts, (lent D.ends, (lent D.early, (lent D.late, (lent D.marked, (T, (lent S.nodes, (lent S.endpoints, (lent S.starts, (lent S.ends, (lent S.names, (lent_mut ats, (lent_mut rts, (lent_mut sts, (lent_mut ets, tt))))))))))))))));
       answer = v;
-      left = (D.nodes, (lent D.starts, (lent D.ends, (lent D.early, (lent D.late, (lent D.marked, (T, (lent S.nodes, (lent S.endpoints, (lent S.starts, (lent S.ends, (lent S.names, (lent (arrivals_after D S T v ats), (lent (requireds_after D S T v rts), (lent (slacks_after D S T v sts), (lent (earliests_after D S v ets), tt))))))))))))))));
+      left = (D.nodes, (lent D.starts, (lent D.ends, (lent D.early, (lent D.late, (lent D.marked, (T, (lent S.nodes, (lent S.endpoints, (lent S.starts, (lent S.ends, (lent S.names, (lent_mut (arrivals_after D S T v ats), (lent_mut (requireds_after D S T v rts), (lent_mut (slacks_after D S T v sts), (lent_mut (earliests_after D S v ets), tt))))))))))))))));
       learnt = (refl, refl, refl, refl, refl);
     }
 
@@ -57,9 +57,9 @@ records_on t known ts =
     let after : (NodeTimes → ℤ) → List ℤ = λ f. records_after f n vs (arrivals_left t) (requireds_left t) (slacks_left t) (earliests_left t) v ts in
     record {
       lifetimes = ([], ([], ([], ([], ([], ([], ([], ([], ([], ([], tt))))))))));
-      passed = (n, (lent vs, (lent (arrivals_left t), (lent (requireds_left t), (lent (slacks_left t), (lent (earliests_left t), (lent known, (lent ts, (lent ts, (lent ts, (lent ts, tt)))))))))));
+      passed = (n, (lent vs, (lent (arrivals_left t), (lent (requireds_left t), (lent (slacks_left t), (lent (earliests_left t), (lent_mut known, (lent_mut ts, (lent_mut ts, (lent_mut ts, (lent_mut ts, tt)))))))))));
       answer = v;
-      left = (n, (lent vs, (lent (arrivals_left t), (lent (requireds_left t), (lent (slacks_left t), (lent (earliests_left t), (lent (records_after has_times n vs (arrivals_left t) (requireds_left t) (slacks_left t) (earliests_left t) v known), (lent (after arrival_of), (lent (after required_of), (lent (after slack_of), (lent (after earliest_of), tt)))))))))));
+      left = (n, (lent vs, (lent (arrivals_left t), (lent (requireds_left t), (lent (slacks_left t), (lent (earliests_left t), (lent_mut (records_after has_times n vs (arrivals_left t) (requireds_left t) (slacks_left t) (earliests_left t) v known), (lent_mut (after arrival_of), (lent_mut (after required_of), (lent_mut (after slack_of), (lent_mut (after earliest_of), tt)))))))))));
       learnt = (refl, refl, refl, refl, refl, refl);
     }
 

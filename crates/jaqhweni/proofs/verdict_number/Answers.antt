@@ -1,0 +1,16 @@
+-- Case by case of the verdict.
+use mathlib.Core.Path.{◌∙◌, ap, sym, subst}
+use Rattle.timing.proofs.Ints.{read_back}
+use Rattle.timing.specs.Calls.{verdict_number}
+use Rattle.true_graph.specs.Small.{Small}
+use borrow.Author.Rules.{rules}
+use Rattle.jaqhweni.proofs.verdict_number.Goals as goal
+
+pub refusal_number-requires : goal.refusal_number-requires
+refusal_number-requires c = subst Small c.in-Refused.is c.requires
+
+pub returns-in-Passed : goal.returns-in-Passed
+returns-in-Passed c = ap verdict_number (sym c.in-Passed.is)
+
+pub returns-in-Refused : goal.returns-in-Refused
+returns-in-Refused c = read_back c.refusal_number.result c.refusal_number.type_inv ∙ c.refusal_number.ensures ∙ ap verdict_number (sym c.in-Refused.is)

@@ -1,0 +1,19 @@
+-- Case by case of what was written.
+use mathlib.Core.Path.{◌∙◌, ap, sym, subst}
+use Rattle.timing.specs.Calls.{c_number}
+use Rattle.timing.proofs.Ints.{read_back}
+use Rattle.true_graph.specs.Small.{SmallWritten}
+use borrow.Author.Rules.{rules}
+use Rattle.jaqhweni.proofs.written_number.Goals as goal
+
+pub positive-requires : goal.positive-requires
+positive-requires c = subst SmallWritten c.in-End.is c.requires
+
+pub refusal_number-requires : goal.refusal_number-requires
+refusal_number-requires c = subst SmallWritten c.in-Refused.is c.requires
+
+pub returns-in-End : goal.returns-in-End
+returns-in-End c = read_back c.positive.result c.positive.type_inv ∙ c.positive.ensures ∙ ap c_number (sym c.in-End.is)
+
+pub returns-in-Refused : goal.returns-in-Refused
+returns-in-Refused c = read_back c.refusal_number.result c.refusal_number.type_inv ∙ c.refusal_number.ensures ∙ ap c_number (sym c.in-Refused.is)

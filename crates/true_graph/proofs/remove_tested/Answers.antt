@@ -1,0 +1,15 @@
+-- Where 31 passes with half of the scratch, half is enough; else all of it is lent.
+use native.Mathlib.Omega.{arith}
+use mathlib.Core.Path.{sym, ◌∙◌}
+use Rattle.timing.specs.Graphs.{Design, design}
+use Rattle.timing.specs.Marks.{PathList, path_list}
+use Rattle.true_graph.proofs.Halves.{few_paths, half_same}
+use borrow.Author.Rules.{rules}
+use Rattle.true_graph.proofs.remove_tested.Goals as goal
+
+pub overflow_sub-candidates : goal.overflow_sub-candidates
+overflow_sub-candidates c = omega (arith, few_paths ((let a = c.args in design a.n a.starts.now a.ends.now a.early.now a.late.now a.marked.now)) ((path_list c.args.listed.now c.args.lengths.now)) c.requires)
+
+pub returns-in-Passed : goal.returns-in-Passed
+returns-in-Passed c =
+    rw (half_same ((let a = c.args in design a.n a.starts.now a.ends.now a.early.now a.late.now a.marked.now)) ((path_list c.args.listed.now c.args.lengths.now)) c.requires _ (sym c.scratch_test-half.ensures ∙ c.in-Passed.is)) at c.remove_in_half.ensures
