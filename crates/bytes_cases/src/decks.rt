@@ -4,6 +4,7 @@ use cases::{Slice, fill, unpack};
 use entries::{front, front_delays, least};
 use packed_lists::take_number;
 use print::{refused, text};
+use std::io::{Result, Write};
 use timing::{DeckRead, Written};
 
 // How much of the tables a deck fills; nothing after a refusal.
@@ -17,14 +18,13 @@ struct Counts {
 
 fn pack(delays: &[i32], codes: &mut [u32]) {
     let len = least(delays.len(), codes.len());
-    let mut k = 0;
-    while k < len {
+    for k in 0..len {
         codes[k] = packed_delays::pack_delay(delays[k]);
-        k += 1;
     }
 }
 
-fn say_tables(
+fn say_tables<W: Write>(
+    out: &mut W,
     c: Counts,
     starts: &[u32],
     ends: &[u32],
@@ -33,24 +33,25 @@ fn say_tables(
     listed: &[u32],
     lengths: &[u32],
     marked: &[u32],
-) {
+) -> Result<()> {
     let k = say::three_kept(starts, ends, early, c.edges);
     let k = say::words_kept(k, late, c.edges);
     let k = say::words_kept(k, listed, c.listed);
     let k = say::words_kept(k, lengths, c.paths);
     let k = say::words_kept(k, marked, c.marked);
-    say::table(starts, c.edges);
-    say::table(ends, c.edges);
-    say::table(early, c.edges);
-    say::table(late, c.edges);
-    say::table(listed, c.listed);
-    say::table(lengths, c.paths);
-    say::table(marked, c.marked);
-    say::kept(k);
+    say::table(out, starts, c.edges)?;
+    say::table(out, ends, c.edges)?;
+    say::table(out, early, c.edges)?;
+    say::table(out, late, c.edges)?;
+    say::table(out, listed, c.listed)?;
+    say::table(out, lengths, c.paths)?;
+    say::table(out, marked, c.marked)?;
+    say::kept(out, k)
 }
 
 // The same, with the delays as packed numbers.
-fn say_deck(
+fn say_deck<W: Write>(
+    out: &mut W,
     c: Counts,
     starts: &[u32],
     ends: &[u32],
@@ -59,12 +60,13 @@ fn say_deck(
     listed: &[u32],
     lengths: &[u32],
     marked: &[u32],
-) {
+) -> Result<()> {
     let mut early_codes = [0u32; 16400];
     let mut late_codes = [0u32; 16400];
     pack(early, &mut early_codes);
     pack(late, &mut late_codes);
     say_tables(
+        out,
         c,
         starts,
         ends,
@@ -73,11 +75,11 @@ fn say_deck(
         listed,
         lengths,
         marked,
-    );
+    )
 }
 
 // What the reader answered: n, the counts and T.
-fn say_answer(answer: DeckRead) -> Counts {
+fn say_answer<W: Write>(out: &mut W, answer: DeckRead) -> Result<Counts> {
     match answer {
         DeckRead::Deck {
             nodes,
@@ -87,34 +89,35 @@ fn say_answer(answer: DeckRead) -> Counts {
             marked,
             allowed,
         } => {
-            text(b"deck");
-            print::spaced(nodes as u64);
-            print::spaced(edges as u64);
-            print::spaced(listed as u64);
-            print::spaced(paths as u64);
-            print::spaced(marked as u64);
-            print::spaced(allowed as u64);
-            Counts {
+            text(out, b"deck")?;
+            print::spaced(out, nodes as u64)?;
+            print::spaced(out, edges as u64)?;
+            print::spaced(out, listed as u64)?;
+            print::spaced(out, paths as u64)?;
+            print::spaced(out, marked as u64)?;
+            print::spaced(out, allowed as u64)?;
+            Ok(Counts {
                 edges,
                 listed,
                 paths,
                 marked,
-            }
+            })
         }
         DeckRead::Refused(r) => {
-            refused(r);
-            Counts {
+            refused(out, r)?;
+            Ok(Counts {
                 edges: 0,
                 listed: 0,
                 paths: 0,
                 marked: 0,
-            }
+            })
         }
     }
 }
 
 // Writes a deck, and prints the answer.
-fn write(
+fn write<W: Write>(
+    out: &mut W,
     n: u32,
     allowed: u32,
     starts: &[u32],
@@ -125,17 +128,18 @@ fn write(
     lengths: &[u32],
     marked: &[u32],
     room: &mut [u8],
-) -> Written {
+) -> Result<Written> {
     let w = deck_writer::write_deck(
         n, starts, ends, early, late, marked, listed, lengths, allowed, room,
     );
-    text(b"write ");
-    say::written(w, room);
-    w
+    text(out, b"write ")?;
+    say::written(out, w, room)?;
+    Ok(w)
 }
 
 // Writes what was read to a room as long as the bytes that were read.
-fn write_again(
+fn write_again<W: Write>(
+    out: &mut W,
     n: u32,
     allowed: u32,
     starts: &[u32],
@@ -146,10 +150,11 @@ fn write_again(
     lengths: &[u32],
     marked: &[u32],
     size: usize,
-) {
+) -> Result<()> {
     let mut room = say::byte_room();
     let len = least(size, 65536);
     write(
+        out,
         n,
         allowed,
         starts,
@@ -160,10 +165,12 @@ fn write_again(
         lengths,
         marked,
         &mut room[..len],
-    );
+    )?;
+    Ok(())
 }
 
-fn write_answer(
+fn write_answer<W: Write>(
+    out: &mut W,
     r: DeckRead,
     starts: &[u32],
     ends: &[u32],
@@ -173,7 +180,7 @@ fn write_answer(
     lengths: &[u32],
     marked: &[u32],
     size: usize,
-) {
+) -> Result<()> {
     match r {
         DeckRead::Deck {
             nodes,
@@ -184,6 +191,7 @@ fn write_answer(
             allowed,
         } => {
             write_again(
+                out,
                 nodes,
                 allowed,
                 front(starts, edges),
@@ -194,14 +202,16 @@ fn write_answer(
                 front(lengths, paths),
                 front(marked, marked_count),
                 size,
-            );
+            )?;
         }
         DeckRead::Refused(_) => {}
     }
+    Ok(())
 }
 
 // Prints what was read from so many bytes, and where it is asked for writes it again.
-fn say_read(
+fn say_read<W: Write>(
+    out: &mut W,
     r: DeckRead,
     again: bool,
     size: usize,
@@ -212,15 +222,19 @@ fn say_read(
     listed: &[u32],
     lengths: &[u32],
     marked: &[u32],
-) {
-    let c = say_answer(r);
-    say_deck(c, starts, ends, early, late, listed, lengths, marked);
+) -> Result<()> {
+    let c = say_answer(out, r)?;
+    say_deck(out, c, starts, ends, early, late, listed, lengths, marked)?;
     if again {
-        write_answer(r, starts, ends, early, late, listed, lengths, marked, size);
+        write_answer(
+            out, r, starts, ends, early, late, listed, lengths, marked, size,
+        )?;
     }
+    Ok(())
 }
 
-fn read(
+fn read<W: Write>(
+    out: &mut W,
     s: &[u8],
     again: bool,
     starts: &mut [u32],
@@ -230,9 +244,10 @@ fn read(
     listed: &mut [u32],
     lengths: &mut [u32],
     marked: &mut [u32],
-) {
+) -> Result<()> {
     let r = deck_reader::read_deck(s, starts, ends, early, late, listed, lengths, marked);
     say_read(
+        out,
         r,
         again,
         s.len(),
@@ -243,7 +258,7 @@ fn read(
         listed,
         lengths,
         marked,
-    );
+    )
 }
 
 // The lengths of the tables, how many bytes there are, and the place of the first.
@@ -283,7 +298,7 @@ fn read_sizes(s: &[u8], at: usize) -> Sizes {
 }
 
 // Reads into tables of these lengths.
-fn read_sized(s: &[u8], again: bool, q: Sizes) {
+fn read_sized<W: Write>(out: &mut W, s: &[u8], again: bool, q: Sizes) -> Result<()> {
     let mut starts = [say::WORD; 16400];
     let mut ends = [say::WORD; 16400];
     let mut early = [say::DELAY; 16400];
@@ -299,6 +314,7 @@ fn read_sized(s: &[u8], again: bool, q: Sizes) {
     let f = least(q.lengths, 1040);
     let g = least(q.marked, 4200);
     read(
+        out,
         s,
         again,
         &mut starts[..a],
@@ -308,20 +324,27 @@ fn read_sized(s: &[u8], again: bool, q: Sizes) {
         &mut listed[..e],
         &mut lengths[..f],
         &mut marked[..g],
-    );
+    )
 }
 
-pub(crate) fn read_case(s: &[u8], at: usize) -> usize {
+pub(crate) fn read_case<W: Write>(out: &mut W, s: &[u8], at: usize) -> Result<usize> {
     let q = read_sizes(s, at);
     let start = least(q.next, s.len());
     let len = least(q.bytes, s.len() - start);
     let end = start + len;
-    read_sized(&s[start..end], true, q);
-    end
+    read_sized(out, &s[start..end], true, q)?;
+    Ok(end)
 }
 
 // Reads what was written, into tables as long as the deck.
-fn read_back(s: &[u8], edges: usize, listed: usize, paths: usize, marked: usize) {
+fn read_back<W: Write>(
+    out: &mut W,
+    s: &[u8],
+    edges: usize,
+    listed: usize,
+    paths: usize,
+    marked: usize,
+) -> Result<()> {
     let q = Sizes {
         starts: edges,
         ends: edges,
@@ -333,10 +356,11 @@ fn read_back(s: &[u8], edges: usize, listed: usize, paths: usize, marked: usize)
         bytes: s.len(),
         next: 0,
     };
-    read_sized(s, false, q);
+    read_sized(out, s, false, q)
 }
 
-fn write_and_read(
+fn write_and_read<W: Write>(
+    out: &mut W,
     n: u32,
     allowed: u32,
     starts: &[u32],
@@ -347,23 +371,25 @@ fn write_and_read(
     lengths: &[u32],
     marked: &[u32],
     room: &mut [u8],
-) {
+) -> Result<()> {
     let w = write(
-        n, allowed, starts, ends, early, late, listed, lengths, marked, room,
-    );
+        out, n, allowed, starts, ends, early, late, listed, lengths, marked, room,
+    )?;
     match w {
         Written::End(end) => {
             let len = least(end, room.len());
             read_back(
+                out,
                 &room[..len],
                 starts.len(),
                 listed.len(),
                 lengths.len(),
                 marked.len(),
-            );
+            )?;
         }
         Written::Refused(_) => {}
     }
+    Ok(())
 }
 
 // n, T and the length of the room, and the place behind them.
@@ -387,7 +413,8 @@ fn read_asked(s: &[u8], at: usize) -> Asked {
     }
 }
 
-fn write_sized(
+fn write_sized<W: Write>(
+    out: &mut W,
     q: Asked,
     starts: &[u32],
     ends: &[u32],
@@ -396,10 +423,11 @@ fn write_sized(
     listed: &[u32],
     lengths: &[u32],
     marked: &[u32],
-) {
+) -> Result<()> {
     let mut room = say::deck_room();
     let len = least(q.room as usize, 131072);
     write_and_read(
+        out,
         q.n,
         q.allowed,
         starts,
@@ -410,7 +438,7 @@ fn write_sized(
         lengths,
         marked,
         &mut room[..len],
-    );
+    )
 }
 
 // Delays from their packed numbers.
@@ -422,7 +450,8 @@ fn fill_delays(s: &[u8], at: usize, delays: &mut [i32]) -> Slice {
 }
 
 // Writes the deck whose list and marked nodes stand at a place, and answers the place behind them.
-fn write_at(
+fn write_at<W: Write>(
+    out: &mut W,
     s: &[u8],
     at: usize,
     q: Asked,
@@ -430,7 +459,7 @@ fn write_at(
     ends: &[u32],
     early: &[i32],
     late: &[i32],
-) -> usize {
+) -> Result<usize> {
     let mut listed = [0u32; 8200];
     let mut lengths = [0u32; 1040];
     let mut marked = [0u32; 4200];
@@ -438,6 +467,7 @@ fn write_at(
     let b = fill(s, a.next, &mut lengths);
     let c = fill(s, b.next, &mut marked);
     write_sized(
+        out,
         q,
         starts,
         ends,
@@ -446,11 +476,11 @@ fn write_at(
         front(&listed, a.len),
         front(&lengths, b.len),
         front(&marked, c.len),
-    );
-    c.next
+    )?;
+    Ok(c.next)
 }
 
-pub(crate) fn write_case(s: &[u8], at: usize) -> usize {
+pub(crate) fn write_case<W: Write>(out: &mut W, s: &[u8], at: usize) -> Result<usize> {
     let q = read_asked(s, at);
     let mut starts = [0u32; 16400];
     let mut ends = [0u32; 16400];
@@ -461,6 +491,7 @@ pub(crate) fn write_case(s: &[u8], at: usize) -> usize {
     let c = fill_delays(s, b.next, &mut early);
     let d = fill_delays(s, c.next, &mut late);
     write_at(
+        out,
         s,
         d.next,
         q,

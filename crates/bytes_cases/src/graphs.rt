@@ -4,6 +4,7 @@ use cases::fill;
 use entries::{front, least};
 use packed_lists::take_number;
 use print::{refused, text};
+use std::io::{Result, Write};
 use timing::{GraphMade, Written};
 
 // How much of the room a graph fills; nothing after a refusal.
@@ -13,73 +14,78 @@ struct Counts {
     edges: usize,
 }
 
-fn say_answer(answer: GraphMade) -> Counts {
+fn say_answer<W: Write>(out: &mut W, answer: GraphMade) -> Result<Counts> {
     match answer {
         GraphMade::Counts { copies, edges } => {
-            text(b"graph");
-            print::spaced(copies as u64);
-            print::spaced(edges as u64);
-            Counts { copies, edges }
+            text(out, b"graph")?;
+            print::spaced(out, copies as u64)?;
+            print::spaced(out, edges as u64)?;
+            Ok(Counts { copies, edges })
         }
         GraphMade::Refused(r) => {
-            refused(r);
-            Counts {
+            refused(out, r)?;
+            Ok(Counts {
                 copies: 0,
                 edges: 0,
-            }
+            })
         }
     }
 }
 
-fn say_graph(
+fn say_graph<W: Write>(
+    out: &mut W,
     c: Counts,
     room_nodes: &[u32],
     room_endpoint: &[u32],
     room_from: &[u32],
     room_to: &[u32],
     room_via: &[u32],
-) {
+) -> Result<()> {
     let k = say::three_kept(room_from, room_to, room_via, c.edges);
     let k = say::words_kept(k, room_nodes, c.copies);
     let k = say::words_kept(k, room_endpoint, c.copies);
-    say::table(room_nodes, c.copies);
-    say::table(room_endpoint, c.copies);
-    say::table(room_from, c.edges);
-    say::table(room_to, c.edges);
-    say::table(room_via, c.edges);
-    say::kept(k);
+    say::table(out, room_nodes, c.copies)?;
+    say::table(out, room_endpoint, c.copies)?;
+    say::table(out, room_from, c.edges)?;
+    say::table(out, room_to, c.edges)?;
+    say::table(out, room_via, c.edges)?;
+    say::kept(out, k)
 }
 
 // Writes a graph, and prints the answer.
-fn write(
+fn write<W: Write>(
+    out: &mut W,
     nodes: &[u32],
     endpoint: &[u32],
     from: &[u32],
     to: &[u32],
     via: &[u32],
     room: &mut [u8],
-) -> Written {
+) -> Result<Written> {
     let w = graph_writer::write_graph(nodes, endpoint, from, to, via, room);
-    text(b"write ");
-    say::written(w, room);
-    w
+    text(out, b"write ")?;
+    say::written(out, w, room)?;
+    Ok(w)
 }
 
 // Writes what was read to a room as long as the bytes that were read.
-fn write_again(
+fn write_again<W: Write>(
+    out: &mut W,
     nodes: &[u32],
     endpoint: &[u32],
     from: &[u32],
     to: &[u32],
     via: &[u32],
     size: usize,
-) {
+) -> Result<()> {
     let mut room = say::byte_room();
     let len = least(size, 65536);
-    write(nodes, endpoint, from, to, via, &mut room[..len]);
+    write(out, nodes, endpoint, from, to, via, &mut room[..len])?;
+    Ok(())
 }
 
-fn write_answer(
+fn write_answer<W: Write>(
+    out: &mut W,
     r: GraphMade,
     room_nodes: &[u32],
     room_endpoint: &[u32],
@@ -87,24 +93,27 @@ fn write_answer(
     room_to: &[u32],
     room_via: &[u32],
     size: usize,
-) {
+) -> Result<()> {
     match r {
         GraphMade::Counts { copies, edges } => {
             write_again(
+                out,
                 front(room_nodes, copies),
                 front(room_endpoint, copies),
                 front(room_from, edges),
                 front(room_to, edges),
                 front(room_via, edges),
                 size,
-            );
+            )?;
         }
         GraphMade::Refused(_) => {}
     }
+    Ok(())
 }
 
 // Prints what was read from so many bytes, and where it is asked for writes it again.
-fn say_read(
+fn say_read<W: Write>(
+    out: &mut W,
     r: GraphMade,
     again: bool,
     size: usize,
@@ -113,11 +122,20 @@ fn say_read(
     room_from: &[u32],
     room_to: &[u32],
     room_via: &[u32],
-) {
-    let c = say_answer(r);
-    say_graph(c, room_nodes, room_endpoint, room_from, room_to, room_via);
+) -> Result<()> {
+    let c = say_answer(out, r)?;
+    say_graph(
+        out,
+        c,
+        room_nodes,
+        room_endpoint,
+        room_from,
+        room_to,
+        room_via,
+    )?;
     if again {
         write_answer(
+            out,
             r,
             room_nodes,
             room_endpoint,
@@ -125,11 +143,13 @@ fn say_read(
             room_to,
             room_via,
             size,
-        );
+        )?;
     }
+    Ok(())
 }
 
-fn read(
+fn read<W: Write>(
+    out: &mut W,
     s: &[u8],
     again: bool,
     room_nodes: &mut [u32],
@@ -137,9 +157,10 @@ fn read(
     room_from: &mut [u32],
     room_to: &mut [u32],
     room_via: &mut [u32],
-) {
+) -> Result<()> {
     let r = graph_reader::read_graph(s, room_nodes, room_endpoint, room_from, room_to, room_via);
     say_read(
+        out,
         r,
         again,
         s.len(),
@@ -148,7 +169,7 @@ fn read(
         room_from,
         room_to,
         room_via,
-    );
+    )
 }
 
 // The lengths of the room's slices, how many bytes there are, and the place of the first.
@@ -182,7 +203,7 @@ fn read_sizes(s: &[u8], at: usize) -> Sizes {
 }
 
 // Reads into a room of these lengths.
-fn read_sized(s: &[u8], again: bool, q: Sizes) {
+fn read_sized<W: Write>(out: &mut W, s: &[u8], again: bool, q: Sizes) -> Result<()> {
     let mut room_nodes = [say::WORD; 16400];
     let mut room_endpoint = [say::WORD; 16400];
     let mut room_from = say::edge_table();
@@ -194,6 +215,7 @@ fn read_sized(s: &[u8], again: bool, q: Sizes) {
     let d = least(q.to, 65600);
     let e = least(q.via, 65600);
     read(
+        out,
         s,
         again,
         &mut room_nodes[..a],
@@ -201,20 +223,20 @@ fn read_sized(s: &[u8], again: bool, q: Sizes) {
         &mut room_from[..c],
         &mut room_to[..d],
         &mut room_via[..e],
-    );
+    )
 }
 
-pub(crate) fn read_case(s: &[u8], at: usize) -> usize {
+pub(crate) fn read_case<W: Write>(out: &mut W, s: &[u8], at: usize) -> Result<usize> {
     let q = read_sizes(s, at);
     let start = least(q.next, s.len());
     let len = least(q.bytes, s.len() - start);
     let end = start + len;
-    read_sized(&s[start..end], true, q);
-    end
+    read_sized(out, &s[start..end], true, q)?;
+    Ok(end)
 }
 
 // Reads what was written, into a room as long as the graph.
-fn read_back(s: &[u8], copies: usize, edges: usize) {
+fn read_back<W: Write>(out: &mut W, s: &[u8], copies: usize, edges: usize) -> Result<()> {
     let q = Sizes {
         nodes: copies,
         endpoint: copies,
@@ -224,35 +246,45 @@ fn read_back(s: &[u8], copies: usize, edges: usize) {
         bytes: s.len(),
         next: 0,
     };
-    read_sized(s, false, q);
+    read_sized(out, s, false, q)
 }
 
-fn write_and_read(
+fn write_and_read<W: Write>(
+    out: &mut W,
     nodes: &[u32],
     endpoint: &[u32],
     from: &[u32],
     to: &[u32],
     via: &[u32],
     room: &mut [u8],
-) {
-    let w = write(nodes, endpoint, from, to, via, room);
+) -> Result<()> {
+    let w = write(out, nodes, endpoint, from, to, via, room)?;
     match w {
         Written::End(end) => {
             let len = least(end, room.len());
-            read_back(&room[..len], nodes.len(), from.len());
+            read_back(out, &room[..len], nodes.len(), from.len())?;
         }
         Written::Refused(_) => {}
     }
+    Ok(())
 }
 
-fn write_sized(size: u32, nodes: &[u32], endpoint: &[u32], from: &[u32], to: &[u32], via: &[u32]) {
+fn write_sized<W: Write>(
+    out: &mut W,
+    size: u32,
+    nodes: &[u32],
+    endpoint: &[u32],
+    from: &[u32],
+    to: &[u32],
+    via: &[u32],
+) -> Result<()> {
     let mut room = say::graph_room();
     let len = least(size as usize, 393216);
-    write_and_read(nodes, endpoint, from, to, via, &mut room[..len]);
+    write_and_read(out, nodes, endpoint, from, to, via, &mut room[..len])
 }
 
 // Writes the graph at a place to a room of a size, and answers the place behind the graph.
-fn write_at(s: &[u8], at: usize, size: u32) -> usize {
+fn write_at<W: Write>(out: &mut W, s: &[u8], at: usize, size: u32) -> Result<usize> {
     let mut nodes = [0u32; 16400];
     let mut endpoint = [0u32; 16400];
     let mut from = say::edge_table();
@@ -264,17 +296,18 @@ fn write_at(s: &[u8], at: usize, size: u32) -> usize {
     let d = fill(s, c.next, &mut to);
     let e = fill(s, d.next, &mut via);
     write_sized(
+        out,
         size,
         front(&nodes, a.len),
         front(&endpoint, b.len),
         front(&from, c.len),
         front(&to, d.len),
         front(&via, e.len),
-    );
-    e.next
+    )?;
+    Ok(e.next)
 }
 
-pub(crate) fn write_case(s: &[u8], at: usize) -> usize {
+pub(crate) fn write_case<W: Write>(out: &mut W, s: &[u8], at: usize) -> Result<usize> {
     let r = take_number(s, at);
-    write_at(s, r.next, r.value)
+    write_at(out, s, r.next, r.value)
 }

@@ -10,45 +10,49 @@
 // Crate `cases` says how a slice is packed.
 #![tactic(auto)]
 
-use libc::STDIN_FILENO;
 use packed_lists::take_number;
+use std::io::{BufWriter, Read, Result, Write};
 
 mod decks;
 mod graphs;
 mod say;
 
-fn case(s: &[u8], at: usize) -> usize {
+// How many bytes a block of the input has, and how many blocks there are at most.
+const BLOCK: u64 = 65536;
+
+const BLOCKS: u32 = 8;
+
+fn case<W: Write>(out: &mut W, s: &[u8], at: usize) -> Result<usize> {
     let kind = take_number(s, at);
     let k = kind.value;
     let next = kind.next;
     match k {
-        0 => decks::read_case(s, next),
-        1 => decks::write_case(s, next),
-        2 => graphs::read_case(s, next),
-        _ => graphs::write_case(s, next),
+        0 => decks::read_case(out, s, next),
+        1 => decks::write_case(out, s, next),
+        2 => graphs::read_case(out, s, next),
+        _ => graphs::write_case(out, s, next),
     }
 }
 
-fn run(s: &[u8]) {
+fn run<W: Write>(out: &mut W, s: &[u8]) -> Result<()> {
     let count = take_number(s, 0);
     let mut at = count.next;
-    let mut i: u32 = 0;
-    while i < count.value {
-        at = case(s, at);
-        i += 1;
+    for _ in 0..count.value {
+        at = case(out, s, at)?;
     }
+    Ok(())
 }
 
-fn block() {
-    let mut input = io::large_buffer();
-    let n = io::read_full(STDIN_FILENO, &mut input);
-    run(&input[..n]);
+fn block<W: Write>(rt: &HostRuntime, out: &mut W) -> Result<()> {
+    let mut input = Vec::new(rt.alloc());
+    rt.stdin().take(BLOCK).read_to_end(&mut input)?;
+    run(out, &input)
 }
 
-fn main() {
-    let mut i: u32 = 0;
-    while i < 8 {
-        block();
-        i += 1;
+fn main(rt: HostRuntime) -> Result<()> {
+    let mut out = BufWriter::new(rt.alloc(), rt.stdout())?;
+    for _ in 0..BLOCKS {
+        block(&rt, &mut out)?;
     }
+    out.flush()
 }

@@ -4,6 +4,7 @@ ghost use Rattle.std.specs.Prelude.{◌≡◌, ◌<◌, length};
 
 use entries::{front, least};
 use print::{refused, text};
+use std::io::{Result, Write};
 use std::num::wrapping_add_u32;
 use timing::Written;
 
@@ -15,8 +16,7 @@ pub(crate) const BYTE: u8 = 0xA5;
 // Longer slices are printed by a checksum.
 const LONGEST: usize = 24;
 
-// Large tables and rooms, full of the pattern. Each is made in a function of its own, since a proof
-// writes out all elements of an array that its function makes.
+// Large tables and rooms, full of the pattern.
 pub(crate) fn edge_table() -> [u32; 65600]
     ensures { 65600 ≡ length result }
 {
@@ -51,10 +51,8 @@ fn mixed(h: u64, x: u32) -> u64
 
 fn words_sum(s: &[u32]) -> u64 {
     let mut h: u64 = 0;
-    let mut k = 0;
-    while k < s.len() {
-        h = mixed(h, s[k]);
-        k += 1;
+    for x in s {
+        h = mixed(h, *x);
     }
     h
 }
@@ -65,97 +63,90 @@ fn byte_word(b: u8) -> u32 {
 
 fn bytes_sum(s: &[u8]) -> u64 {
     let mut h: u64 = 0;
-    let mut k = 0;
-    while k < s.len() {
-        h = mixed(h, byte_word(s[k]));
-        k += 1;
+    for b in s {
+        h = mixed(h, byte_word(*b));
     }
     h
 }
 
-fn say_sum(h: u64) {
-    text(b" checksum ");
-    print::number(h);
+fn say_sum<W: Write>(out: &mut W, h: u64) -> Result<()> {
+    text(out, b" checksum ")?;
+    print::number(out, h)
 }
 
-fn say_words(s: &[u32]) {
+fn say_words<W: Write>(out: &mut W, s: &[u32]) -> Result<()> {
     if LONGEST < s.len() {
-        say_sum(words_sum(s));
-        return;
+        return say_sum(out, words_sum(s));
     }
-    print::words(s);
+    print::words(out, s)
 }
 
 // The words of a table, if there are any.
-fn say_some(s: &[u32]) {
+fn say_some<W: Write>(out: &mut W, s: &[u32]) -> Result<()> {
     if 0 < s.len() {
-        text(b";");
-        say_words(s);
+        text(out, b";")?;
+        say_words(out, s)?;
     }
+    Ok(())
 }
 
 // The first k words of a table.
-pub(crate) fn table(s: &[u32], k: usize) {
-    say_some(front(s, k));
+pub(crate) fn table<W: Write>(out: &mut W, s: &[u32], k: usize) -> Result<()> {
+    say_some(out, front(s, k))
 }
 
 // Adds how many words have the pattern from a place on.
 pub(crate) fn words_kept(before: u32, s: &[u32], place: usize) -> u32 {
     let mut kept = before;
-    let mut k = place;
-    while k < s.len() {
+    for k in place..s.len() {
         if s[k] == WORD {
             kept = wrapping_add_u32(kept, 1);
         }
-        k += 1;
     }
     kept
 }
 
 fn bytes_kept(s: &[u8], place: usize) -> u32 {
     let mut kept: u32 = 0;
-    let mut k = place;
-    while k < s.len() {
+    for k in place..s.len() {
         if s[k] == BYTE {
             kept = wrapping_add_u32(kept, 1);
         }
-        k += 1;
     }
     kept
 }
 
-pub(crate) fn kept(count: u32) {
-    text(b"; kept");
-    print::spaced(count as u64);
-    text(b"\n");
+pub(crate) fn kept<W: Write>(out: &mut W, count: u32) -> Result<()> {
+    text(out, b"; kept")?;
+    print::spaced(out, count as u64)?;
+    text(out, b"\n")
 }
 
-fn say_bytes(s: &[u8]) {
+fn say_bytes<W: Write>(out: &mut W, s: &[u8]) -> Result<()> {
     if LONGEST < s.len() {
-        say_sum(bytes_sum(s));
-        return;
+        return say_sum(out, bytes_sum(s));
     }
-    print::bytes(s);
+    print::bytes(out, s)
 }
 
-fn first_bytes(s: &[u8], k: usize) {
+fn first_bytes<W: Write>(out: &mut W, s: &[u8], k: usize) -> Result<()> {
     let len = least(k, s.len());
-    say_bytes(&s[..len]);
+    say_bytes(out, &s[..len])
 }
 
 // What a writer answered, the bytes in the room, and how many of it are as before.
-pub(crate) fn written(w: Written, room: &[u8]) {
+pub(crate) fn written<W: Write>(out: &mut W, w: Written, room: &[u8]) -> Result<()> {
     match w {
         Written::End(end) => {
-            text(b"end ");
-            print::number(end as u64);
-            text(b":");
-            first_bytes(room, end);
-            kept(bytes_kept(room, end));
+            text(out, b"end ")?;
+            print::number(out, end as u64)?;
+            text(out, b":")?;
+            first_bytes(out, room, end)?;
+            kept(out, bytes_kept(room, end))
         }
         Written::Refused(r) => {
-            refused(r);
-            kept(bytes_kept(room, 0));
+            refused(out, r)?;
+            kept(out, bytes_kept(room, 0))
         }
     }
 }

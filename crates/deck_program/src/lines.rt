@@ -1,6 +1,7 @@
 // The lines of the deck program.
 use crate::text::{Text, end_line, flush, put_number, put_text, put_time};
 use entries::{number_at, time_at};
+use std::io::{Result, Write};
 use timing::Refusal;
 
 // A word and a number.
@@ -16,16 +17,27 @@ fn put_two(buf: &mut Text, at: usize, word: &[u8], n: u64, other: &[u8], m: u64)
 }
 
 // A refusal, behind what the buffer holds.
-pub(crate) fn put_refused(buf: &Text, at: usize, r: Refusal) -> usize {
-    flush(buf, at);
-    print::refused(r);
-    print::text(b"\n");
-    0
+pub(crate) fn put_refused<W: Write>(
+    out: &mut W,
+    buf: &Text,
+    at: usize,
+    r: Refusal,
+) -> Result<usize> {
+    flush(out, buf, at)?;
+    print::refused(out, r)?;
+    print::text(out, b"\n")?;
+    Ok(0)
 }
 
-fn put_counts(buf: &mut Text, at: usize, copies: usize, edges: usize) -> usize {
+fn put_counts<W: Write>(
+    out: &mut W,
+    buf: &mut Text,
+    at: usize,
+    copies: usize,
+    edges: usize,
+) -> Result<usize> {
     let next = put_two(buf, at, b"copies ", copies as u64, b" edges ", edges as u64);
-    end_line(buf, next)
+    end_line(out, buf, next)
 }
 
 // A word and a time.
@@ -61,7 +73,8 @@ fn put_end(buf: &mut Text, at: usize, endpoint: u32) -> usize {
     at
 }
 
-fn put_copy(
+fn put_copy<W: Write>(
+    out: &mut W,
     buf: &mut Text,
     at: usize,
     copy: usize,
@@ -71,7 +84,7 @@ fn put_copy(
     required: i64,
     slack: i64,
     earliest: i64,
-) -> usize {
+) -> Result<usize> {
     let next = put_two(buf, at, b"copy ", copy as u64, b" node ", node as u64);
     let next = put_times(
         buf,
@@ -86,10 +99,11 @@ fn put_copy(
         earliest,
     );
     let next = put_end(buf, next, endpoint);
-    end_line(buf, next)
+    end_line(out, buf, next)
 }
 
-fn put_copies(
+fn put_copies<W: Write>(
+    out: &mut W,
     buf: &mut Text,
     at: usize,
     nodes: &[u32],
@@ -98,11 +112,11 @@ fn put_copies(
     requireds: &[i64],
     slacks: &[i64],
     earliests: &[i64],
-) -> usize {
+) -> Result<usize> {
     let mut next = at;
-    let mut c = 0;
-    while c < nodes.len() {
+    for c in 0..nodes.len() {
         next = put_copy(
+            out,
             buf,
             next,
             c,
@@ -112,36 +126,49 @@ fn put_copies(
             time_at(requireds, c),
             time_at(slacks, c),
             time_at(earliests, c),
-        );
-        c += 1;
+        )?;
     }
-    next
+    Ok(next)
 }
 
-fn put_edge(buf: &mut Text, at: usize, from: u32, to: u32, via: u32) -> usize {
+fn put_edge<W: Write>(
+    out: &mut W,
+    buf: &mut Text,
+    at: usize,
+    from: u32,
+    to: u32,
+    via: u32,
+) -> Result<usize> {
     let next = put_two(buf, at, b"edge ", from as u64, b" ", to as u64);
     let next = put_named(buf, next, b" ", via as u64);
-    end_line(buf, next)
+    end_line(out, buf, next)
 }
 
-fn put_edges(buf: &mut Text, at: usize, from: &[u32], to: &[u32], via: &[u32]) -> usize {
+fn put_edges<W: Write>(
+    out: &mut W,
+    buf: &mut Text,
+    at: usize,
+    from: &[u32],
+    to: &[u32],
+    via: &[u32],
+) -> Result<usize> {
     let mut next = at;
-    let mut k = 0;
-    while k < from.len() {
+    for k in 0..from.len() {
         next = put_edge(
+            out,
             buf,
             next,
             number_at(from, k),
             number_at(to, k),
             number_at(via, k),
-        );
-        k += 1;
+        )?;
     }
-    next
+    Ok(next)
 }
 
 // The counts, and all copies and edges.
-pub(crate) fn put_graph(
+pub(crate) fn put_graph<W: Write>(
+    out: &mut W,
     buf: &mut Text,
     nodes: &[u32],
     endpoint: &[u32],
@@ -152,15 +179,16 @@ pub(crate) fn put_graph(
     from: &[u32],
     to: &[u32],
     via: &[u32],
-) -> usize {
-    let a = put_counts(buf, 0, nodes.len(), from.len());
+) -> Result<usize> {
+    let a = put_counts(out, buf, 0, nodes.len(), from.len())?;
     let b = put_copies(
-        buf, a, nodes, endpoint, arrivals, requireds, slacks, earliests,
-    );
-    put_edges(buf, b, from, to, via)
+        out, buf, a, nodes, endpoint, arrivals, requireds, slacks, earliests,
+    )?;
+    put_edges(out, buf, b, from, to, via)
 }
 
-fn put_node(
+fn put_node<W: Write>(
+    out: &mut W,
     buf: &mut Text,
     at: usize,
     node: usize,
@@ -169,19 +197,20 @@ fn put_node(
     required: i64,
     slack: i64,
     earliest: i64,
-) -> usize {
+) -> Result<usize> {
     let next = put_named(buf, at, b"node ", node as u64);
     if known == 0 {
         let next = put_text(buf, next, b" none");
-        return end_line(buf, next);
+        return end_line(out, buf, next);
     }
     let next = put_times(
         buf, next, b" ", arrival, b" ", required, b" ", slack, b" ", earliest,
     );
-    end_line(buf, next)
+    end_line(out, buf, next)
 }
 
-pub(crate) fn put_nodes(
+pub(crate) fn put_nodes<W: Write>(
+    out: &mut W,
     buf: &mut Text,
     at: usize,
     known: &[u32],
@@ -189,11 +218,11 @@ pub(crate) fn put_nodes(
     nr: &[i64],
     ns: &[i64],
     ne: &[i64],
-) -> usize {
+) -> Result<usize> {
     let mut next = at;
-    let mut v = 0;
-    while v < known.len() {
+    for v in 0..known.len() {
         next = put_node(
+            out,
             buf,
             next,
             v,
@@ -202,8 +231,7 @@ pub(crate) fn put_nodes(
             time_at(nr, v),
             time_at(ns, v),
             time_at(ne, v),
-        );
-        v += 1;
+        )?;
     }
-    next
+    Ok(next)
 }

@@ -6,13 +6,14 @@ mod lines;
 mod text;
 
 use entries::{front, front_delays, least};
-use libc::STDIN_FILENO;
 use lines::{put_graph, put_nodes, put_refused};
+use std::io::{Read, Result, Write};
 use text::{Text, flush};
 use timing::{DeckRead, GraphMade, MAX_DECK_BYTES, Verdict};
 use verdicts::refuse;
 
-fn put_records(
+fn put_records<W: Write>(
+    out: &mut W,
     buf: &mut Text,
     at: usize,
     v: Verdict,
@@ -21,15 +22,16 @@ fn put_records(
     nr: &[i64],
     ns: &[i64],
     ne: &[i64],
-) -> usize {
+) -> Result<usize> {
     match v {
-        Verdict::Passed => put_nodes(buf, at, known, na, nr, ns, ne),
-        Verdict::Refused(r) => put_refused(buf, at, r),
+        Verdict::Passed => put_nodes(out, buf, at, known, na, nr, ns, ne),
+        Verdict::Refused(r) => put_refused(out, buf, at, r),
     }
 }
 
 // The records of all nodes, in slices with one place for each.
-fn say_records(
+fn say_records<W: Write>(
+    out: &mut W,
     buf: &mut Text,
     at: usize,
     n: u32,
@@ -43,14 +45,15 @@ fn say_records(
     nr: &mut [i64],
     ns: &mut [i64],
     ne: &mut [i64],
-) -> usize {
+) -> Result<usize> {
     let v = records::node_records(
         n, nodes, arrivals, requireds, slacks, earliests, known, na, nr, ns, ne,
     );
-    put_records(buf, at, v, known, na, nr, ns, ne)
+    put_records(out, buf, at, v, known, na, nr, ns, ne)
 }
 
-fn say_nodes(
+fn say_nodes<W: Write>(
+    out: &mut W,
     buf: &mut Text,
     at: usize,
     n: u32,
@@ -59,7 +62,7 @@ fn say_nodes(
     requireds: &[i64],
     slacks: &[i64],
     earliests: &[i64],
-) -> usize {
+) -> Result<usize> {
     let mut known = [0; 4096];
     let mut na = [0; 4096];
     let mut nr = [0; 4096];
@@ -67,6 +70,7 @@ fn say_nodes(
     let mut ne = [0; 4096];
     let count = least(n as usize, 4096);
     say_records(
+        out,
         buf,
         at,
         n,
@@ -84,7 +88,8 @@ fn say_nodes(
 }
 
 // What was found of a graph: all of it with its times, or the refusal.
-fn say_found(
+fn say_found<W: Write>(
+    out: &mut W,
     buf: &mut Text,
     v: Verdict,
     n: u32,
@@ -97,20 +102,23 @@ fn say_found(
     requireds: &[i64],
     slacks: &[i64],
     earliests: &[i64],
-) -> usize {
+) -> Result<usize> {
     match v {
         Verdict::Passed => {
             let at = put_graph(
-                buf, nodes, endpoint, arrivals, requireds, slacks, earliests, from, to, via,
-            );
-            say_nodes(buf, at, n, nodes, arrivals, requireds, slacks, earliests)
+                out, buf, nodes, endpoint, arrivals, requireds, slacks, earliests, from, to, via,
+            )?;
+            say_nodes(
+                out, buf, at, n, nodes, arrivals, requireds, slacks, earliests,
+            )
         }
-        Verdict::Refused(r) => put_refused(buf, 0, r),
+        Verdict::Refused(r) => put_refused(out, buf, 0, r),
     }
 }
 
 // The graph with all times, in slices with one place for each copy.
-fn say_times(
+fn say_times<W: Write>(
+    out: &mut W,
     buf: &mut Text,
     n: u32,
     starts: &[u32],
@@ -128,17 +136,18 @@ fn say_times(
     requireds: &mut [i64],
     slacks: &mut [i64],
     earliests: &mut [i64],
-) -> usize {
+) -> Result<usize> {
     let v = times::times(
         n, starts, ends, early, late, marked, allowed, nodes, endpoint, from, to, via, arrivals,
         requireds, slacks, earliests,
     );
     say_found(
-        buf, v, n, nodes, endpoint, from, to, via, arrivals, requireds, slacks, earliests,
+        out, buf, v, n, nodes, endpoint, from, to, via, arrivals, requireds, slacks, earliests,
     )
 }
 
-fn say_graph(
+fn say_graph<W: Write>(
+    out: &mut W,
     buf: &mut Text,
     n: u32,
     starts: &[u32],
@@ -152,13 +161,14 @@ fn say_graph(
     from: &[u32],
     to: &[u32],
     via: &[u32],
-) -> usize {
+) -> Result<usize> {
     let mut arrivals = [0; 512];
     let mut requireds = [0; 512];
     let mut slacks = [0; 512];
     let mut earliests = [0; 512];
     let count = least(nodes.len(), 512);
     say_times(
+        out,
         buf,
         n,
         starts,
@@ -179,7 +189,8 @@ fn say_graph(
     )
 }
 
-fn say_made(
+fn say_made<W: Write>(
+    out: &mut W,
     buf: &mut Text,
     made: GraphMade,
     n: u32,
@@ -194,10 +205,11 @@ fn say_made(
     room_from: &[u32],
     room_to: &[u32],
     room_via: &[u32],
-) -> usize {
+) -> Result<usize> {
     match made {
-        GraphMade::Refused(r) => put_refused(buf, 0, r),
+        GraphMade::Refused(r) => put_refused(out, buf, 0, r),
         GraphMade::Counts { copies, edges } => say_graph(
+            out,
             buf,
             n,
             starts,
@@ -216,7 +228,8 @@ fn say_made(
 }
 
 // Removes the listed paths, and says what is left.
-fn say_removal(
+fn say_removal<W: Write>(
+    out: &mut W,
     buf: &mut Text,
     n: u32,
     starts: &[u32],
@@ -227,7 +240,7 @@ fn say_removal(
     listed: &[u32],
     lengths: &[u32],
     allowed: u32,
-) -> usize {
+) -> Result<usize> {
     let mut room_nodes = [0; 512];
     let mut room_endpoint = [0; 512];
     let mut room_from = [0; 2048];
@@ -251,6 +264,7 @@ fn say_removal(
         &mut scratch,
     );
     say_made(
+        out,
         buf,
         made,
         n,
@@ -269,7 +283,8 @@ fn say_removal(
 }
 
 // Tests a deck, and says its true graph or the refusal. 25 is tested before 31.
-fn say_deck(
+fn say_deck<W: Write>(
+    out: &mut W,
     buf: &mut Text,
     n: u32,
     starts: &[u32],
@@ -280,19 +295,20 @@ fn say_deck(
     listed: &[u32],
     lengths: &[u32],
     allowed: u32,
-) -> usize {
+) -> Result<usize> {
     let verdict = unfit::test_deck(
         n, starts, ends, early, late, marked, listed, lengths, allowed,
     );
     if let Verdict::Refused(r) = verdict {
-        return put_refused(buf, 0, r);
+        return put_refused(out, buf, 0, r);
     }
     say_removal(
-        buf, n, starts, ends, early, late, marked, listed, lengths, allowed,
+        out, buf, n, starts, ends, early, late, marked, listed, lengths, allowed,
     )
 }
 
-fn say_read(
+fn say_read<W: Write>(
+    out: &mut W,
     buf: &mut Text,
     read: DeckRead,
     starts: &[u32],
@@ -302,9 +318,9 @@ fn say_read(
     listed: &[u32],
     lengths: &[u32],
     marked: &[u32],
-) -> usize {
+) -> Result<usize> {
     match read {
-        DeckRead::Refused(r) => put_refused(buf, 0, r),
+        DeckRead::Refused(r) => put_refused(out, buf, 0, r),
         DeckRead::Deck {
             nodes,
             edges,
@@ -313,6 +329,7 @@ fn say_read(
             marked: marked_count,
             allowed,
         } => say_deck(
+            out,
             buf,
             nodes,
             front(starts, edges),
@@ -328,7 +345,7 @@ fn say_read(
 }
 
 // Reads a deck into the tables, and says what is made of it.
-fn say(buf: &mut Text, deck: &[u8]) -> usize {
+fn say<W: Write>(out: &mut W, buf: &mut Text, deck: &[u8]) -> Result<usize> {
     let mut starts = [0; 1024];
     let mut ends = [0; 1024];
     let mut early = [0; 1024];
@@ -347,30 +364,37 @@ fn say(buf: &mut Text, deck: &[u8]) -> usize {
         &mut marked,
     );
     say_read(
-        buf, read, &starts, &ends, &early, &late, &listed, &lengths, &marked,
+        out, buf, read, &starts, &ends, &early, &late, &listed, &lengths, &marked,
     )
 }
 
-// Whether a further byte stands on standard input.
-fn more_bytes() -> bool {
-    let mut further = [0; 1];
-    io::read_full(STDIN_FILENO, &mut further) != 0
+// Whether a further byte stands on the input.
+fn more_bytes<R: Read>(input: &mut R) -> Result<bool> {
+    let further = input.bytes().next().transpose()?;
+    Ok(further.is_some())
 }
 
 // 4 is tested before all.
-fn run(buf: &mut Text, deck: &[u8]) -> usize {
+fn run<R: Read, W: Write>(
+    input: &mut R,
+    out: &mut W,
+    buf: &mut Text,
+    deck: &[u8],
+) -> Result<usize> {
     if deck.len() == MAX_DECK_BYTES {
-        if more_bytes() {
-            return put_refused(buf, 0, refuse(4, MAX_DECK_BYTES));
+        if more_bytes(input)? {
+            return put_refused(out, buf, 0, refuse(4, MAX_DECK_BYTES));
         }
     }
-    say(buf, deck)
+    say(out, buf, deck)
 }
 
-fn main() {
-    let mut input = io::large_buffer();
-    let mut output = io::large_buffer();
-    let len = io::read_full(STDIN_FILENO, &mut input);
-    let end = run(&mut output, &input[..len]);
-    flush(&output, end);
+fn main(rt: HostRuntime) -> Result<()> {
+    let mut input = rt.stdin();
+    let mut deck = Vec::new(rt.alloc());
+    input.take(MAX_DECK_BYTES as u64).read_to_end(&mut deck)?;
+    let mut out = rt.stdout();
+    let mut text: Text = [0; 65536];
+    let end = run(&mut input, &mut out, &mut text, &deck)?;
+    flush(&mut out, &text, end)
 }

@@ -1,6 +1,8 @@
-// Text made in a lent buffer, and written to standard output a block at a time.
+// Text made in a lent buffer, and written out a block at a time.
 use entries::least;
+use itoa::Buffer;
 use print::magnitude;
+use std::io::{Result, Write};
 
 pub(crate) type Text = [u8; 65536];
 
@@ -18,19 +20,16 @@ fn put_byte(buf: &mut Text, at: usize, b: u8) -> usize {
 
 pub(crate) fn put_text(buf: &mut Text, at: usize, s: &[u8]) -> usize {
     let mut next = at;
-    let mut i = 0;
-    while i < s.len() {
-        next = put_byte(buf, next, s[i]);
-        i += 1;
+    for b in s {
+        next = put_byte(buf, next, *b);
     }
     next
 }
 
 // A number, in decimal digits.
 pub(crate) fn put_number(buf: &mut Text, at: usize, n: u64) -> usize {
-    let mut digits = [0u8; 20];
-    let len = io::decimal(n, &mut digits);
-    put_text(buf, at, &digits[..len])
+    let mut digits = Buffer::new();
+    put_text(buf, at, digits.format(n).as_bytes())
 }
 
 fn put_sign(buf: &mut Text, at: usize, t: i64) -> usize {
@@ -45,23 +44,23 @@ pub(crate) fn put_time(buf: &mut Text, at: usize, t: i64) -> usize {
     put_number(buf, next, magnitude(t))
 }
 
-fn write_front(s: &[u8], count: usize) {
+fn write_front<W: Write>(out: &mut W, s: &[u8], count: usize) -> Result<()> {
     let len = least(count, s.len());
-    print::text(&s[..len]);
+    print::text(out, &s[..len])
 }
 
 // Writes what the buffer holds before a place.
-pub(crate) fn flush(buf: &Text, at: usize) {
-    write_front(buf, at);
+pub(crate) fn flush<W: Write>(out: &mut W, buf: &Text, at: usize) -> Result<()> {
+    write_front(out, buf, at)
 }
 
 // Ends a line, and writes the block where a further line might not fit.
-pub(crate) fn end_line(buf: &mut Text, at: usize) -> usize {
+pub(crate) fn end_line<W: Write>(out: &mut W, buf: &mut Text, at: usize) -> Result<usize> {
     let next = put_byte(buf, at, b'\n');
     let len = least(next, buf.len());
     if len + LINE <= buf.len() {
-        return next;
+        return Ok(next);
     }
-    flush(buf, next);
-    0
+    flush(out, buf, next)?;
+    Ok(0)
 }

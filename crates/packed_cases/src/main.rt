@@ -7,9 +7,12 @@
 
 ghost use Rattle.std.specs.Prelude.{ℕ, ◌+◌, ◌≤◌, ◌≡◌, length};
 
-use libc::STDIN_FILENO;
 use print::{bytes, number, refused, text};
+use std::io::{BufWriter, Read, Result, Write};
 use timing::{NumberRead, Written};
+
+// How many bytes of the input are read, at most.
+const BLOCK: u64 = 65536;
 
 // The byte at a place, or 0 past the end.
 fn at(s: &[u8], i: usize) -> u8 {
@@ -36,105 +39,113 @@ fn size(s: &[u8], most: usize) -> usize
 }
 
 // What a writer answered, and the room.
-fn written(place: usize, answer: Written, room: &[u8]) {
-    text(b" at ");
-    number(place as u64);
-    text(b": ");
+fn written<W: Write>(out: &mut W, place: usize, answer: Written, room: &[u8]) -> Result<()> {
+    text(out, b" at ")?;
+    number(out, place as u64)?;
+    text(out, b": ")?;
     match answer {
         Written::End(end) => {
-            text(b"end ");
-            number(end as u64);
+            text(out, b"end ")?;
+            number(out, end as u64)?;
         }
-        Written::Refused(r) => refused(r),
+        Written::Refused(r) => refused(out, r)?,
     }
-    text(b",");
-    bytes(room);
+    text(out, b",")?;
+    bytes(out, room)
 }
 
-fn write_case(room: &mut [u8], place: usize, x: u32) {
+fn write_case<W: Write>(out: &mut W, room: &mut [u8], place: usize, x: u32) -> Result<()> {
     let answer = packed::write_number(room, place, x);
-    text(b"write ");
-    number(x as u64);
-    written(place, answer, room);
+    text(out, b"write ")?;
+    number(out, x as u64)?;
+    written(out, place, answer, room)
 }
 
-fn row_case(room: &mut [u8], place: usize, a: u32, b: u32, c: u32) {
+fn row_case<W: Write>(
+    out: &mut W,
+    room: &mut [u8],
+    place: usize,
+    a: u32,
+    b: u32,
+    c: u32,
+) -> Result<()> {
     let answer = packed::write_row(room, place, a, b, c);
-    text(b"row ");
-    number(a as u64);
-    text(b" ");
-    number(b as u64);
-    text(b" ");
-    number(c as u64);
-    written(place, answer, room);
+    text(out, b"row ")?;
+    number(out, a as u64)?;
+    text(out, b" ")?;
+    number(out, b as u64)?;
+    text(out, b" ")?;
+    number(out, c as u64)?;
+    written(out, place, answer, room)
 }
 
-fn read_case(s: &[u8], place: usize) {
-    text(b"read");
-    bytes(s);
-    text(b" at ");
-    number(place as u64);
-    text(b": ");
+fn read_case<W: Write>(out: &mut W, s: &[u8], place: usize) -> Result<()> {
+    text(out, b"read")?;
+    bytes(out, s)?;
+    text(out, b" at ")?;
+    number(out, place as u64)?;
+    text(out, b": ")?;
     match packed::read_number(s, place) {
         NumberRead::Value { value, next } => {
-            text(b"value ");
-            number(value as u64);
-            text(b" next ");
-            number(next as u64);
+            text(out, b"value ")?;
+            number(out, value as u64)?;
+            text(out, b" next ")?;
+            number(out, next as u64)?;
         }
-        NumberRead::Refused(r) => refused(r),
+        NumberRead::Refused(r) => refused(out, r)?,
     }
+    Ok(())
 }
 
-fn delay_case(x: u32) {
+fn delay_case<W: Write>(out: &mut W, x: u32) -> Result<()> {
     let d = packed_delays::unpack_delay(x);
-    text(b"delay ");
-    number(x as u64);
-    text(b": ");
-    print::delay(d);
-    text(b" packed ");
-    number(packed_delays::pack_delay(d) as u64);
+    text(out, b"delay ")?;
+    number(out, x as u64)?;
+    text(out, b": ")?;
+    print::delay(out, d)?;
+    text(out, b" packed ")?;
+    number(out, packed_delays::pack_delay(d) as u64)
 }
 
-fn case(s: &[u8]) {
+fn case<W: Write>(out: &mut W, s: &[u8]) -> Result<()> {
     let kind = at(s, 0);
     let place = at(s, 1) as usize;
     let len = size(s, 12);
     if kind == 0 {
         let mut room = [0xAAu8; 12];
-        write_case(&mut room[..len], place, word(s, 4));
+        write_case(out, &mut room[..len], place, word(s, 4))?;
     } else if kind == 1 {
         if 4 + len <= s.len() {
-            read_case(&s[4..4 + len], place);
+            read_case(out, &s[4..4 + len], place)?;
         }
     } else if kind == 3 {
         let wide = size(s, 20);
         let mut room = [0xAAu8; 20];
         row_case(
+            out,
             &mut room[..wide],
             place,
             word(s, 4),
             word(s, 8),
             word(s, 12),
-        );
+        )?;
     } else {
-        delay_case(word(s, 4));
+        delay_case(out, word(s, 4))?;
     }
-    text(b"\n");
+    text(out, b"\n")
 }
 
-fn run(s: &[u8]) {
-    let mut i = 0;
-    while i < s.len() / 16 {
-        let from = i * 16;
-        let to = from + 16;
-        case(&s[from..to]);
-        i += 1;
+fn run<W: Write>(out: &mut W, s: &[u8]) -> Result<()> {
+    for record in s.chunks_exact(16) {
+        case(out, record)?;
     }
+    Ok(())
 }
 
-fn main() {
-    let mut input = io::large_buffer();
-    let n = io::read_full(STDIN_FILENO, &mut input);
-    run(&input[..n]);
+fn main(rt: HostRuntime) -> Result<()> {
+    let mut input = Vec::new(rt.alloc());
+    rt.stdin().take(BLOCK).read_to_end(&mut input)?;
+    let mut out = BufWriter::new(rt.alloc(), rt.stdout())?;
+    run(&mut out, &input)?;
+    out.flush()
 }

@@ -3,6 +3,7 @@ ghost use Rattle.std.specs.Prelude.{◌≤◌, ◌<◌, length};
 
 use entries::{front, least};
 use print::{refused, text};
+use std::io::{Result, Write};
 use timing::GraphMade;
 
 // Sets place k to first + k mod 65,536, so that a word that is moved or changed is seen; and answers
@@ -12,10 +13,8 @@ pub(crate) fn set_pattern(first: u32, count: usize, words: &mut [u32]) -> usize
     ensures { result ≤ length words.new }
 {
     let len = least(count, words.len());
-    let mut k = 0;
-    while k < len {
+    for k in 0..len {
         words[k] = first + (k % 65536) as u32;
-        k += 1;
     }
     len
 }
@@ -30,20 +29,18 @@ fn mixed(h: u64, word: u32) -> u64
 // A sum over all words, in order.
 fn checksum(words: &[u32]) -> u64 {
     let mut h: u64 = 1;
-    let mut k = 0;
-    while k < words.len() {
-        h = mixed(h, words[k]);
-        k += 1;
+    for word in words {
+        h = mixed(h, *word);
     }
     h
 }
 
 // A line: the sum over a slice, and its first words.
-fn say_slice(label: &[u8], count: usize, words: &[u32]) {
-    text(label);
-    print::number(checksum(words));
-    print::words(front(words, count));
-    text(b"\n");
+fn say_slice<W: Write>(out: &mut W, label: &[u8], count: usize, words: &[u32]) -> Result<()> {
+    text(out, label)?;
+    print::number(out, checksum(words))?;
+    print::words(out, front(words, count))?;
+    text(out, b"\n")
 }
 
 // How many words of each slice are printed.
@@ -75,29 +72,28 @@ fn shown_of(made: GraphMade) -> Printed {
 }
 
 // The counts, or the refusal.
-fn say_made(made: GraphMade) {
+fn say_made<W: Write>(out: &mut W, made: GraphMade) -> Result<()> {
     match made {
         GraphMade::Counts { copies, edges } => {
-            text(b"copies ");
-            print::number(copies as u64);
-            text(b" edges ");
-            print::number(edges as u64);
+            text(out, b"copies ")?;
+            print::number(out, copies as u64)?;
+            text(out, b" edges ")?;
+            print::number(out, edges as u64)
         }
-        GraphMade::Refused(r) => {
-            refused(r);
-        }
+        GraphMade::Refused(r) => refused(out, r),
     }
 }
 
 // What is told before a removal, and a sum over the scratch.
-pub(crate) fn say_told(told: GraphMade, scratch: &[u32]) {
-    text(b"told ");
-    say_made(told);
-    say_slice(b"\nscratch ", 0, scratch);
+pub(crate) fn say_told<W: Write>(out: &mut W, told: GraphMade, scratch: &[u32]) -> Result<()> {
+    text(out, b"told ")?;
+    say_made(out, told)?;
+    say_slice(out, b"\nscratch ", 0, scratch)
 }
 
 // A removal's answer, the graph if it is small, and a sum over each slice.
-pub(crate) fn say(
+pub(crate) fn say<W: Write>(
+    out: &mut W,
     made: GraphMade,
     room_nodes: &[u32],
     room_endpoint: &[u32],
@@ -105,13 +101,13 @@ pub(crate) fn say(
     room_to: &[u32],
     room_via: &[u32],
     scratch: &[u32],
-) {
-    say_made(made);
+) -> Result<()> {
+    say_made(out, made)?;
     let c = shown_of(made);
-    say_slice(b"\nnodes ", c.copies, room_nodes);
-    say_slice(b"endpoint ", c.copies, room_endpoint);
-    say_slice(b"from ", c.edges, room_from);
-    say_slice(b"to ", c.edges, room_to);
-    say_slice(b"via ", c.edges, room_via);
-    say_slice(b"scratch ", 0, scratch);
+    say_slice(out, b"\nnodes ", c.copies, room_nodes)?;
+    say_slice(out, b"endpoint ", c.copies, room_endpoint)?;
+    say_slice(out, b"from ", c.edges, room_from)?;
+    say_slice(out, b"to ", c.edges, room_to)?;
+    say_slice(out, b"via ", c.edges, room_via)?;
+    say_slice(out, b"scratch ", 0, scratch)
 }

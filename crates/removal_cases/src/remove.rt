@@ -2,6 +2,7 @@
 use crate::output::{say, set_pattern};
 use crate::tables;
 use crate::tables::{Design, Held, List, Sizes, keep, part};
+use std::io::{Result, Write};
 use timing::GraphMade;
 
 // The removal from what is held.
@@ -119,7 +120,8 @@ fn remove(
 }
 
 // The same; prints all that was lent, and answers what is held afterwards.
-fn remove_and_say(
+fn remove_and_say<W: Write>(
+    out: &mut W,
     words: &mut [u32],
     d: Design,
     early: &[i32],
@@ -132,7 +134,7 @@ fn remove_and_say(
     room_to: &mut [u32],
     room_via: &mut [u32],
     scratch: &mut [u32],
-) -> Held {
+) -> Result<Held> {
     let made = remove(
         words,
         d,
@@ -148,6 +150,7 @@ fn remove_and_say(
         scratch,
     );
     say(
+        out,
         made,
         room_nodes,
         room_endpoint,
@@ -155,8 +158,8 @@ fn remove_and_say(
         room_to,
         room_via,
         scratch,
-    );
-    keep(
+    )?;
+    Ok(keep(
         made,
         held,
         room_nodes,
@@ -165,11 +168,12 @@ fn remove_and_say(
         room_to,
         room_via,
         words,
-    )
+    ))
 }
 
 // The same, with the room and the scratch lent as long as the case says.
-pub(crate) fn lend(
+pub(crate) fn lend<W: Write>(
+    out: &mut W,
     words: &mut [u32],
     d: Design,
     early: &[i32],
@@ -177,7 +181,7 @@ pub(crate) fn lend(
     l: List,
     held: Held,
     sizes: Sizes,
-) -> Held {
+) -> Result<Held> {
     let mut room_nodes = [0u32; 2080];
     let mut room_endpoint = [0u32; 2080];
     let mut room_from = [0u32; 2080];
@@ -191,6 +195,7 @@ pub(crate) fn lend(
     let f = set_pattern(3400000000, sizes.via, &mut room_via);
     let k = set_pattern(3500000000, sizes.scratch, &mut scratch);
     remove_and_say(
+        out,
         words,
         d,
         early,

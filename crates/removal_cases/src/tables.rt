@@ -43,7 +43,7 @@ const COPY_ROOM: usize = 16400;
 const COPY_EDGE_ROOM: usize = 2080;
 
 // n and the lengths of a design's slices, and the place behind them.
-#[derive(Drop)]
+#[derive(Clone, Copy)]
 pub(crate) struct Design {
     pub n: u32,
     pub starts: usize,
@@ -55,7 +55,7 @@ pub(crate) struct Design {
 }
 
 // The lengths of a list's slices, and the place behind them.
-#[derive(Drop)]
+#[derive(Clone, Copy)]
 pub(crate) struct List {
     pub listed: usize,
     pub lengths: usize,
@@ -63,7 +63,7 @@ pub(crate) struct List {
 }
 
 // The lengths of the room's slices and of the scratch; and the place behind them.
-#[derive(Drop)]
+#[derive(Clone, Copy)]
 pub(crate) struct Sizes {
     pub nodes: usize,
     pub endpoint: usize,
@@ -75,7 +75,7 @@ pub(crate) struct Sizes {
 }
 
 // Whether a graph is held, and the lengths of its slices.
-#[derive(Drop)]
+#[derive(Clone, Copy)]
 pub(crate) struct Held {
     pub any: bool,
     pub nodes: usize,
@@ -202,10 +202,8 @@ pub(crate) fn hold_given(s: &[u8], at: usize, words: &mut [u32]) -> Step {
 
 fn copy(count: usize, source: &[u32], target: &mut [u32]) {
     let len = least(count, least(source.len(), target.len()));
-    let mut k = 0;
-    while k < len {
+    for k in 0..len {
         target[k] = source[k];
-        k += 1;
     }
 }
 

@@ -5,6 +5,7 @@ ghost use Rattle.std.specs.Prelude.{◌≡◌, length};
 use crate::output::{say_told, set_pattern};
 use crate::tables;
 use crate::tables::{Design, Held, List, part};
+use std::io::{Result, Write};
 use timing::GraphMade;
 
 // Told from what is held.
@@ -72,7 +73,8 @@ fn size(
 }
 
 // The same; prints the answer and a sum over the scratch.
-fn size_and_say(
+fn size_and_say<W: Write>(
+    out: &mut W,
     words: &[u32],
     d: Design,
     early: &[i32],
@@ -80,12 +82,12 @@ fn size_and_say(
     l: List,
     held: Held,
     scratch: &mut [u32],
-) {
+) -> Result<()> {
     let told = size(words, d, early, late, l, held, scratch);
-    say_told(told, scratch);
+    say_told(out, told, scratch)
 }
 
-// In a function of its own, since a proof writes out all elements of an array that its function makes.
+// The longest scratch that is lent.
 fn long_scratch() -> [u32; 300000]
     ensures { 300000 ≡ length result }
 {
@@ -93,7 +95,8 @@ fn long_scratch() -> [u32; 300000]
 }
 
 // The same, with the scratch lent as long as the case says.
-pub(crate) fn tell(
+pub(crate) fn tell<W: Write>(
+    out: &mut W,
     words: &[u32],
     d: Design,
     early: &[i32],
@@ -101,8 +104,8 @@ pub(crate) fn tell(
     l: List,
     held: Held,
     words_lent: usize,
-) {
+) -> Result<()> {
     let mut scratch = long_scratch();
     let k = set_pattern(3500000000, words_lent, &mut scratch);
-    size_and_say(words, d, early, late, l, held, &mut scratch[..k]);
+    size_and_say(out, words, d, early, late, l, held, &mut scratch[..k])
 }

@@ -12,13 +12,19 @@ mod say;
 use cases::fill_rising;
 use entries::{front, front_delays, least};
 use input::{Places, Question, fill_delays, read_places, read_question};
-use libc::STDIN_FILENO;
 use packed_lists::take_number;
 use say::{say_answer, say_arrivals, say_found, say_lateness, say_records};
+use std::io::{BufWriter, Read, Result, Write};
 use timing::Verdict;
 
+// How many bytes a block of the input has, and how many blocks there are at most.
+const BLOCK: u64 = 65536;
+
+const BLOCKS: u32 = 3;
+
 // Asks for the records of all nodes, and says them.
-fn records(
+fn records<W: Write>(
+    out: &mut W,
     n: u32,
     nodes: &[u32],
     arrivals: &[i64],
@@ -30,15 +36,16 @@ fn records(
     nr: &mut [i64],
     ns: &mut [i64],
     ne: &mut [i64],
-) {
+) -> Result<()> {
     let v = records::node_records(
         n, nodes, arrivals, requireds, slacks, earliests, known, na, nr, ns, ne,
     );
-    say_records(v, known, na, nr, ns, ne);
+    say_records(out, v, known, na, nr, ns, ne)
 }
 
 // The same, with slices for the nodes as long as the case says.
-fn ask_records(
+fn ask_records<W: Write>(
+    out: &mut W,
     n: u32,
     p: Places,
     nodes: &[u32],
@@ -46,7 +53,7 @@ fn ask_records(
     requireds: &[i64],
     slacks: &[i64],
     earliests: &[i64],
-) {
+) -> Result<()> {
     let mut known = [0u32; 4200];
     let mut na = [0i64; 4200];
     let mut nr = [0i64; 4200];
@@ -58,6 +65,7 @@ fn ask_records(
     let z = least(p.slacks, 4200);
     let e = least(p.earliests, 4200);
     records(
+        out,
         n,
         nodes,
         arrivals,
@@ -69,11 +77,12 @@ fn ask_records(
         &mut nr[..y],
         &mut ns[..z],
         &mut ne[..e],
-    );
+    )
 }
 
 // Says the times that were found, and asks for the records of the nodes.
-fn say_all(
+fn say_all<W: Write>(
+    out: &mut W,
     v: Verdict,
     q: Question,
     p: Places,
@@ -82,14 +91,18 @@ fn say_all(
     requireds: &[i64],
     slacks: &[i64],
     earliests: &[i64],
-) {
-    say_found(v, arrivals, requireds, slacks, earliests);
-    say_answer(records::node_record(q.n, nodes, arrivals, requireds, slacks, earliests, q.node));
-    ask_records(q.n, p, nodes, arrivals, requireds, slacks, earliests);
+) -> Result<()> {
+    say_found(out, v, arrivals, requireds, slacks, earliests)?;
+    say_answer(
+        out,
+        records::node_record(q.n, nodes, arrivals, requireds, slacks, earliests, q.node),
+    )?;
+    ask_records(out, q.n, p, nodes, arrivals, requireds, slacks, earliests)
 }
 
 // Asks for the times of a graph and for the records of its nodes, and says them.
-fn ask_and_say(
+fn ask_and_say<W: Write>(
+    out: &mut W,
     q: Question,
     p: Places,
     starts: &[u32],
@@ -106,16 +119,17 @@ fn ask_and_say(
     requireds: &mut [i64],
     slacks: &mut [i64],
     earliests: &mut [i64],
-) {
+) -> Result<()> {
     let v = times::times(
         q.n, starts, ends, early, late, marked, q.allowed, nodes, endpoint, from, to, via,
         arrivals, requireds, slacks, earliests,
     );
-    say_all(v, q, p, nodes, arrivals, requireds, slacks, earliests);
+    say_all(out, v, q, p, nodes, arrivals, requireds, slacks, earliests)
 }
 
 // The same, with slices for times as long as the case says.
-fn ask(
+fn ask<W: Write>(
+    out: &mut W,
     q: Question,
     p: Places,
     starts: &[u32],
@@ -128,7 +142,7 @@ fn ask(
     from: &[u32],
     to: &[u32],
     via: &[u32],
-) {
+) -> Result<()> {
     let mut arrivals = [0i64; 4200];
     let mut requireds = [0i64; 4200];
     let mut slacks = [0i64; 4200];
@@ -138,6 +152,7 @@ fn ask(
     let k = least(q.slacks, 4200);
     let e = least(q.earliests, 4200);
     ask_and_say(
+        out,
         q,
         p,
         starts,
@@ -154,11 +169,12 @@ fn ask(
         &mut requireds[..r],
         &mut slacks[..k],
         &mut earliests[..e],
-    );
+    )
 }
 
 // Asks whether a graph is late, and says it and what the lent slice holds then.
-fn late(
+fn late<W: Write>(
+    out: &mut W,
     n: u32,
     allowed: u32,
     starts: &[u32],
@@ -172,16 +188,17 @@ fn late(
     to: &[u32],
     via: &[u32],
     arrivals: &mut [i64],
-) {
+) -> Result<()> {
     let answer = late::late_or_not(
         n, starts, ends, early, late, marked, allowed, nodes, endpoint, from, to, via, arrivals,
     );
-    say_lateness(answer);
-    say_arrivals(arrivals);
+    say_lateness(out, answer)?;
+    say_arrivals(out, arrivals)
 }
 
 // The same, with a slice as long as the case says, which holds 77 at every place.
-fn ask_late(
+fn ask_late<W: Write>(
+    out: &mut W,
     n: u32,
     allowed: u32,
     lent: usize,
@@ -195,10 +212,11 @@ fn ask_late(
     from: &[u32],
     to: &[u32],
     via: &[u32],
-) {
+) -> Result<()> {
     let mut arrivals = [77i64; 4200];
     let a = least(lent, 4200);
     late(
+        out,
         n,
         allowed,
         starts,
@@ -212,11 +230,12 @@ fn ask_late(
         to,
         via,
         &mut arrivals[..a],
-    );
+    )
 }
 
 // Asks all that is asked about a graph.
-fn ask_all(
+fn ask_all<W: Write>(
+    out: &mut W,
     q: Question,
     p: Places,
     starts: &[u32],
@@ -229,20 +248,21 @@ fn ask_all(
     from: &[u32],
     to: &[u32],
     via: &[u32],
-) {
+) -> Result<()> {
     let n = q.n;
     let allowed = q.allowed;
     let lent = q.lent;
     ask(
-        q, p, starts, ends, early, late, marked, nodes, endpoint, from, to, via,
-    );
+        out, q, p, starts, ends, early, late, marked, nodes, endpoint, from, to, via,
+    )?;
     ask_late(
-        n, allowed, lent, starts, ends, early, late, marked, nodes, endpoint, from, to, via,
-    );
+        out, n, allowed, lent, starts, ends, early, late, marked, nodes, endpoint, from, to, via,
+    )
 }
 
 // Asks about the graph at a place, and answers the place behind it.
-fn graph_of(
+fn graph_of<W: Write>(
+    out: &mut W,
     s: &[u8],
     at: usize,
     q: Question,
@@ -252,7 +272,7 @@ fn graph_of(
     early: &[i32],
     late: &[i32],
     marked: &[u32],
-) -> usize {
+) -> Result<usize> {
     let mut nodes = [0u32; 4200];
     let mut endpoint = [0u32; 4200];
     let mut from = [0u32; 4200];
@@ -264,6 +284,7 @@ fn graph_of(
     let d = fill_rising(s, c.next, &mut to);
     let e = fill_rising(s, d.next, &mut via);
     ask_all(
+        out,
         q,
         p,
         starts,
@@ -276,12 +297,12 @@ fn graph_of(
         front(&from, c.len),
         front(&to, d.len),
         front(&via, e.len),
-    );
-    e.next
+    )?;
+    Ok(e.next)
 }
 
 // The same, with the case at the place.
-fn case(s: &[u8], at: usize) -> usize {
+fn case<W: Write>(out: &mut W, s: &[u8], at: usize) -> Result<usize> {
     let q = read_question(s, at);
     let p = read_places(s, q.next);
     let mut starts = [0u32; 4200];
@@ -295,6 +316,7 @@ fn case(s: &[u8], at: usize) -> usize {
     let d = fill_delays(s, c.next, &mut late);
     let e = fill_rising(s, d.next, &mut marked);
     graph_of(
+        out,
         s,
         e.next,
         q,
@@ -307,24 +329,25 @@ fn case(s: &[u8], at: usize) -> usize {
     )
 }
 
-fn run(s: &[u8]) {
+fn run<W: Write>(out: &mut W, s: &[u8]) -> Result<()> {
     let count = take_number(s, 0);
     let mut at = count.next;
-    let mut i: u32 = 0;
-    while i < count.value {
-        at = case(s, at);
-        i += 1;
+    for _ in 0..count.value {
+        at = case(out, s, at)?;
     }
+    Ok(())
 }
 
-fn run_block() {
-    let mut input = io::large_buffer();
-    let len = io::read_full(STDIN_FILENO, &mut input);
-    run(&input[..len]);
+fn run_block<W: Write>(rt: &HostRuntime, out: &mut W) -> Result<()> {
+    let mut input = Vec::new(rt.alloc());
+    rt.stdin().take(BLOCK).read_to_end(&mut input)?;
+    run(out, &input)
 }
 
-fn main() {
-    run_block();
-    run_block();
-    run_block();
+fn main(rt: HostRuntime) -> Result<()> {
+    let mut out = BufWriter::new(rt.alloc(), rt.stdout())?;
+    for _ in 0..BLOCKS {
+        run_block(&rt, &mut out)?;
+    }
+    out.flush()
 }

@@ -1,6 +1,7 @@
 // What is printed of the answers.
 use entries::{number_at, time_at};
 use print::{refused, text};
+use std::io::{Result, Write};
 use timing::{Lateness, NodeAnswer, NodeTimes, Refusal, Verdict};
 
 // Of many copies or nodes the first 64 are printed, and then every 512th.
@@ -9,65 +10,86 @@ fn printed(k: usize) -> bool {
 }
 
 // Four times, and the end of the line.
-fn say_times(arrival: i64, required: i64, slack: i64, earliest: i64) {
-    print::time(arrival);
-    text(b" ");
-    print::time(required);
-    text(b" ");
-    print::time(slack);
-    text(b" ");
-    print::time(earliest);
-    text(b"\n");
+fn say_times<W: Write>(
+    out: &mut W,
+    arrival: i64,
+    required: i64,
+    slack: i64,
+    earliest: i64,
+) -> Result<()> {
+    print::time(out, arrival)?;
+    text(out, b" ")?;
+    print::time(out, required)?;
+    text(out, b" ")?;
+    print::time(out, slack)?;
+    text(out, b" ")?;
+    print::time(out, earliest)?;
+    text(out, b"\n")
 }
 
-fn say_refused(r: Refusal) {
-    refused(r);
-    text(b"\n");
+fn say_refused<W: Write>(out: &mut W, r: Refusal) -> Result<()> {
+    refused(out, r)?;
+    text(out, b"\n")
 }
 
-fn say_copy(c: usize, arrival: i64, required: i64, slack: i64, earliest: i64) {
+fn say_copy<W: Write>(
+    out: &mut W,
+    c: usize,
+    arrival: i64,
+    required: i64,
+    slack: i64,
+    earliest: i64,
+) -> Result<()> {
     if printed(c) {
-        text(b"copy ");
-        print::number(c as u64);
-        text(b" ");
-        say_times(arrival, required, slack, earliest);
+        text(out, b"copy ")?;
+        print::number(out, c as u64)?;
+        text(out, b" ")?;
+        say_times(out, arrival, required, slack, earliest)?;
     }
+    Ok(())
 }
 
-fn say_copies(arrivals: &[i64], requireds: &[i64], slacks: &[i64], earliests: &[i64]) {
-    let mut c = 0;
-    while c < arrivals.len() {
+fn say_copies<W: Write>(
+    out: &mut W,
+    arrivals: &[i64],
+    requireds: &[i64],
+    slacks: &[i64],
+    earliests: &[i64],
+) -> Result<()> {
+    for c in 0..arrivals.len() {
         say_copy(
+            out,
             c,
             time_at(arrivals, c),
             time_at(requireds, c),
             time_at(slacks, c),
             time_at(earliests, c),
-        );
-        c += 1;
+        )?;
     }
+    Ok(())
 }
 
-pub(crate) fn say_found(
+pub(crate) fn say_found<W: Write>(
+    out: &mut W,
     v: Verdict,
     arrivals: &[i64],
     requireds: &[i64],
     slacks: &[i64],
     earliests: &[i64],
-) {
+) -> Result<()> {
     match v {
-        Verdict::Passed => say_copies(arrivals, requireds, slacks, earliests),
-        Verdict::Refused(r) => say_refused(r),
+        Verdict::Passed => say_copies(out, arrivals, requireds, slacks, earliests),
+        Verdict::Refused(r) => say_refused(out, r),
     }
 }
 
 // The answer of `node_record`.
-pub(crate) fn say_answer(answer: NodeAnswer) {
+pub(crate) fn say_answer<W: Write>(out: &mut W, answer: NodeAnswer) -> Result<()> {
     match answer {
         NodeAnswer::Record(record) => {
-            text(b"record ");
-            print::number(record.node as u64);
-            text(b" ");
+            text(out, b"record ")?;
+            print::number(out, record.node as u64)?;
+            text(out, b" ")?;
             let times = record.times;
             match times {
                 NodeTimes::Times {
@@ -75,88 +97,105 @@ pub(crate) fn say_answer(answer: NodeAnswer) {
                     required,
                     slack,
                     earliest,
-                } => say_times(arrival, required, slack, earliest),
-                NodeTimes::None => text(b"none\n"),
+                } => say_times(out, arrival, required, slack, earliest),
+                NodeTimes::None => text(out, b"none\n"),
             }
         }
-        NodeAnswer::Refused(r) => say_refused(r),
+        NodeAnswer::Refused(r) => say_refused(out, r),
     }
 }
 
-fn say_node(v: usize, known: u32, arrival: i64, required: i64, slack: i64, earliest: i64) {
+fn say_node<W: Write>(
+    out: &mut W,
+    v: usize,
+    known: u32,
+    arrival: i64,
+    required: i64,
+    slack: i64,
+    earliest: i64,
+) -> Result<()> {
     if printed(v) {
-        text(b"node ");
-        print::number(v as u64);
-        text(b" ");
+        text(out, b"node ")?;
+        print::number(out, v as u64)?;
+        text(out, b" ")?;
         if known == 0 {
-            text(b"none\n");
+            text(out, b"none\n")?;
         } else {
-            say_times(arrival, required, slack, earliest);
+            say_times(out, arrival, required, slack, earliest)?;
         }
     }
+    Ok(())
 }
 
-fn say_nodes(known: &[u32], na: &[i64], nr: &[i64], ns: &[i64], ne: &[i64]) {
-    let mut v = 0;
-    while v < known.len() {
+fn say_nodes<W: Write>(
+    out: &mut W,
+    known: &[u32],
+    na: &[i64],
+    nr: &[i64],
+    ns: &[i64],
+    ne: &[i64],
+) -> Result<()> {
+    for v in 0..known.len() {
         say_node(
+            out,
             v,
             number_at(known, v),
             time_at(na, v),
             time_at(nr, v),
             time_at(ns, v),
             time_at(ne, v),
-        );
-        v += 1;
+        )?;
     }
+    Ok(())
 }
 
 // The answer of `node_records`.
-pub(crate) fn say_records(
+pub(crate) fn say_records<W: Write>(
+    out: &mut W,
     v: Verdict,
     known: &[u32],
     na: &[i64],
     nr: &[i64],
     ns: &[i64],
     ne: &[i64],
-) {
+) -> Result<()> {
     match v {
-        Verdict::Passed => say_nodes(known, na, nr, ns, ne),
-        Verdict::Refused(r) => say_refused(r),
+        Verdict::Passed => say_nodes(out, known, na, nr, ns, ne),
+        Verdict::Refused(r) => say_refused(out, r),
     }
 }
 
 // The answer of `late_or_not`.
-pub(crate) fn say_lateness(answer: Lateness) {
+pub(crate) fn say_lateness<W: Write>(out: &mut W, answer: Lateness) -> Result<()> {
     match answer {
         Lateness::Late { copy } => {
-            text(b"late ");
-            print::number(copy as u64);
-            text(b"\n");
+            text(out, b"late ")?;
+            print::number(out, copy as u64)?;
+            text(out, b"\n")
         }
-        Lateness::OnTime => text(b"on time\n"),
-        Lateness::Refused(r) => say_refused(r),
+        Lateness::OnTime => text(out, b"on time\n"),
+        Lateness::Refused(r) => say_refused(out, r),
     }
 }
 
-fn say_arrival(c: usize, arrival: i64) {
+fn say_arrival<W: Write>(out: &mut W, c: usize, arrival: i64) -> Result<()> {
     if printed(c) {
-        text(b" ");
-        print::time(arrival);
+        text(out, b" ")?;
+        print::time(out, arrival)?;
     }
+    Ok(())
 }
 
-fn say_places(arrivals: &[i64]) {
-    let mut c = 0;
-    while c < arrivals.len() {
-        say_arrival(c, time_at(arrivals, c));
-        c += 1;
+fn say_places<W: Write>(out: &mut W, arrivals: &[i64]) -> Result<()> {
+    for c in 0..arrivals.len() {
+        say_arrival(out, c, time_at(arrivals, c))?;
     }
+    Ok(())
 }
 
 // All places, also those that were not written.
-pub(crate) fn say_arrivals(arrivals: &[i64]) {
-    text(b"arrivals");
-    say_places(arrivals);
-    text(b"\n");
+pub(crate) fn say_arrivals<W: Write>(out: &mut W, arrivals: &[i64]) -> Result<()> {
+    text(out, b"arrivals")?;
+    say_places(out, arrivals)?;
+    text(out, b"\n")
 }

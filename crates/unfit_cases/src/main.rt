@@ -6,17 +6,22 @@
 
 use cases::{Slice, fill, unpack};
 use entries::{front, front_delays};
-use libc::STDIN_FILENO;
 use packed_lists::take_number;
 use print::{refused, text};
+use std::io::{BufWriter, Read, Result, Write};
 use timing::Verdict;
 
-fn say(v: Verdict) {
+// How many bytes a block of the input has, and how many blocks there are at most.
+const BLOCK: u64 = 65536;
+
+const BLOCKS: u32 = 3;
+
+fn say<W: Write>(out: &mut W, v: Verdict) -> Result<()> {
     match v {
-        Verdict::Passed => text(b"passed"),
-        Verdict::Refused(r) => refused(r),
+        Verdict::Passed => text(out, b"passed")?,
+        Verdict::Refused(r) => refused(out, r)?,
     }
-    text(b"\n");
+    text(out, b"\n")
 }
 
 // Delays from their packed numbers.
@@ -28,7 +33,8 @@ fn fill_delays(s: &[u8], at: usize, delays: &mut [i32]) -> Slice {
 }
 
 // Tests a deck whose list stands at a place, and answers the place behind it.
-fn test(
+fn test<W: Write>(
+    out: &mut W,
     s: &[u8],
     at: usize,
     n: u32,
@@ -38,27 +44,30 @@ fn test(
     early: &[i32],
     late: &[i32],
     marked: &[u32],
-) -> usize {
+) -> Result<usize> {
     let mut listed = [0u32; 8200];
     let mut lengths = [0u32; 1040];
     let a = fill(s, at, &mut listed);
     let b = fill(s, a.next, &mut lengths);
-    say(unfit::test_deck(
-        n,
-        starts,
-        ends,
-        early,
-        late,
-        marked,
-        front(&listed, a.len),
-        front(&lengths, b.len),
-        allowed,
-    ));
-    b.next
+    say(
+        out,
+        unfit::test_deck(
+            n,
+            starts,
+            ends,
+            early,
+            late,
+            marked,
+            front(&listed, a.len),
+            front(&lengths, b.len),
+            allowed,
+        ),
+    )?;
+    Ok(b.next)
 }
 
 // The same, with all of the deck at the place.
-fn case(s: &[u8], at: usize) -> usize {
+fn case<W: Write>(out: &mut W, s: &[u8], at: usize) -> Result<usize> {
     let n = take_number(s, at);
     let allowed = take_number(s, n.next);
     let mut starts = [0u32; 16400];
@@ -72,6 +81,7 @@ fn case(s: &[u8], at: usize) -> usize {
     let d = fill_delays(s, c.next, &mut late);
     let e = fill(s, d.next, &mut marked);
     test(
+        out,
         s,
         e.next,
         n.value,
@@ -84,24 +94,25 @@ fn case(s: &[u8], at: usize) -> usize {
     )
 }
 
-fn run(s: &[u8]) {
+fn run<W: Write>(out: &mut W, s: &[u8]) -> Result<()> {
     let count = take_number(s, 0);
     let mut at = count.next;
-    let mut i: u32 = 0;
-    while i < count.value {
-        at = case(s, at);
-        i += 1;
+    for _ in 0..count.value {
+        at = case(out, s, at)?;
     }
+    Ok(())
 }
 
-fn run_block() {
-    let mut input = io::large_buffer();
-    let len = io::read_full(STDIN_FILENO, &mut input);
-    run(&input[..len]);
+fn run_block<W: Write>(rt: &HostRuntime, out: &mut W) -> Result<()> {
+    let mut input = Vec::new(rt.alloc());
+    rt.stdin().take(BLOCK).read_to_end(&mut input)?;
+    run(out, &input)
 }
 
-fn main() {
-    run_block();
-    run_block();
-    run_block();
+fn main(rt: HostRuntime) -> Result<()> {
+    let mut out = BufWriter::new(rt.alloc(), rt.stdout())?;
+    for _ in 0..BLOCKS {
+        run_block(&rt, &mut out)?;
+    }
+    out.flush()
 }
