@@ -12,7 +12,7 @@ use Rattle.timing.specs.declared.GraphMade.TheVariants.{Counts}
 use Rattle.timing.specs.declared.Lateness.{Lateness}
 use Rattle.timing.specs.Graphs.{Design, edge_late, design_graph}
 use Rattle.timing.specs.TrueGraphs.{permitted_runs}
-use Rattle.timing.specs.Calls.{GraphSlices, slices_of, test_times, late_or_not, slack_of, arrivals_after, requireds_after, slacks_after, earliests_after, records_after}
+use Rattle.timing.specs.Calls.{GraphSlices, test_times, late_or_not, slack_of, arrivals_after, requireds_after, slacks_after, earliests_after, records_after}
 use Rattle.timing.specs.Series.{whole_after}
 use Rattle.timing.specs.Called.{removal_of, front, last_held}
 use Rattle.timing.specs.Late.{LateIff, SomeNegative, SomeLonger}

@@ -1,10 +1,10 @@
 -- Each call meets what `remove_from_design` or `remove_from_graph` says of it: that is what its contract says. So a series of calls ran as
 -- the definitions ask, and demand 3 follows.
-use mathlib.Core.Path.{◌≡◌, sym, subst}
+use mathlib.Core.Path.{◌≡◌, subst}
 use mathlib.Core.List.{List, [], ◌∷◌, map}
-use mathlib.Core.Option.{Option, none, some}
-use Rattle.timing.specs.Graphs.{Design, Graph}
-use Rattle.timing.specs.Calls.{GraphSlices, Outcome}
+use mathlib.Core.Option.{Option, none}
+use Rattle.timing.specs.Graphs.{Design}
+use Rattle.timing.specs.Calls.{GraphSlices}
 use Rattle.timing.specs.Called.{removal_of, Meets, remove_on, Ran, CalledDemand3}
 use Rattle.theorems.proofs.Called.{called_demand3}
 use Rattle.called.specs.Removals.{Call, on_design, on_graph, design_of, earlier_of, called_of, Follows}

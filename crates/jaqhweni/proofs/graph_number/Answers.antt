@@ -5,7 +5,6 @@ use mathlib.Core.Path.{◌∙◌, ap, sym, subst}
 use Rattle.timing.proofs.Ints.{read_back}
 use Rattle.timing.specs.Calls.{graph_number}
 use Rattle.true_graph.specs.Small.{SmallGraph}
-use borrow.Author.Rules.{rules}
 use Rattle.jaqhweni.proofs.graph_number.Goals as goal
 
 pub overflow_mul-edges : goal.overflow_mul-edges

@@ -3,7 +3,6 @@ use native.Mathlib.Omega.{arith}
 use mathlib.Core.Path.{◌∙◌}
 use Rattle.jaqhweni.proofs.Answers.{written_small, written_number}
 use Rattle.jaqhweni.proofs.SmallProgram.{small_program, call_is, room_is}
-use borrow.Author.Rules.{rules}
 use Rattle.jaqhweni.proofs.jaqhweni_true_graph.Goals as goal
 
 pub pack-written-requires : goal.pack-written-requires

@@ -2,7 +2,6 @@
 use native.Mathlib.Omega.{arith}
 use Rattle.jaqhweni.proofs.Answers.{written_small, written_number}
 use Rattle.jaqhweni.proofs.SmallProgram.{small_graph}
-use borrow.Author.Rules.{rules}
 use Rattle.jaqhweni.proofs.jaqhweni_write_graph.Goals as goal
 
 pub write_graph-written-requires : goal.write_graph-written-requires

@@ -5,7 +5,6 @@ use mathlib.Core.Path.{◌∙◌, ap, sym, subst}
 use Rattle.timing.proofs.Ints.{read_back}
 use Rattle.timing.specs.Calls.{lateness_number}
 use Rattle.true_graph.specs.Small.{SmallLateness}
-use borrow.Author.Rules.{rules}
 use Rattle.jaqhweni.proofs.lateness_number.Goals as goal
 
 pub overflow_add-copy : goal.overflow_add-copy

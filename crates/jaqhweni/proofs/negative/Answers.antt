@@ -6,7 +6,6 @@ use mir.Facts.{to_z-of_z}
 use native.Mathlib.Omega.{arith}
 use lib.IntN.{pos, neg_ℤ, ◌-ℤ◌}
 use Rattle.timing.proofs.Ints.{sub_parts, neg_up, neg_dn, eq_parts, sfits_parts, neg_nat}
-use borrow.Author.Rules.{rules}
 use Rattle.jaqhweni.proofs.negative.Goals as goal
 
 pub overflow_sub-result : goal.overflow_sub-result

@@ -2,7 +2,6 @@
 use mir.Syntax.{w64}
 use mir.Facts.{to_z_pos}
 use native.Mathlib.Omega.{arith}
-use borrow.Author.Rules.{rules}
 use Rattle.jaqhweni.proofs.positive.Goals as goal
 
 pub returns : goal.returns

@@ -3,7 +3,6 @@ use mathlib.Core.Path.{◌∙◌, ap, sym, subst}
 use Rattle.timing.proofs.Ints.{read_back}
 use Rattle.timing.specs.Calls.{verdict_number}
 use Rattle.true_graph.specs.Small.{Small}
-use borrow.Author.Rules.{rules}
 use Rattle.jaqhweni.proofs.verdict_number.Goals as goal
 
 pub refusal_number-requires : goal.refusal_number-requires

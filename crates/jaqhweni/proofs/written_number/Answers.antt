@@ -3,7 +3,6 @@ use mathlib.Core.Path.{◌∙◌, ap, sym, subst}
 use Rattle.timing.specs.Calls.{c_number}
 use Rattle.timing.proofs.Ints.{read_back}
 use Rattle.true_graph.specs.Small.{SmallWritten}
-use borrow.Author.Rules.{rules}
 use Rattle.jaqhweni.proofs.written_number.Goals as goal
 
 pub positive-requires : goal.positive-requires
