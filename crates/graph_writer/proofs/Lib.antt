@@ -1,2 +1,3 @@
 -- Laws of writing numbers one after the other.
+pub mod Chain
 pub mod Writing
