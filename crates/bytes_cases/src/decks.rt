@@ -5,7 +5,7 @@ use entries::{front, front_delays, least};
 use packed_lists::take_number;
 use print::{refused, text};
 use std::io::{Result, Write};
-use timing::{DeckRead, Written};
+use timing::{DeckCounts, Refusal};
 
 // How much of the tables a deck fills; nothing after a refusal.
 #[derive(Drop)]
@@ -79,16 +79,16 @@ fn say_deck<W: Write>(
 }
 
 // What the reader answered: n, the counts and T.
-fn say_answer<W: Write>(out: &mut W, answer: DeckRead) -> Result<Counts> {
+fn say_answer<W: Write>(out: &mut W, answer: Result<DeckCounts, Refusal>) -> Result<Counts> {
     match answer {
-        DeckRead::Deck {
+        Ok(DeckCounts {
             nodes,
             edges,
             listed,
             paths,
             marked,
             allowed,
-        } => {
+        }) => {
             text(out, b"deck")?;
             print::spaced(out, nodes as u64)?;
             print::spaced(out, edges as u64)?;
@@ -103,7 +103,7 @@ fn say_answer<W: Write>(out: &mut W, answer: DeckRead) -> Result<Counts> {
                 marked,
             })
         }
-        DeckRead::Refused(r) => {
+        Err(r) => {
             refused(out, r)?;
             Ok(Counts {
                 edges: 0,
@@ -128,7 +128,7 @@ fn write<W: Write>(
     lengths: &[u32],
     marked: &[u32],
     room: &mut [u8],
-) -> Result<Written> {
+) -> Result<Result<usize, Refusal>> {
     let w = deck_writer::write_deck(
         n, starts, ends, early, late, marked, listed, lengths, allowed, room,
     );
@@ -171,7 +171,7 @@ fn write_again<W: Write>(
 
 fn write_answer<W: Write>(
     out: &mut W,
-    r: DeckRead,
+    r: Result<DeckCounts, Refusal>,
     starts: &[u32],
     ends: &[u32],
     early: &[i32],
@@ -182,14 +182,14 @@ fn write_answer<W: Write>(
     size: usize,
 ) -> Result<()> {
     match r {
-        DeckRead::Deck {
+        Ok(DeckCounts {
             nodes,
             edges,
             listed: count,
             paths,
             marked: marked_count,
             allowed,
-        } => {
+        }) => {
             write_again(
                 out,
                 nodes,
@@ -204,7 +204,7 @@ fn write_answer<W: Write>(
                 size,
             )?;
         }
-        DeckRead::Refused(_) => {}
+        Err(_) => {}
     }
     Ok(())
 }
@@ -212,7 +212,7 @@ fn write_answer<W: Write>(
 // Prints what was read from so many bytes, and where it is asked for writes it again.
 fn say_read<W: Write>(
     out: &mut W,
-    r: DeckRead,
+    r: Result<DeckCounts, Refusal>,
     again: bool,
     size: usize,
     starts: &[u32],
@@ -376,7 +376,7 @@ fn write_and_read<W: Write>(
         out, n, allowed, starts, ends, early, late, listed, lengths, marked, room,
     )?;
     match w {
-        Written::End(end) => {
+        Ok(end) => {
             let len = least(end, room.len());
             read_back(
                 out,
@@ -387,7 +387,7 @@ fn write_and_read<W: Write>(
                 marked.len(),
             )?;
         }
-        Written::Refused(_) => {}
+        Err(_) => {}
     }
     Ok(())
 }

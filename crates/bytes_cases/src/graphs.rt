@@ -5,7 +5,7 @@ use entries::{front, least};
 use packed_lists::take_number;
 use print::{refused, text};
 use std::io::{Result, Write};
-use timing::{GraphMade, Written};
+use timing::{GraphCounts, Refusal};
 
 // How much of the room a graph fills; nothing after a refusal.
 #[derive(Drop)]
@@ -14,15 +14,15 @@ struct Counts {
     edges: usize,
 }
 
-fn say_answer<W: Write>(out: &mut W, answer: GraphMade) -> Result<Counts> {
+fn say_answer<W: Write>(out: &mut W, answer: Result<GraphCounts, Refusal>) -> Result<Counts> {
     match answer {
-        GraphMade::Counts { copies, edges } => {
+        Ok(GraphCounts { copies, edges }) => {
             text(out, b"graph")?;
             print::spaced(out, copies as u64)?;
             print::spaced(out, edges as u64)?;
             Ok(Counts { copies, edges })
         }
-        GraphMade::Refused(r) => {
+        Err(r) => {
             refused(out, r)?;
             Ok(Counts {
                 copies: 0,
@@ -61,7 +61,7 @@ fn write<W: Write>(
     to: &[u32],
     via: &[u32],
     room: &mut [u8],
-) -> Result<Written> {
+) -> Result<Result<usize, Refusal>> {
     let w = graph_writer::write_graph(nodes, endpoint, from, to, via, room);
     text(out, b"write ")?;
     say::written(out, w, room)?;
@@ -86,7 +86,7 @@ fn write_again<W: Write>(
 
 fn write_answer<W: Write>(
     out: &mut W,
-    r: GraphMade,
+    r: Result<GraphCounts, Refusal>,
     room_nodes: &[u32],
     room_endpoint: &[u32],
     room_from: &[u32],
@@ -95,7 +95,7 @@ fn write_answer<W: Write>(
     size: usize,
 ) -> Result<()> {
     match r {
-        GraphMade::Counts { copies, edges } => {
+        Ok(GraphCounts { copies, edges }) => {
             write_again(
                 out,
                 front(room_nodes, copies),
@@ -106,7 +106,7 @@ fn write_answer<W: Write>(
                 size,
             )?;
         }
-        GraphMade::Refused(_) => {}
+        Err(_) => {}
     }
     Ok(())
 }
@@ -114,7 +114,7 @@ fn write_answer<W: Write>(
 // Prints what was read from so many bytes, and where it is asked for writes it again.
 fn say_read<W: Write>(
     out: &mut W,
-    r: GraphMade,
+    r: Result<GraphCounts, Refusal>,
     again: bool,
     size: usize,
     room_nodes: &[u32],
@@ -260,11 +260,11 @@ fn write_and_read<W: Write>(
 ) -> Result<()> {
     let w = write(out, nodes, endpoint, from, to, via, room)?;
     match w {
-        Written::End(end) => {
+        Ok(end) => {
             let len = least(end, room.len());
             read_back(out, &room[..len], nodes.len(), from.len())?;
         }
-        Written::Refused(_) => {}
+        Err(_) => {}
     }
     Ok(())
 }

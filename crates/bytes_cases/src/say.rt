@@ -6,7 +6,7 @@ use entries::{front, least};
 use print::{refused, text};
 use std::io::{Result, Write};
 use std::num::wrapping_add_u32;
-use timing::Written;
+use timing::Refusal;
 
 pub(crate) const WORD: u32 = 0xA5A5A5A5;
 // Packed, it is the pattern of the words.
@@ -135,16 +135,16 @@ fn first_bytes<W: Write>(out: &mut W, s: &[u8], k: usize) -> Result<()> {
 }
 
 // What a writer answered, the bytes in the room, and how many of it are as before.
-pub(crate) fn written<W: Write>(out: &mut W, w: Written, room: &[u8]) -> Result<()> {
+pub(crate) fn written<W: Write>(out: &mut W, w: Result<usize, Refusal>, room: &[u8]) -> Result<()> {
     match w {
-        Written::End(end) => {
+        Ok(end) => {
             text(out, b"end ")?;
             print::number(out, end as u64)?;
             text(out, b":")?;
             first_bytes(out, room, end)?;
             kept(out, bytes_kept(room, end))
         }
-        Written::Refused(r) => {
+        Err(r) => {
             refused(out, r)?;
             kept(out, bytes_kept(room, 0))
         }

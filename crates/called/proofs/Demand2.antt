@@ -4,10 +4,11 @@ use Prim.Native.Nat.{ℕ}
 use mathlib.Core.Path.{◌≡◌, refl, sym, ap, ◌∙◌, subst}
 use mathlib.Core.List.{List, map}
 use mathlib.Core.Option.{Option, none, some}
+use Rattle.std.specs.Prelude.{Result, Ok, Err}
+use Rattle.timing.specs.Answers.{Counts}
+use Rattle.timing.specs.declared.GraphCounts.{GraphCounts}
+use Rattle.timing.specs.declared.Refusal.{Refusal}
 use lib.ListN.{length}
-use Rattle.timing.specs.declared.GraphMade.{GraphMade}
-use Rattle.timing.specs.declared.GraphMade.TheVariants.{Counts}
-use Rattle.timing.specs.declared.GraphMade.TheVariants.{Refused as NoGraph}
 use Rattle.timing.specs.Graphs.{Design, Graph, design_graph}
 use Rattle.timing.specs.Calls.{GraphSlices, graph_of, slices_of, Outcome, made, refused, graph_answer}
 use Rattle.timing.specs.Series.{held_after, whole_after}
@@ -21,9 +22,9 @@ use Rattle.called.specs.Removals.{Call, design_of, earlier_of, called_of, worked
 use Rattle.called.proofs.Series.{meets, ran}
 
 -- ---- a call that answered counts
-abbrev is_counts : GraphMade → Type 0
-is_counts (Counts k e) = Unit {0}
-is_counts (NoGraph r) = ⊥
+abbrev is_counts : Result GraphCounts Refusal → Type 0
+is_counts (Ok g) = Unit {0}
+is_counts (Err r) = ⊥
 
 made_of : (o : Outcome Graph) (k e : ℕ) → graph_answer o ≡ Counts k e → (H : Graph) × (o ≡ made H)
 made_of (made H) k e q = (H, refl)
@@ -36,9 +37,9 @@ slices_or S (some F) = F
 abbrev outcome_of : Call → Outcome Graph
 outcome_of c = remove_on (design_of c) (earlier_of c) (removal_of (called_of c))
 
-abbrev copies_in : GraphMade → ℕ
-copies_in (Counts k e) = k
-copies_in (NoGraph r) = 0
+abbrev copies_in : Result GraphCounts Refusal → ℕ
+copies_in (Ok g) = g.copies
+copies_in (Err r) = 0
 
 -- what a call made: a graph whose slices are the front of the room
 pub record MadeBy (c : Call) (k e : ℕ) : Type 0 where
@@ -55,7 +56,7 @@ made_by c k e a =
     record {
       graph = h.0;
       made = h.1;
-      slices = ap (slices_or (front k e (called_of c).after)) (ap (λ (x : GraphMade). held_slices x (called_of c).after none) (sym a) ∙ held);
+      slices = ap (slices_or (front k e (called_of c).after)) (ap (λ (x : Result GraphCounts Refusal). held_slices x (called_of c).after none) (sym a) ∙ held);
       copies = ap copies_in (sym a ∙ m.answer ∙ ap graph_answer h.1);
     }
 

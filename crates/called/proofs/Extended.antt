@@ -4,11 +4,11 @@ use Prim.Native.Nat.{ℕ, ◌<◌}
 use mathlib.Core.Path.{◌≡◌, sym, ap, ◌∙◌, subst}
 use mathlib.Core.List.{List, map}
 use mathlib.Core.Option.{Option}
+use Rattle.std.specs.Prelude.{Option, Ok}
+use Rattle.timing.specs.Answers.{Passed}
+use Rattle.timing.specs.declared.NodeTimes.{NodeTimes}
 use lib.IntN.{pos}
 use lib.ListN.{length, get_or}
-use Rattle.timing.specs.declared.Verdict.TheVariants.{Passed}
-use Rattle.timing.specs.declared.NodeTimes.{NodeTimes}
-use Rattle.timing.specs.declared.NodeAnswer.TheVariants.{Record}
 use Rattle.timing.specs.Graphs.{Design, edge_early, edge_late, Graph, design_graph}
 use Rattle.timing.specs.Calls.{GraphSlices, slices_of}
 use Rattle.timing.specs.Called.{removal_of, remove_on, front, graph_on}
@@ -33,7 +33,7 @@ call_same_graph D held a b d h e k = same_graph D held (called_of a) (called_of 
 
 -- ---- what the calls leave of a graph H whose slices `times` was lent, by the design and T that both runs share
 module _ {D : Design} {T : ℕ} {S : GraphSlices} (t : TimedOn D T S) (H : Graph) (made : S ≡ slices_of H) where
-  abbrev times_of : ℕ → NodeTimes
+  abbrev times_of : ℕ → Option NodeTimes
   times_of v = node_times_at (edge_early D) (edge_late D) (pos T) H D.nodes v
 
   graph_is : timed_graph t.times ≡ slices_of H
@@ -44,11 +44,11 @@ module _ {D : Design} {T : ℕ} {S : GraphSlices} (t : TimedOn D T S) (H : Graph
       copy_left_lem t.times H graph_is t.passed h k
       ∙ (λ i. copy_times_at (edge_early (t.design i)) (edge_late (t.design i)) (pos (t.allowed i)) H h)
 
-  timed_record : (c : RecordCall) → RecordAfter t.times c → c.answer ≡ Record (record { node = asked_node c; times = times_of (asked_node c) })
+  timed_record : (c : RecordCall) → RecordAfter t.times c → c.answer ≡ Ok (record { node = asked_node c; times = times_of (asked_node c) })
   timed_record c l =
       record_answered t.times H graph_is t.passed c l
       ∙ (λ i.
-      Record (record {
+      Ok (record {
         node = asked_node c;
         times = node_times_at (edge_early (t.design i)) (edge_late (t.design i)) (pos (t.allowed i)) H (t.design i).nodes (asked_node c);
       }))
@@ -83,7 +83,7 @@ module _ {D : Design} {T : ℕ} {S R : GraphSlices} (t : TimedOn D T S) (u : Tim
           g,
           subst (λ (F : GraphSlices). g < length F.nodes) (sym (graph_is t H made_h)) x.1.inside,
           ap (λ (F : GraphSlices). get_or F.nodes g 0) (graph_is t H made_h) ∙ x.1.node ∙ sym (ap (λ (F : GraphSlices). get_or F.nodes h 0) (graph_is u J made_j)),
-          subst (λ (y : NodeTimes). NoWorse y (copy_left u.times h)) (sym (timed_copy t H made_h g x.1.inside))
+          subst (λ (y : Option NodeTimes). NoWorse y (copy_left u.times h)) (sym (timed_copy t H made_h g x.1.inside))
               (subst (NoWorse (copy_times_at (edge_early D) (edge_late D) (pos T) H g)) (sym (timed_copy u J made_j h k))
               (copy_no_worse G K L more up H J shorter longer (edge_early D) (edge_late D) (pos T) h g k x.1)),
         );

@@ -5,11 +5,10 @@ use mathlib.Core.Path.{◌≡◌, refl, sym, ap, ◌∙◌, transport}
 use mathlib.Core.List.Memᴰ
 use mathlib.Core.List.{List, [], ◌∷◌, map, flat_map}
 use mathlib.Core.Option.{Option, none, some}
-use lib.IntN.{ℤ, pos}
-use Rattle.timing.specs.declared.Verdict.TheVariants.{Passed}
-use Rattle.timing.specs.declared.GraphMade.TheVariants.{Counts}
+use Rattle.std.specs.Prelude.{Option, Ok}
+use Rattle.timing.specs.Answers.{Passed, Counts}
 use Rattle.timing.specs.declared.NodeTimes.{NodeTimes}
-use Rattle.timing.specs.declared.NodeAnswer.TheVariants.{Record}
+use lib.IntN.{ℤ, pos}
 use Rattle.timing.specs.Graphs.{Design, design_graph, edges_in, edges_out, runs_from, complete_runs}
 use Rattle.timing.specs.Marks.{paths_of, permitted, tails, mark}
 use Rattle.timing.specs.TrueGraphs.{permitted_runs, copies, path_ends, joins, true_graph}
@@ -93,9 +92,9 @@ nodes_example =
     design_example.nodes (records_of shorter.timed.times) (records_of longer.timed.times) (records_on_lem shorter.timed.times places (map pos places)) (records_on_lem longer.timed.times places (map pos places))
     shorter_recorded longer_recorded
 
-pub node_example : (x : NodeTimes) × (y : NodeTimes)
-    × ((record_on shorter.timed.times 2).answer ≡ Record (record { node = 2; times = x }))
-    × ((record_on longer.timed.times 2).answer ≡ Record (record { node = 2; times = y })) × NoWorse x y
+pub node_example : (x : Option NodeTimes) × (y : Option NodeTimes)
+    × ((record_on shorter.timed.times 2).answer ≡ Ok (record { node = 2; times = x }))
+    × ((record_on longer.timed.times 2).answer ≡ Ok (record { node = 2; times = y })) × NoWorse x y
 node_example =
     design_example.node (record_on shorter.timed.times 2) (record_on longer.timed.times 2) (record_on_lem shorter.timed.times 2) (record_on_lem longer.timed.times 2) refl
 

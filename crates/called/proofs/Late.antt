@@ -4,12 +4,11 @@ use Prim.Native.Nat.{ℕ, ◌≤◌}
 use mathlib.Core.Path.{◌≡◌, sym, ap, ◌∙◌, subst}
 use mathlib.Core.List.{List, map}
 use mathlib.Core.Option.{none, some}
+use Rattle.std.specs.Prelude.{Option, Result}
+use Rattle.timing.specs.Answers.{Verdict, Passed, Counts}
+use Rattle.timing.specs.declared.Refusal.{Refusal}
 use lib.ListN.{length}
 use lib.IntN.{ℤ, pos}
-use Rattle.timing.specs.declared.Verdict.{Verdict}
-use Rattle.timing.specs.declared.Verdict.TheVariants.{Passed}
-use Rattle.timing.specs.declared.GraphMade.TheVariants.{Counts}
-use Rattle.timing.specs.declared.Lateness.{Lateness}
 use Rattle.timing.specs.Graphs.{Design, edge_late, design_graph}
 use Rattle.timing.specs.TrueGraphs.{permitted_runs}
 use Rattle.timing.specs.Calls.{GraphSlices, test_times, late_or_not, slack_of, arrivals_after, requireds_after, slacks_after, earliests_after, records_after}
@@ -54,8 +53,8 @@ module _ (t : TimesCall) (c : LateCall) (passed : t.answer ≡ Passed) (b : Besi
   earliests_are = t.learnt.4 ∙ ap (λ (v : Verdict). earliests_after D S v (earliests_lent t)) tested
 
   -- the answer and a slice, each as the definitions have it
-  told : (x : Lateness) (l s : List ℤ) → c.answer ≡ x → l ≡ s → LateIff x (SomeNegative s) → LateIff c.answer (SomeNegative l)
-  told x l s e q h = subst (λ (y : Lateness). LateIff y (SomeNegative l)) (sym e) (subst (λ (m : List ℤ). LateIff x (SomeNegative m)) (sym q) h)
+  told : (x : Result (Option ℕ) Refusal) (l s : List ℤ) → c.answer ≡ x → l ≡ s → LateIff x (SomeNegative s) → LateIff c.answer (SomeNegative l)
+  told x l s e q h = subst (λ (y : Result (Option ℕ) Refusal). LateIff y (SomeNegative l)) (sym e) (subst (λ (m : List ℤ). LateIff x (SomeNegative m)) (sym q) h)
 
   -- "The answer must be late if and only if the full times show a negative slack somewhere."
   pub call_late_slacks : LateIff c.answer (SomeNegative (slacks_left t))
@@ -77,7 +76,7 @@ pub call_late : (r : Call) (k e : ℕ) → (called_of r).answer ≡ Counts k e
     → LateIff c.answer (SomeLonger (edge_late (design_of r)) (pos (late_allowed c)) (permitted_runs (paths_in r) (worked_on r)))
 call_late r k e a c d g h q =
     let m = made_by r k e a in
-    subst (λ (x : Lateness). LateIff x (SomeLonger (edge_late (design_of r)) (pos (late_allowed c)) (permitted_runs (paths_in r) (worked_on r))))
+    subst (λ (x : Result (Option ℕ) Refusal). LateIff x (SomeLonger (edge_late (design_of r)) (pos (late_allowed c)) (permitted_runs (paths_in r) (worked_on r))))
     (sym (c.learnt.0 ∙ (λ i. late_or_not (d i) ((g ∙ m.slices) i) (late_allowed c) (late_places c))))
     (removed_late (design_of r) (earlier_of r) (removal_of (called_of r)) m.graph (late_allowed c) (late_places c) m.made h (q ∙ m.copies))
 
@@ -91,7 +90,7 @@ series_late cs S c f q g h p =
     let y = held-late (late_design c) (map removal_of (map called_of cs)) x.0 (late_allowed c) (late_places c) x.1 h (p ∙ ap (λ (F : GraphSlices). length F.nodes) x.2) in (
       y.0,
       y.1,
-      subst (λ (z : Lateness). LateIff z (SomeLonger (edge_late (late_design c)) (pos (late_allowed c)) (permitted_runs y.0 (design_graph (late_design c)))))
+      subst (λ (z : Result (Option ℕ) Refusal). LateIff z (SomeLonger (edge_late (late_design c)) (pos (late_allowed c)) (permitted_runs y.0 (design_graph (late_design c)))))
           (sym (c.learnt.0 ∙ ap (λ (F : GraphSlices). late_or_not (late_design c) F (late_allowed c) (late_places c)) (g ∙ x.2)))
           y.2,
     )

@@ -6,11 +6,11 @@ use native.Mathlib.Omega.{arith}
 use mathlib.Core.Path.{◌≡◌, refl, subst}
 use mathlib.Core.List.{List, [], ◌∷◌, map, flat_map}
 use mathlib.Core.Option.{none, some}
+use Rattle.std.specs.Prelude.{Option, Result}
+use Rattle.timing.specs.Answers.{Passed, Late, OnTime}
+use Rattle.timing.specs.declared.Refusal.{Refusal}
 use lib.ListN.{length}
 use lib.IntN.{ℤ, pos}
-use Rattle.timing.specs.declared.Verdict.TheVariants.{Passed}
-use Rattle.timing.specs.declared.Lateness.{Lateness}
-use Rattle.timing.specs.declared.Lateness.TheVariants.{Late, OnTime}
 use Rattle.timing.specs.Graphs.{Design, design_graph, edge_late, edges_in, edges_out, runs_to}
 use Rattle.timing.specs.TrueGraphs.{permitted_runs}
 use Rattle.timing.specs.Times.{arrival_at, late_copies}
@@ -31,7 +31,7 @@ use Rattle.called.proofs.TimesExample.{times_on, records_on, records_on_lem, hel
 -- what the definitions say of a call is a call
 abbrev late_on : Design → ℕ → GraphSlices → List ℤ → LateCall
 late_on D T S ats =
-    let x : Lateness = late_or_not D S T (length ats) in
+    let x : (Result (Option ℕ) Refusal) = late_or_not D S T (length ats) in
     record {
       lifetimes = ([], ([], ([], ([], ([], ([], ([], ([], ([], ([], ([], tt)))))))))));
       passed = (D.nodes, (lent D.starts, (lent D.ends, (lent D.early, (lent D.late, (lent D.marked, (T, (lent S.nodes, (lent S.endpoints, (lent S.starts, (lent S.ends, (lent S.names, (lent_mut ats, tt)))))))))))));
@@ -53,19 +53,19 @@ pub late_example : (L : List (List ℕ)) × (whole_after deck_a none (map remova
     × SomeLonger (edge_late deck_a) (pos 4) (permitted_runs L (design_graph deck_a))
 late_example =
     let x = series_late example.0 held (late_on deck_a 4 held six) example.1 is_held refl (omega arith) refl in
-    (x.0, x.1, subst (λ (a : Lateness). LateIff a (SomeLonger (edge_late deck_a) (pos 4) (permitted_runs x.0 (design_graph deck_a)))) late_with_4 x.2)
+    (x.0, x.1, subst (λ (a : Result (Option ℕ) Refusal). LateIff a (SomeLonger (edge_late deck_a) (pos 4) (permitted_runs x.0 (design_graph deck_a)))) late_with_4 x.2)
 
 -- and none longer than 10
 pub on_time_example : (L : List (List ℕ)) × (whole_after deck_a none (map removal_of (map called_of example.0)) ≡ some L)
     × (SomeLonger (edge_late deck_a) (pos 10) (permitted_runs L (design_graph deck_a)) → ⊥)
 on_time_example =
     let x = series_late example.0 held (late_on deck_a 10 held six) example.1 is_held refl (omega arith) refl in
-    (x.0, x.1, subst (λ (a : Lateness). LateIff a (SomeLonger (edge_late deck_a) (pos 10) (permitted_runs x.0 (design_graph deck_a)))) on_time_with_10 x.2)
+    (x.0, x.1, subst (λ (a : Result (Option ℕ) Refusal). LateIff a (SomeLonger (edge_late deck_a) (pos 10) (permitted_runs x.0 (design_graph deck_a)))) on_time_with_10 x.2)
 
 -- so no slack that `times` leaves with T 10 is below 0
 pub on_time_slacks : SomeNegative (slacks_left timed) → ⊥
 on_time_slacks =
-    subst (λ (a : Lateness). LateIff a (SomeNegative (slacks_left timed))) on_time_with_10
+    subst (λ (a : Result (Option ℕ) Refusal). LateIff a (SomeNegative (slacks_left timed))) on_time_with_10
     (call_late_slacks timed (late_on deck_a 10 held six) timed_passed (record { design = refl; graph = refl; allowed = refl; places = refl }))
 
 -- and with T 4 one is, of a copy and of a node
@@ -78,7 +78,7 @@ timed4_passed = refl
 
 pub late_slacks_example : SomeNegative (slacks_left timed4)
 late_slacks_example =
-    subst (λ (a : Lateness). LateIff a (SomeNegative (slacks_left timed4))) late_with_4
+    subst (λ (a : Result (Option ℕ) Refusal). LateIff a (SomeNegative (slacks_left timed4))) late_with_4
     (call_late_slacks timed4 (late_on deck_a 4 held six) timed4_passed (record { design = refl; graph = refl; allowed = refl; places = refl }))
 
 abbrev records4 : RecordsCall
@@ -90,6 +90,6 @@ records4_passed = refl
 
 pub late_records_example : SomeNegative (node_slacks_left records4)
 late_records_example =
-    subst (λ (a : Lateness). LateIff a (SomeNegative (node_slacks_left records4))) late_with_4
+    subst (λ (a : Result (Option ℕ) Refusal). LateIff a (SomeNegative (node_slacks_left records4))) late_with_4
     (call_late_records timed4 (late_on deck_a 4 held six) timed4_passed (record { design = refl; graph = refl; allowed = refl; places = refl })
     records4 records4_passed (records_on_lem timed4 (0 ∷ 0 ∷ 0 ∷ 0 ∷ 0 ∷ []) (pos 0 ∷ pos 0 ∷ pos 0 ∷ pos 0 ∷ pos 0 ∷ [])))

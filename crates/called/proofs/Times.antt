@@ -5,17 +5,14 @@ use mathlib.Core.Path.{◌≡◌, refl, sym, ap, ◌∙◌, subst}
 use mathlib.Core.Bool.{cond}
 use mathlib.Core.List.{List, map}
 use mathlib.Core.Option.{none, some}
+use Rattle.std.specs.Prelude.{Option, Ok, None}
+use Rattle.timing.specs.Answers.{Verdict, Passed, Counts, Times}
+use Rattle.timing.specs.declared.NodeTimes.{NodeTimes}
 use native.Mathlib.Omega.{arith}
 use lib.Dec.{eqb}
 use lib.ListN.{length, get_or}
 use lib.IntN.{ℤ, pos}
 use lib.Signed.{◌≤ℤ◌}
-use Rattle.timing.specs.declared.Verdict.{Verdict}
-use Rattle.timing.specs.declared.Verdict.TheVariants.{Passed}
-use Rattle.timing.specs.declared.GraphMade.TheVariants.{Counts}
-use Rattle.timing.specs.declared.NodeTimes.{NodeTimes}
-use Rattle.timing.specs.declared.NodeTimes.TheVariants.{Times, None}
-use Rattle.timing.specs.declared.NodeAnswer.TheVariants.{Record}
 use Rattle.timing.specs.Graphs.{Design, edge_early, edge_late, Edge, Graph, design_graph}
 use Rattle.timing.specs.TrueGraphs.{true_graph}
 use Rattle.timing.specs.Calls.{GraphSlices, slices_of, test_times, arrivals_after, requireds_after, slacks_after, earliests_after, record_of, records_after, has_times, arrival_of, required_of, slack_of, earliest_of}
@@ -88,7 +85,7 @@ module _ (t : TimesCall) (H : Graph) (lent : timed_graph t ≡ slices_of H) (pas
       ((a.slacks ∙ slacks_are) i) ((a.earliests ∙ earliests_are) i) (asked_node c))
 
   pub record_answered : (c : RecordCall) → RecordAfter t c
-      → c.answer ≡ Record (record { node = asked_node c; times = node_times_at (edge_early D) (edge_late D) (pos T) H D.nodes (asked_node c) })
+      → c.answer ≡ Ok (record { node = asked_node c; times = node_times_at (edge_early D) (edge_late D) (pos T) H D.nodes (asked_node c) })
   record_answered c a = record_is c a ∙ record_after_lem D H T ats rts sts ets tested (asked_node c)
 
   -- and `node_records` leaves the same of every node
@@ -103,14 +100,14 @@ module _ (t : TimesCall) (H : Graph) (lent : timed_graph t ≡ slices_of H) (pas
       let earliest = told (pos 0) earliest_of _ _ _ passes c.learnt.5 in
       (λ i. cond (eqb (known i) 1) (Times (arrival i) (required i) (slack i) (earliest i)) None) ∙ read_back x
     where
-      x : NodeTimes
+      x : Option NodeTimes
       x = node_times_at (edge_early D) (edge_late D) (pos T) H D.nodes v
 
-      read_back : (x : NodeTimes) → cond (eqb (has_times x) 1) (Times (arrival_of x) (required_of x) (slack_of x) (earliest_of x)) None ≡ x
+      read_back : (x : Option NodeTimes) → cond (eqb (has_times x) 1) (Times (arrival_of x) (required_of x) (slack_of x) (earliest_of x)) None ≡ x
       read_back (Times a r s e) = refl
       read_back None = refl
 
-      told : {A : Type 0} (z : A) (f : NodeTimes → A) (w : Verdict) (left room : List A) → w ≡ Passed
+      told : {A : Type 0} (z : A) (f : Option NodeTimes → A) (w : Verdict) (left room : List A) → w ≡ Passed
           → let l = c.passed in left ≡ records_after f l.0 l.1.0.now l.1.1.0.now l.1.1.1.0.now l.1.1.1.1.0.now l.1.1.1.1.1.0.now w room
           → get_or left v z ≡ f x
       told {A} z f w left room q e =
@@ -169,7 +166,7 @@ series_times cs S t f q g p =
 pub series_record : (cs : List Call) (S : GraphSlices) (t : TimesCall) (c : RecordCall) → Follows (timed_design t) none cs
     → last_held none (map called_of cs) ≡ some S → timed_graph t ≡ S → t.answer ≡ Passed → RecordAfter t c
     → (L : List (List ℕ)) × (whole_after (timed_design t) none (map removal_of (map called_of cs)) ≡ some L)
-    × ((x : NodeTimes) × (c.answer ≡ Record (record { node = asked_node c; times = x }))
+    × ((x : Option NodeTimes) × (c.answer ≡ Ok (record { node = asked_node c; times = x }))
     × PathTimes (edge_early (timed_design t)) (edge_late (timed_design t)) (pos (allowed_time t)) (PassesAt (timed_design t) L (asked_node c)) x)
 series_record cs S t c f q g p a =
     let x = held_by_lem (timed_design t) cs S f q in

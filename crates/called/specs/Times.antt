@@ -1,11 +1,11 @@
 -- Calls of `times`, `node_record` and `node_records` as a caller has them, with the `ensures` of their contracts as the toolchain takes these from
 -- the source.
-use Rattle.std.specs.Prelude.{ℕ, ◌≡◌, List, ℤ, pos, get_or}
+use Rattle.std.specs.Prelude.{ℕ, ◌≡◌, List, ℤ, pos, get_or, Option}
+use Rattle.timing.specs.Answers.{Times}
+use Rattle.timing.specs.declared.NodeTimes.{NodeTimes}
 use contract.Lifetimes.{Lfts}
 use borrow.Fn.World.{ArgsD, ResD}
 use denote.Triple.Clauses.{AtExit}
-use Rattle.timing.specs.declared.NodeTimes.{NodeTimes}
-use Rattle.timing.specs.declared.NodeTimes.TheVariants.{Times}
 use Rattle.timing.specs.Graphs.{Design, design, edge_early, edge_late, Edge}
 use Rattle.timing.specs.Calls.{GraphSlices, graph_slices}
 use Rattle.timing.specs.Demands.{PathBest}
@@ -61,7 +61,7 @@ abbrev pub earliests_left : TimesCall → List ℤ
 earliests_left c = c.left.1.1.1.1.1.1.1.1.1.1.1.1.1.1.1.0.now
 
 -- the four times left at copy h
-abbrev pub copy_left : TimesCall → ℕ → NodeTimes
+abbrev pub copy_left : TimesCall → ℕ → Option NodeTimes
 copy_left c h = Times (get_or (arrivals_left c) h (pos 0)) (get_or (requireds_left c) h (pos 0)) (get_or (slacks_left c) h (pos 0)) (get_or (earliests_left c) h (pos 0))
 
 -- the times left at copy h are those of the paths P, each cut into two parts
@@ -98,7 +98,7 @@ abbrev pub node_slacks_left : RecordsCall → List ℤ
 node_slacks_left c = c.left.1.1.1.1.1.1.1.1.1.0.now
 
 -- what it left of node v in its five slices: whether it has times, arrival, required time, slack, earliest arrival
-abbrev pub node_times_left : RecordsCall → ℕ → NodeTimes
+abbrev pub node_times_left : RecordsCall → ℕ → Option NodeTimes
 node_times_left c v = let l = c.left.1.1.1.1.1.1 in times_in l.0.now l.1.0.now l.1.1.0.now l.1.1.1.0.now l.1.1.1.1.0.now v
 
 -- either is lent n, the nodes of the copies, and the times that a call of `times` left

@@ -9,7 +9,7 @@ use entries::{front, front_delays, least};
 use lines::{put_graph, put_nodes, put_refused};
 use std::io::{Read, Result, Write};
 use text::{Text, flush};
-use timing::{DeckRead, GraphMade, MAX_DECK_BYTES, Verdict};
+use timing::{DeckCounts, GraphCounts, MAX_DECK_BYTES, Refusal, Verdict};
 use verdicts::refuse;
 
 fn put_records<W: Write>(
@@ -24,8 +24,8 @@ fn put_records<W: Write>(
     ne: &[i64],
 ) -> Result<usize> {
     match v {
-        Verdict::Passed => put_nodes(out, buf, at, known, na, nr, ns, ne),
-        Verdict::Refused(r) => put_refused(out, buf, at, r),
+        Ok(()) => put_nodes(out, buf, at, known, na, nr, ns, ne),
+        Err(r) => put_refused(out, buf, at, r),
     }
 }
 
@@ -104,7 +104,7 @@ fn say_found<W: Write>(
     earliests: &[i64],
 ) -> Result<usize> {
     match v {
-        Verdict::Passed => {
+        Ok(()) => {
             let at = put_graph(
                 out, buf, nodes, endpoint, arrivals, requireds, slacks, earliests, from, to, via,
             )?;
@@ -112,7 +112,7 @@ fn say_found<W: Write>(
                 out, buf, at, n, nodes, arrivals, requireds, slacks, earliests,
             )
         }
-        Verdict::Refused(r) => put_refused(out, buf, 0, r),
+        Err(r) => put_refused(out, buf, 0, r),
     }
 }
 
@@ -192,7 +192,7 @@ fn say_graph<W: Write>(
 fn say_made<W: Write>(
     out: &mut W,
     buf: &mut Text,
-    made: GraphMade,
+    made: Result<GraphCounts, Refusal>,
     n: u32,
     starts: &[u32],
     ends: &[u32],
@@ -207,8 +207,8 @@ fn say_made<W: Write>(
     room_via: &[u32],
 ) -> Result<usize> {
     match made {
-        GraphMade::Refused(r) => put_refused(out, buf, 0, r),
-        GraphMade::Counts { copies, edges } => say_graph(
+        Err(r) => put_refused(out, buf, 0, r),
+        Ok(GraphCounts { copies, edges }) => say_graph(
             out,
             buf,
             n,
@@ -299,7 +299,7 @@ fn say_deck<W: Write>(
     let verdict = unfit::test_deck(
         n, starts, ends, early, late, marked, listed, lengths, allowed,
     );
-    if let Verdict::Refused(r) = verdict {
+    if let Err(r) = verdict {
         return put_refused(out, buf, 0, r);
     }
     say_removal(
@@ -310,7 +310,7 @@ fn say_deck<W: Write>(
 fn say_read<W: Write>(
     out: &mut W,
     buf: &mut Text,
-    read: DeckRead,
+    read: Result<DeckCounts, Refusal>,
     starts: &[u32],
     ends: &[u32],
     early: &[i32],
@@ -320,15 +320,15 @@ fn say_read<W: Write>(
     marked: &[u32],
 ) -> Result<usize> {
     match read {
-        DeckRead::Refused(r) => put_refused(out, buf, 0, r),
-        DeckRead::Deck {
+        Err(r) => put_refused(out, buf, 0, r),
+        Ok(DeckCounts {
             nodes,
             edges,
             listed: count,
             paths,
             marked: marked_count,
             allowed,
-        } => say_deck(
+        }) => say_deck(
             out,
             buf,
             nodes,

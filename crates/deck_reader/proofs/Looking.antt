@@ -3,24 +3,19 @@ use Prim.Native.Nat.{ℕ, suc, ◌+◌, ◌-◌, ◌*◌, ◌≤◌, ◌<◌}
 use native.Mathlib.Omega.{arith}
 use mathlib.Core.Path.{◌≡◌, refl, sym, ◌∙◌, ap}
 use mathlib.Core.List.{List, ◌∷◌, ◌++◌}
+use Rattle.std.specs.Prelude.{Result, Ok, Err}
+use Rattle.timing.specs.Answers.{Verdict, Passed, Value}
+use Rattle.timing.specs.declared.Taken.{Taken}
 use lib.Dec.{leb}
 use lib.ListN.{length}
 use borrow.Author.Tests.{leb-true, le-leb, lt-leb}
 use Rattle.timing.specs.declared.Refusal.{Refusal}
-use Rattle.timing.specs.declared.Verdict.{Verdict}
-use Rattle.timing.specs.declared.Verdict.TheVariants.{Passed}
-use Rattle.timing.specs.declared.Verdict.TheVariants.{Refused as NotPassed}
-use Rattle.timing.specs.declared.NumberRead.{NumberRead}
-use Rattle.timing.specs.declared.NumberRead.TheVariants.{Value}
-use Rattle.timing.specs.declared.NumberRead.TheVariants.{Refused as NotRead}
 use Rattle.timing.specs.Marks.{PathList, path_list}
 use Rattle.timing.specs.Numbers.{read_number}
 use Rattle.timing.specs.Refusals.{refusal, unless, ◌then◌}
 use Rattle.timing.specs.Parsing.{Parsed, found, stopped, Reader, onward, ◌>>=◌, ◌>>◌, return, tested, parsed_number, number, repeated, ended}
 use Rattle.timing.specs.Tests.{marked_count}
 use Rattle.timing.specs.Decks.{Deck, Tables, edge_row, design_of, paths, read_deck}
-use Rattle.timing.specs.declared.Looked.{Looked}
-use Rattle.timing.specs.declared.Looked.TheVariants.{At, Refused}
 use Rattle.timing.specs.Looks.{looked, number_of, value_of, value_at}
 use Rattle.deck_reader.specs.Reading.{verdict_of, nodes_in, count_in, path_in, edges_in, design_in, list_in, marked_count_in, marked_in, lists_in, tail_in, place_of, behind, verdict_behind}
 use Rattle.timing.proofs.Verdicts.{then_passed, unless_passed}
@@ -53,7 +48,7 @@ path_small s table sum at v next e = one (read_number s at) e
     kept n (found xs a) q = cc
     kept n (stopped r) q = absurd (never r q)
       where
-        never : (r : Refusal) → NotRead r ≡ Value v next → ⊥
+        never : (r : Refusal) → Err r ≡ Value v next → ⊥
         never r q = let z : ◌≡◌ {A = ℕ} 0 1 = cc in omega arith
 
     two : (n a : ℕ) (w : Verdict) → (unless 21 (leb (sum + n) 8192) then unless 36 (leb (sum + n) table)) ≡ w
@@ -61,11 +56,11 @@ path_small s table sum at v next e = one (read_number s at) e
     two n a Passed f q =
         let k = kept n (repeated n (number s) a) q in
         omega (arith, count_passed 21 sum n 8192 table f)
-    two n a (NotPassed r) f q = absurd (let z : ◌≡◌ {A = ℕ} 0 1 = cc in omega arith)
+    two n a (Err r) f q = absurd (let z : ◌≡◌ {A = ℕ} 0 1 = cc in omega arith)
 
-    one : (r : NumberRead) → number_of (onward (onward (parsed_number r) (λ n. tested (unless 21 (leb (sum + n) 8192) then unless 36 (leb (sum + n) table)) >> return n)) (λ n. repeated n (number s) >>= (λ p. return n))) ≡ Value v next → sum + v ≤ 8192
+    one : (r : Result Taken Refusal) → number_of (onward (onward (parsed_number r) (λ n. tested (unless 21 (leb (sum + n) 8192) then unless 36 (leb (sum + n) table)) >> return n)) (λ n. repeated n (number s) >>= (λ p. return n))) ≡ Value v next → sum + v ≤ 8192
     one (Value n a) q = two n a (unless 21 (leb (sum + n) 8192) then unless 36 (leb (sum + n) table)) refl q
-    one (NotRead r) q = absurd (let z : ◌≡◌ {A = ℕ} 0 1 = cc in omega arith)
+    one (Err r) q = absurd (let z : ◌≡◌ {A = ℕ} 0 1 = cc in omega arith)
 
 -- a path from its length and the place behind its edges
 pub path_is : (s : List ℕ) (table sum at v next : ℕ) → number_of (count_in s sum 21 8192 table at) ≡ Value v next
@@ -79,36 +74,36 @@ path_is s table sum at v next e = by (count_in s sum 21 8192 table at) e
         rw (f, g)
     by (stopped r) q = absurd (let z : ◌≡◌ {A = ℕ} 0 1 = cc in omega arith)
 
-pub path_at : (v after : ℕ) (p : Parsed (List ℕ)) → At after ≡ looked p → Value v after ≡ number_of (onward p (λ xs. return v))
+pub path_at : (v after : ℕ) (p : Parsed (List ℕ)) → Ok after ≡ looked p → Value v after ≡ number_of (onward p (λ xs. return v))
 path_at v after (found xs a) e = let f : after ≡ a = cc in rw f
 path_at v after (stopped r) e = absurd (let z : ◌≡◌ {A = ℕ} 0 1 = cc in omega arith)
 
-pub path_stop : (v : ℕ) (q : Refusal) (p : Parsed (List ℕ)) → Refused q ≡ looked p → NotRead q ≡ number_of (onward p (λ xs. return v))
+pub path_stop : (v : ℕ) (q : Refusal) (p : Parsed (List ℕ)) → Err q ≡ looked p → Err q ≡ number_of (onward p (λ xs. return v))
 path_stop v q (found xs a) e = absurd (let z : ◌≡◌ {A = ℕ} 0 1 = cc in omega arith)
 path_stop v q (stopped r) e = let f : q ≡ r = cc in rw f
 
-pub path_none : (s : List ℕ) (table sum at : ℕ) (q : Refusal) → number_of (count_in s sum 21 8192 table at) ≡ NotRead q → NotRead q ≡ number_of (path_in s table sum at)
+pub path_none : (s : List ℕ) (table sum at : ℕ) (q : Refusal) → number_of (count_in s sum 21 8192 table at) ≡ Err q → Err q ≡ number_of (path_in s table sum at)
 path_none s table sum at q e = by (count_in s sum 21 8192 table at) e
   where
-    by : (p : Parsed ℕ) → number_of p ≡ NotRead q → NotRead q ≡ number_of (onward p (λ n. repeated n (number s) >>= (λ p. return n)))
+    by : (p : Parsed ℕ) → number_of p ≡ Err q → Err q ≡ number_of (onward p (λ n. repeated n (number s) >>= (λ p. return n)))
     by (found n a) f = absurd (let z : ◌≡◌ {A = ℕ} 0 1 = cc in omega arith)
     by (stopped r) f = let g : q ≡ r = cc in rw g
 
 -- Paths: the first, then the rest from the sum on.
-path_first : (r : NumberRead) (test : ℕ → Verdict) (edges : ℕ → Reader (List ℕ)) (rest : ℕ → Reader PathList)
+path_first : (r : Result Taken Refusal) (test : ℕ → Verdict) (edges : ℕ → Reader (List ℕ)) (rest : ℕ → Reader PathList)
     → looked (onward (parsed_number r) (λ n. tested (test n) >> (edges n >>= (λ p. rest n >>= (λ l. return (path_list (p ++ l.edges) (n ∷ l.lengths)))))))
     ≡ looked (onward (onward (onward (parsed_number r) (λ n. tested (test n) >> return n)) (λ n. edges n >>= (λ p. return n))) rest)
-path_first (NotRead q) test edges rest = refl
-path_first (Value n next) test edges rest = two (test n)
+path_first (Err q) test edges rest = refl
+path_first (Ok t) test edges rest = two (test t.value)
   where
-    three : (q : Parsed (List ℕ)) → looked (onward q (λ p. rest n >>= (λ l. return (path_list (p ++ l.edges) (n ∷ l.lengths))))) ≡ looked (onward (onward q (λ p. return n)) rest)
-    three (found p a) = looked_made (rest n a) (λ (l : PathList). path_list (p ++ l.edges) (n ∷ l.lengths))
+    three : (q : Parsed (List ℕ)) → looked (onward q (λ p. rest t.value >>= (λ l. return (path_list (p ++ l.edges) (t.value ∷ l.lengths))))) ≡ looked (onward (onward q (λ p. return t.value)) rest)
+    three (found p a) = looked_made (rest t.value a) (λ (l : PathList). path_list (p ++ l.edges) (t.value ∷ l.lengths))
     three (stopped e) = refl
 
-    two : (w : Verdict) → looked (onward (tested w next) (λ u. edges n >>= (λ p. rest n >>= (λ l. return (path_list (p ++ l.edges) (n ∷ l.lengths))))))
-        ≡ looked (onward (onward (onward (tested w next) (λ u. return n)) (λ n. edges n >>= (λ p. return n))) rest)
-    two Passed = three (edges n next)
-    two (NotPassed e) = refl
+    two : (w : Verdict) → looked (onward (tested w t.next) (λ u. edges t.value >>= (λ p. rest t.value >>= (λ l. return (path_list (p ++ l.edges) (t.value ∷ l.lengths))))))
+        ≡ looked (onward (onward (onward (tested w t.next) (λ u. return t.value)) (λ t.value. edges t.value >>= (λ p. return t.value))) rest)
+    two Passed = three (edges t.value t.next)
+    two (Err e) = refl
 
 pub paths_first : (s : List ℕ) (table k sum at : ℕ) → looked (paths s table (suc k) sum at) ≡ looked (onward (path_in s table sum at) (λ n. paths s table k (sum + n)))
 paths_first s table k sum at = path_first (read_number s at) (λ n. unless 21 (leb (sum + n) 8192) then unless 36 (leb (sum + n) table)) (λ n. repeated n (number s)) (λ n. paths s table k (sum + n))
@@ -126,13 +121,13 @@ paths_turn s table count k sum at v next h e =
         rw (f, g)
     by (stopped r) q = absurd (let z : ◌≡◌ {A = ℕ} 0 1 = cc in omega arith)
 
-pub paths_stop : (s : List ℕ) (table count k sum at : ℕ) (r : Refusal) → k < count → number_of (path_in s table sum at) ≡ NotRead r
-    → Refused r ≡ looked (paths s table (count - k) sum at)
+pub paths_stop : (s : List ℕ) (table count k sum at : ℕ) (r : Refusal) → k < count → number_of (path_in s table sum at) ≡ Err r
+    → Err r ≡ looked (paths s table (count - k) sum at)
 paths_stop s table count k sum at r h e =
     let d : count - k ≡ suc (count - (k + 1)) = omega arith in
     rw d (by (path_in s table sum at) e ∙ sym (paths_first s table (count - (k + 1)) sum at))
   where
-    by : (p : Parsed ℕ) → number_of p ≡ NotRead r → Refused r ≡ looked (onward p (λ n. paths s table (count - (k + 1)) (sum + n)))
+    by : (p : Parsed ℕ) → number_of p ≡ Err r → Err r ≡ looked (onward p (λ n. paths s table (count - (k + 1)) (sum + n)))
     by (found n a) q = absurd (let z : ◌≡◌ {A = ℕ} 0 1 = cc in omega arith)
     by (stopped q') q = let f : r ≡ q' = cc in rw f
 
@@ -141,14 +136,14 @@ paths_all s table count at =
     let d : count - 0 ≡ count = omega arith in
     rw d
 
-pub paths_end : (s : List ℕ) (table count k sum at : ℕ) → count ≤ k → At at ≡ looked (paths s table (count - k) sum at)
+pub paths_end : (s : List ℕ) (table count k sum at : ℕ) → count ≤ k → Ok at ≡ looked (paths s table (count - k) sum at)
 paths_end s table count k sum at h =
     let d : count - k ≡ 0 = omega arith in
     rw d
 
 -- what stands behind a count, by what the look at the count answered
 module _ {B : Type 0} (p : Parsed ℕ) (f : ℕ → Reader B) where
-  pub number_at : (n at : ℕ) (l : Looked) → number_of p ≡ Value n at → l ≡ looked (f n at) → l ≡ looked (onward p f)
+  pub number_at : (n at : ℕ) (l : Result ℕ Refusal) → number_of p ≡ Value n at → l ≡ looked (f n at) → l ≡ looked (onward p f)
   number_at n at l e g = by p e
     where
       by : (p : Parsed ℕ) → number_of p ≡ Value n at → l ≡ looked (onward p f)
@@ -158,10 +153,10 @@ module _ {B : Type 0} (p : Parsed ℕ) (f : ℕ → Reader B) where
           rw (← d, ← b) g
       by (stopped r) q = absurd (let z : ◌≡◌ {A = ℕ} 0 1 = cc in omega arith)
 
-  pub number_stop : (r : Refusal) → number_of p ≡ NotRead r → Refused r ≡ looked (onward p f)
+  pub number_stop : (r : Refusal) → number_of p ≡ Err r → Err r ≡ looked (onward p f)
   number_stop r e = by p e
     where
-      by : (p : Parsed ℕ) → number_of p ≡ NotRead r → Refused r ≡ looked (onward p f)
+      by : (p : Parsed ℕ) → number_of p ≡ Err r → Err r ≡ looked (onward p f)
       by (found x a) q = absurd (let z : ◌≡◌ {A = ℕ} 0 1 = cc in omega arith)
       by (stopped r') q = let d : r ≡ r' = cc in rw d
 
@@ -169,7 +164,7 @@ module _ {B : Type 0} (p : Parsed ℕ) (f : ℕ → Reader B) where
 edge_spans : (s : List ℕ) → Spans s 4 (edge_row s)
 edge_spans s = spans_number s 3 _ (λ a. spans_number s 2 _ (λ b. spans_number s 1 _ (λ c. spans_number s 0 _ (λ d at. refl))))
 
-pub edges_at : (s : List ℕ) (table at m next : ℕ) (l : Looked) → number_of (count_in s 0 11 16384 table at) ≡ Value m next → l ≡ looked (repeated (4 * m) (number s) next) → l ≡ looked (edges_in s table at)
+pub edges_at : (s : List ℕ) (table at m next : ℕ) (l : Result ℕ Refusal) → number_of (count_in s 0 11 16384 table at) ≡ Value m next → l ≡ looked (repeated (4 * m) (number s) next) → l ≡ looked (edges_in s table at)
 edges_at s table at m next l e h =
     number_at (count_in s 0 11 16384 table at) (λ m. repeated m (edge_row s)) m next l e (h ∙ sym (spans_rows s 4 (edge_row s) (edge_spans s) m next))
 
@@ -178,7 +173,7 @@ pub nodes_is : (s : List ℕ) (at v next : ℕ) (w : Verdict) → read_number s 
     → number_of (onward (tested w next) (λ x. return v)) ≡ number_of (nodes_in s at)
 nodes_is s at v next w e f = rw (f, e)
 
-pub nodes_none : (s : List ℕ) (at : ℕ) (r : Refusal) → read_number s at ≡ NotRead r → NotRead r ≡ number_of (nodes_in s at)
+pub nodes_none : (s : List ℕ) (at : ℕ) (r : Refusal) → read_number s at ≡ Err r → Err r ≡ number_of (nodes_in s at)
 nodes_none s at r e = rw e
 
 -- the count of marked nodes, by what was read
@@ -186,24 +181,24 @@ pub marked_is : (s : List ℕ) (n table at v next count : ℕ) (u w : Verdict) �
     → u ≡ marked_count n count → w ≡ (u then unless 36 (leb count table)) → number_of (onward (tested w next) (λ x. return v)) ≡ number_of (marked_count_in s n table at)
 marked_is s n table at v next count u w e f g h = rw (h, g, f, e)
 
-pub marked_none : (s : List ℕ) (n table at : ℕ) (r : Refusal) → read_number s at ≡ NotRead r → NotRead r ≡ number_of (marked_count_in s n table at)
+pub marked_none : (s : List ℕ) (n table at : ℕ) (r : Refusal) → read_number s at ≡ Err r → Err r ≡ number_of (marked_count_in s n table at)
 marked_none s n table at r e = rw e
 
 -- what stands behind a part, by what the look at the part answered
 module _ {A B : Type 0} (p : Parsed A) (f : Reader B) where
-  pub part_at : (at : ℕ) (l : Looked) → looked p ≡ At at → l ≡ looked (f at) → l ≡ looked (onward p (λ x. f))
+  pub part_at : (at : ℕ) (l : Result ℕ Refusal) → looked p ≡ Ok at → l ≡ looked (f at) → l ≡ looked (onward p (λ x. f))
   part_at at l e g = by p e
     where
-      by : (p : Parsed A) → looked p ≡ At at → l ≡ looked (onward p (λ x. f))
+      by : (p : Parsed A) → looked p ≡ Ok at → l ≡ looked (onward p (λ x. f))
       by (found x a) q =
           let b : at ≡ a = cc in
           rw (← b) g
       by (stopped r) q = absurd (let z : ◌≡◌ {A = ℕ} 0 1 = cc in omega arith)
 
-  pub part_stop : (r : Refusal) → looked p ≡ Refused r → Refused r ≡ looked (onward p (λ x. f))
+  pub part_stop : (r : Refusal) → looked p ≡ Err r → Err r ≡ looked (onward p (λ x. f))
   part_stop r e = by p e
     where
-      by : (p : Parsed A) → looked p ≡ Refused r → Refused r ≡ looked (onward p (λ x. f))
+      by : (p : Parsed A) → looked p ≡ Err r → Err r ≡ looked (onward p (λ x. f))
       by (found x a) q = absurd (let z : ◌≡◌ {A = ℕ} 0 1 = cc in omega arith)
       by (stopped r') q = let d : r ≡ r' = cc in rw d
 
@@ -224,14 +219,14 @@ counted {A} {B} s test limit table at f g h = one (read_number s at)
   where
     two : (n a : ℕ) (w : Verdict) → verdict_of (onward (onward (tested w a) (λ u. return n)) f) ≡ verdict_of (onward (tested w a) (λ u. g n))
     two n a Passed = h n a
-    two n a (NotPassed r) = refl
+    two n a (Err r) = refl
 
-    one : (r : NumberRead) → verdict_of (onward (onward (parsed_number r) (λ n. tested (unless test (leb (0 + n) limit) then unless 36 (leb (0 + n) table)) >> return n)) f)
+    one : (r : Result Taken Refusal) → verdict_of (onward (onward (parsed_number r) (λ n. tested (unless test (leb (0 + n) limit) then unless 36 (leb (0 + n) table)) >> return n)) f)
         ≡ verdict_of (onward (parsed_number r) (λ n. tested (unless test (leb n limit) then unless 36 (leb n table)) >> g n))
     one (Value n a) =
         let d : 0 + n ≡ n = omega arith in
         rw d (two n a (unless test (leb n limit) then unless 36 (leb n table)))
-    one (NotRead r) = refl
+    one (Err r) = refl
 
 -- a number with a test of its own, which is the number that stands there
 judged : {A B : Type 0} (s : List ℕ) (at : ℕ) (test : ℕ → Verdict) (f : ℕ → Reader A) (g : ℕ → Reader B) → ((n a : ℕ) → value_at s at ≡ n → verdict_of (f n a) ≡ verdict_of (g n a))
@@ -241,11 +236,11 @@ judged {A} {B} s at test f g h = one (read_number s at) refl
   where
     two : (n a : ℕ) (w : Verdict) → value_of (read_number s at) ≡ n → verdict_of (onward (onward (tested w a) (λ u. return n)) f) ≡ verdict_of (onward (tested w a) (λ u. g n))
     two n a Passed e = h n a e
-    two n a (NotPassed r) e = refl
+    two n a (Err r) e = refl
 
-    one : (r : NumberRead) → read_number s at ≡ r → verdict_of (onward (onward (parsed_number r) (λ n. tested (test n) >> return n)) f) ≡ verdict_of (onward (parsed_number r) (λ n. tested (test n) >> g n))
+    one : (r : Result Taken Refusal) → read_number s at ≡ r → verdict_of (onward (onward (parsed_number r) (λ n. tested (test n) >> return n)) f) ≡ verdict_of (onward (parsed_number r) (λ n. tested (test n) >> g n))
     one (Value n a) q = two n a (test n) (ap value_of q)
-    one (NotRead r) q = refl
+    one (Err r) q = refl
 
 tail_made : {A : Type 0} (s : List ℕ) (at : ℕ) (f : ℕ → A) → verdict_of (tail_in s at) ≡ verdict_of ((number s >>= (λ t. ended s >> return (f t))) at)
 tail_made {A} s at f = verdict_onward (number s at) (λ t. ended s) (λ t. ended s >> return (f t)) (λ t a. by t (ended s a))
@@ -297,11 +292,11 @@ look_is s tables =
 pub tail_end : (s : List ℕ) (at v next : ℕ) → read_number s at ≡ Value v next → length s ≤ next → Passed ≡ verdict_of (tail_in s at)
 tail_end s at v next e h = rw (e, le-leb (length s) next h)
 
-pub tail_more : (s : List ℕ) (at v next : ℕ) (q : Refusal) → read_number s at ≡ Value v next → next < length s → q ≡ refusal 3 next → NotPassed q ≡ verdict_of (tail_in s at)
+pub tail_more : (s : List ℕ) (at v next : ℕ) (q : Refusal) → read_number s at ≡ Value v next → next < length s → q ≡ refusal 3 next → Err q ≡ verdict_of (tail_in s at)
 tail_more s at v next q e h f = rw (e, lt-leb (length s) next h, f)
 
-pub tail_stop : (s : List ℕ) (at : ℕ) (r : Refusal) → read_number s at ≡ NotRead r → NotPassed r ≡ verdict_of (tail_in s at)
+pub tail_stop : (s : List ℕ) (at : ℕ) (r : Refusal) → read_number s at ≡ Err r → Err r ≡ verdict_of (tail_in s at)
 tail_stop s at r e = rw e
 
-pub count_none : (s : List ℕ) (sum test limit table at : ℕ) (r : Refusal) → read_number s at ≡ NotRead r → NotRead r ≡ number_of (count_in s sum test limit table at)
+pub count_none : (s : List ℕ) (sum test limit table at : ℕ) (r : Refusal) → read_number s at ≡ Err r → Err r ≡ number_of (count_in s sum test limit table at)
 count_none s sum test limit table at r e = rw e

@@ -4,26 +4,21 @@ use native.Mathlib.Omega.{arith}
 use native.Mathlib.Numerals.{add-one}
 use mathlib.Core.Path.{◌≡◌, refl, sym, ◌∙◌, ap}
 use mathlib.Core.List.{List, ◌∷◌, ◌++◌, map}
+use Rattle.std.specs.Prelude.{Result, Err}
+use Rattle.timing.specs.Answers.{Verdict, Passed, Value, DeckFound}
+use Rattle.timing.specs.declared.Taken.{Taken}
+use Rattle.timing.specs.declared.DeckCounts.{DeckCounts}
 use lib.Dec.{leb}
 use lib.IntN.{ℤ}
 use lib.ListN.{length, set, drop, length-append, length-map}
 use lib.Seq.{sets, sets-eq}
 use Rattle.timing.specs.declared.Refusal.{Refusal}
-use Rattle.timing.specs.declared.Verdict.{Verdict}
-use Rattle.timing.specs.declared.Verdict.TheVariants.{Passed}
-use Rattle.timing.specs.declared.Verdict.TheVariants.{Refused as NotPassed}
-use Rattle.timing.specs.declared.NumberRead.{NumberRead}
-use Rattle.timing.specs.declared.NumberRead.TheVariants.{Value}
-use Rattle.timing.specs.declared.NumberRead.TheVariants.{Refused as NotRead}
-use Rattle.timing.specs.declared.DeckRead.{DeckRead}
-use Rattle.timing.specs.declared.DeckRead.TheVariants.{Deck as DeckFound}
 use Rattle.timing.specs.Lists.{placed}
 use Rattle.timing.specs.Marks.{PathList, path_list}
 use Rattle.timing.specs.Numbers.{read_number}
 use Rattle.timing.specs.Refusals.{unless, ◌then◌}
 use Rattle.timing.specs.Parsing.{Parsed, found, stopped, Reader, onward, ◌>>=◌, ◌>>◌, return, tested, parsed_number, number, repeated, ended}
 use Rattle.timing.specs.Decks.{Deck, Tables, EdgeRow, edge_row, design_of, paths, read_deck}
-use Rattle.timing.specs.declared.DeckRead.TheVariants.{Refused as NoDeck}
 use Rattle.timing.specs.Tests.{edge_sizes, marked_count}
 use Rattle.timing.specs.Calls.{Outcome, made, refused, parsed, filled, deck_read, deck_answer}
 use Rattle.timing.specs.Looks.{value_of, next_of, value_at, next_at}
@@ -49,16 +44,16 @@ is_number : (s : List ℕ) (at : ℕ) → Is (NumberIs s at) (number s at)
 unfolding value_at next_at
 is_number s at = by (read_number s at)
   where
-    by : (r : NumberRead) → Is (λ x next. (x ≡ value_of r) × (next ≡ next_of at r)) (parsed_number r)
+    by : (r : Result Taken Refusal) → Is (λ x next. (x ≡ value_of r) × (next ≡ next_of at r)) (parsed_number r)
     by (Value v next) = (refl, refl)
-    by (NotRead r) = tt
+    by (Err r) = tt
 
 abbrev pub TestIs : Verdict → ℕ → Unit {0} → ℕ → Type 0
 TestIs v at u next = (v ≡ Passed) × (next ≡ at)
 
 pub is_tested : (v : Verdict) (at : ℕ) → Is (TestIs v at) (tested v at)
 is_tested Passed at = (refl, refl)
-is_tested (NotPassed r) at = tt
+is_tested (Err r) at = tt
 
 abbrev NumbersIs : List ℕ → ℕ → ℕ → List ℕ → ℕ → Type 0
 NumbersIs s k at xs next = (xs ≡ numbers_from s k at) × (next ≡ numbers_end s k at)
@@ -207,7 +202,7 @@ read_passed s tables e = by (read_deck s tables) e (is_deck s tables)
     by (found d at) q h = (ap made h.0, h.1)
     by (stopped r) q h = absurd (let z : ◌≡◌ {A = ℕ} 0 1 = cc in omega arith)
 
-pub read_refused : (p : Parsed Deck) (r : Refusal) → verdict_of p ≡ NotPassed r → parsed p ≡ refused r
+pub read_refused : (p : Parsed Deck) (r : Refusal) → verdict_of p ≡ Err r → parsed p ≡ refused r
 read_refused (found d at) r e = absurd (let z : ◌≡◌ {A = ℕ} 0 1 = cc in omega arith)
 read_refused (stopped q) r e = let d : q ≡ r = cc in ap refused d
 
@@ -373,11 +368,11 @@ module _ (s : List ℕ) (next : ℕ) (behind : next ≡ count_place s 0) where
 
 -- The reader as a whole: 30, then a refusal by the look, then the deck.
 module _ (s : List ℕ) (starts ends early late listed lengths marked : ℕ) where
-  pub read_sizes : (r : Refusal) → edge_sizes starts ends early late ≡ NotPassed r → deck_read s starts ends early late listed lengths marked ≡ refused r
+  pub read_sizes : (r : Refusal) → edge_sizes starts ends early late ≡ Err r → deck_read s starts ends early late listed lengths marked ≡ refused r
   unfolding deck_read
   read_sizes r e = rw e
 
-  pub read_stopped : (r : Refusal) → edge_sizes starts ends early late ≡ Passed → verdict_of (read_deck s (record { edges = starts; listed = listed; paths = lengths; marked = marked })) ≡ NotPassed r
+  pub read_stopped : (r : Refusal) → edge_sizes starts ends early late ≡ Passed → verdict_of (read_deck s (record { edges = starts; listed = listed; paths = lengths; marked = marked })) ≡ Err r
       → deck_read s starts ends early late listed lengths marked ≡ refused r
   unfolding deck_read
   read_stopped r e f = rw e (read_refused (read_deck s (record { edges = starts; listed = listed; paths = lengths; marked = marked })) r f)
@@ -390,12 +385,12 @@ module _ (s : List ℕ) (starts ends early late listed lengths marked : ℕ) whe
 -- the answer and the tables
 module _ (starts ends : List ℕ) (early late : List ℤ) (listed lengths marked : List ℕ) (o : Outcome Deck) where
   pub tables_kept : (r : Refusal) → o ≡ refused r
-      → (NoDeck r ≡ deck_answer o) × (starts ≡ filled (λ d. d.design.starts) o starts) × (ends ≡ filled (λ d. d.design.ends) o ends) × (early ≡ filled (λ d. d.design.early) o early)
+      → (Err r ≡ deck_answer o) × (starts ≡ filled (λ d. d.design.starts) o starts) × (ends ≡ filled (λ d. d.design.ends) o ends) × (early ≡ filled (λ d. d.design.early) o early)
       × (late ≡ filled (λ d. d.design.late) o late) × (listed ≡ filled (λ d. d.list.edges) o listed) × (lengths ≡ filled (λ d. d.list.lengths) o lengths)
       × (marked ≡ filled (λ d. d.design.marked) o marked)
   tables_kept r e = rw e (refl, refl, refl, refl, refl, refl, refl, refl)
 
-  pub tables_filled : (d : Deck) (answer : DeckRead) (starts' ends' : List ℕ) (early' late' : List ℤ) (listed' lengths' marked' : List ℕ) → o ≡ made d
+  pub tables_filled : (d : Deck) (answer : Result DeckCounts Refusal) (starts' ends' : List ℕ) (early' late' : List ℤ) (listed' lengths' marked' : List ℕ) → o ≡ made d
       → (answer ≡ deck_answer (made d)) × (starts' ≡ placed d.design.starts starts) × (ends' ≡ placed d.design.ends ends) × (early' ≡ placed d.design.early early)
       × (late' ≡ placed d.design.late late) × (listed' ≡ placed d.list.edges listed) × (lengths' ≡ placed d.list.lengths lengths)
       × (marked' ≡ placed d.design.marked marked)

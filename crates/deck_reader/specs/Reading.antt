@@ -1,10 +1,7 @@
 -- Reading in two goes, a look and a fill (`Looks` of `timing`).
-use Rattle.std.specs.Prelude.{ℕ, zero, suc, ◌+◌, ◌≤◌, List, [], ◌∷◌, ◌++◌, map, leb, ℤ, length}
-use Rattle.timing.specs.declared.Verdict.{Verdict}
-use Rattle.timing.specs.declared.Verdict.TheVariants.{Passed}
-use Rattle.timing.specs.declared.Verdict.TheVariants.{Refused as NotPassed}
-use Rattle.timing.specs.declared.Looked.{Looked}
-use Rattle.timing.specs.declared.Looked.TheVariants.{At, Refused}
+use Rattle.std.specs.Prelude.{ℕ, zero, suc, ◌+◌, ◌≤◌, List, [], ◌∷◌, ◌++◌, map, leb, ℤ, length, Result, Ok, Err}
+use Rattle.timing.specs.Answers.{Verdict, Passed}
+use Rattle.timing.specs.declared.Refusal.{Refusal}
 use Rattle.timing.specs.Graphs.{Design}
 use Rattle.timing.specs.Marks.{PathList, path_list}
 use Rattle.timing.specs.Delays.{delay_of}
@@ -17,7 +14,7 @@ use Rattle.timing.specs.Decks.{Deck, Tables, EdgeRow, edge_row, design_of, paths
 -- whether a reader stopped
 abbrev pub verdict_of : {A : Type 0} → Parsed A → Verdict
 verdict_of (found x at) = Passed
-verdict_of (stopped r) = NotPassed r
+verdict_of (stopped r) = Err r
 
 -- n, which has a limit and no table
 abbrev pub nodes_in : List ℕ → Reader ℕ
@@ -80,17 +77,17 @@ tail_in s = do
   ended s
 
 -- the place that a look got to, and what stands behind one: nothing is looked at behind a refusal
-abbrev pub place_of : Looked → ℕ
-place_of (At at) = at
-place_of (Refused r) = 0
+abbrev pub place_of : Result ℕ Refusal → ℕ
+place_of (Ok at) = at
+place_of (Err r) = 0
 
-abbrev pub behind : Looked → Looked → Looked
-behind (At at) next = next
-behind (Refused r) next = Refused r
+abbrev pub behind : Result ℕ Refusal → Result ℕ Refusal → Result ℕ Refusal
+behind (Ok at) next = next
+behind (Err r) next = Err r
 
-abbrev pub verdict_behind : Looked → Verdict → Verdict
-verdict_behind (At at) v = v
-verdict_behind (Refused r) v = NotPassed r
+abbrev pub verdict_behind : Result ℕ Refusal → Verdict → Verdict
+verdict_behind (Ok at) v = v
+verdict_behind (Err r) v = Err r
 
 -- k numbers from a place on, and the place behind them
 abbrev pub numbers_from : List ℕ → ℕ → ℕ → List ℕ

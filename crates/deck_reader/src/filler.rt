@@ -1,11 +1,14 @@
 // The second go of the reader: the tables are filled. The look has passed, so that every number is there. Each
 // function works on a plain slice and place.
-ghost use Rattle.std.specs.Prelude.{◌≡◌, ◌+◌, ◌≤◌, ◌<◌, length, set};
+ghost use Rattle.std.specs.Prelude.{◌≡◌, ◌+◌, ◌≤◌, ◌<◌, length, set, Result, Ok};
 ghost use Rattle.std.proofs.lemmas.List.Edits.{sets};
+ghost use Rattle.timing.specs.Answers.{DeckFound};
+ghost use Rattle.timing.specs.declared.Taken.{Taken};
+ghost use Rattle.timing.specs.declared.DeckCounts.{DeckCounts};
+ghost use Rattle.timing.specs.declared.Refusal.{Refusal};
 ghost use Rattle.timing.specs.Lists.{placed};
 ghost use Rattle.timing.specs.Delays.{delay_of};
 ghost use Rattle.timing.specs.Looks.{value_at, next_at};
-ghost use Rattle.timing.specs.declared.DeckRead.TheVariants.{Deck as DeckFound};
 ghost use Rattle.deck_reader.specs.Reading.{numbers_from, numbers_end, counted_from, counted_end, edges_from, lengths_from, paths_end};
 ghost use Rattle.deck_reader.specs.Reading.{behind_two, edge_row_at, edge_row_end, rows_end};
 ghost use Rattle.deck_reader.specs.Reading.{starts_from, ends_from, early_from, late_from};
@@ -14,7 +17,7 @@ ghost use Rattle.deck_reader.specs.Reading.{edge_count, count_place, design_from
 use super::{DesignRead, ListRead, ListsRead};
 use entries::wide;
 use packed_lists::take_number;
-use timing::{DeckRead, Taken};
+use timing::{DeckCounts, Refusal, Taken};
 
 fn set_delay(delays: &mut [i32], i: usize, x: u32)
     requires { i < length delays.old }
@@ -273,15 +276,15 @@ pub(crate) fn fill_lists(
 }
 
 // What the reader answers of the parts that it filled, and of T.
-pub(crate) fn answer(d: DesignRead, l: ListsRead, t: Taken) -> DeckRead
+pub(crate) fn answer(d: DesignRead, l: ListsRead, t: Taken) -> Result<DeckCounts, Refusal>
     ensures { result ≡ DeckFound d.nodes d.edges l.listed l.paths l.marked t.value }
 {
-    DeckRead::Deck {
+    Ok(DeckCounts {
         nodes: d.nodes,
         edges: d.edges,
         listed: l.listed,
         paths: l.paths,
         marked: l.marked,
         allowed: t.value,
-    }
+    })
 }

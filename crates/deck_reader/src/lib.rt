@@ -4,7 +4,7 @@
 ghost use Rattle.std.specs.Prelude.{◌≡◌, length};
 ghost use Rattle.timing.specs.Calls.{filled, deck_read, deck_answer};
 
-use timing::{DeckRead, Verdict};
+use timing::{DeckCounts, Refusal};
 
 mod filler;
 mod looker;
@@ -45,7 +45,7 @@ pub fn read_deck(
     listed: &mut [u32],
     lengths: &mut [u32],
     marked: &mut [u32],
-) -> DeckRead
+) -> Result<DeckCounts, Refusal>
     ensures { let o = deck_read s.now
         (length starts.old) (length ends.old)
         (length early.old) (length late.old)
@@ -61,17 +61,17 @@ pub fn read_deck(
 {
     let sizes = sizes::edge_sizes(starts.len(), ends.len(), early.len(), late.len());
     match sizes {
-        Verdict::Refused(r) => {
-            return DeckRead::Refused(r);
+        Err(r) => {
+            return Err(r);
         }
-        Verdict::Passed => {}
+        Ok(()) => {}
     }
     let look = reader::look_deck(s, starts.len(), listed.len(), lengths.len(), marked.len());
     match look {
-        Verdict::Refused(r) => {
-            return DeckRead::Refused(r);
+        Err(r) => {
+            return Err(r);
         }
-        Verdict::Passed => {}
+        Ok(()) => {}
     }
     reader::fill_deck(s, starts, ends, early, late, listed, lengths, marked)
 }

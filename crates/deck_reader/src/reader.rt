@@ -10,7 +10,7 @@ ghost use Rattle.deck_reader.specs.Reading.{verdict_of, deck_from, Fits};
 
 use super::{filler, looker};
 use packed_lists::take_number;
-use timing::{DeckRead, Verdict};
+use timing::{DeckCounts, Refusal, Verdict};
 
 #[derive(Clone, Copy)]
 pub(crate) struct DeckReader<'a> {
@@ -61,7 +61,7 @@ pub(crate) fn fill_deck(
     listed: &mut [u32],
     lengths: &mut [u32],
     marked: &mut [u32],
-) -> DeckRead
+) -> Result<DeckCounts, Refusal>
     requires { Fits s.now 0
         (record {
           edges = length starts.old;

@@ -3,11 +3,11 @@ use Prim.Native.Nat.{ℕ, ◌+◌, ◌<◌}
 use native.Mathlib.Numerals.{add-one}
 use mathlib.Core.Path.{◌≡◌, refl, ◌∙◌, ap}
 use mathlib.Core.List.{List}
+use Rattle.std.specs.Prelude.{Err}
+use Rattle.timing.specs.Answers.{Verdict, Passed}
 use lib.ListN.{length, get_or, drop}
 use lib.Seq.{drop-cons}
 use borrow.Author.Tests.{eqb-true, leb-true}
-use Rattle.timing.specs.declared.Verdict.{Verdict}
-use Rattle.timing.specs.declared.Verdict.TheVariants.{Passed, Refused}
 use Rattle.timing.specs.Lists.{sum}
 use Rattle.timing.specs.Refusals.{◌then◌}
 use Rattle.timing.specs.Tests.{design_sizes, list_sizes, design_counts, list_counts, marked_count}
@@ -19,8 +19,8 @@ use Rattle.deck_writer.specs.Writing.{Fit}
 -- the counts' tests, as a verdict that is passed along makes them
 pub then_counts : (v a b x y : Verdict) (r s t u : Verdict) → r ≡ (v then a) → s ≡ (r then b) → t ≡ (s then x) → u ≡ (t then y) → u ≡ (v then (a then b) then x then y)
 then_counts Passed Passed b x y r s t u e f g h = h ∙ ap (λ (w : Verdict). w then y) (g ∙ ap (λ (w : Verdict). w then x) (f ∙ ap (λ (w : Verdict). w then b) e)) ∙ then_assoc b x y
-then_counts Passed (Refused q) b x y r s t u e f g h = h ∙ ap (λ (w : Verdict). w then y) (g ∙ ap (λ (w : Verdict). w then x) (f ∙ ap (λ (w : Verdict). w then b) e))
-then_counts (Refused q) a b x y r s t u e f g h = h ∙ ap (λ (w : Verdict). w then y) (g ∙ ap (λ (w : Verdict). w then x) (f ∙ ap (λ (w : Verdict). w then b) e))
+then_counts Passed (Err q) b x y r s t u e f g h = h ∙ ap (λ (w : Verdict). w then y) (g ∙ ap (λ (w : Verdict). w then x) (f ∙ ap (λ (w : Verdict). w then b) e))
+then_counts (Err q) a b x y r s t u e f g h = h ∙ ap (λ (w : Verdict). w then y) (g ∙ ap (λ (w : Verdict). w then x) (f ∙ ap (λ (w : Verdict). w then b) e))
 
 pub fit_of : (d : Deck) → deck_write_tests d ≡ Passed → Fit d
 unfolding deck_write_tests

@@ -4,12 +4,11 @@ use native.Mathlib.Omega.{arith}
 use native.Mathlib.Numerals.{add-one}
 use mathlib.Core.Path.{◌≡◌, refl, sym, ◌∙◌, ap}
 use mathlib.Core.List.{List, [], ◌∷◌, ◌++◌, flat_map, map, append_assoc}
+use Rattle.std.specs.Prelude.{Ok}
+use Rattle.timing.specs.Answers.{Verdict, Passed}
 use lib.IntN.{ℤ, pos}
 use lib.ListN.{length, get_or, take, drop, drop_of_length-le, length-drop, take-append-drop}
 use lib.Seq.{sets, drop-cons, drop-drop, length-take-le}
-use Rattle.timing.specs.declared.Verdict.{Verdict}
-use Rattle.timing.specs.declared.Verdict.TheVariants.{Passed}
-use Rattle.timing.specs.declared.Written.TheVariants.{End}
 use Rattle.timing.specs.Numbers.{packed}
 use Rattle.timing.specs.Delays.{packed_delay}
 use Rattle.timing.specs.Lists.{sum}
@@ -162,9 +161,9 @@ deck_fits d room h = rw (← deck_parts d) (omega (arith, ap length (packed_deck
 
 -- What the writer answers and leaves, where the deck is written.
 pub write_done : (v : Verdict) (d : Deck) (room room' : List ℕ) (next : ℕ) → v ≡ Passed → length (packed_deck d) ≤ length room → Wrote room room' 0 next (deck_numbers d)
-    → (End next ≡ writing v room (packed_deck d)) × (room' ≡ room_after_writing v room (packed_deck d))
+    → (Ok next ≡ writing v room (packed_deck d)) × (room' ≡ room_after_writing v room (packed_deck d))
 write_done v d room room' next e h w =
     let l : 0 + length (packed_deck d) ≤ length room = omega arith in
     let i : room' ≡ sets room 0 (packed_deck d) = rw (packed_deck_lem d) w.is in
     let n : next ≡ 0 + length (packed_deck d) = rw (packed_deck_lem d) w.end in
-    rw e (ap End n ∙ sym (answer_fits room 0 (packed_deck d) l), i ∙ sym (written_sets room 0 (packed_deck d) l))
+    rw e (ap Ok n ∙ sym (answer_fits room 0 (packed_deck d) l), i ∙ sym (written_sets room 0 (packed_deck d) l))

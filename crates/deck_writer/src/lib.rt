@@ -7,7 +7,7 @@ ghost use Rattle.timing.specs.Marks.{path_list};
 ghost use Rattle.timing.specs.Decks.{Deck, packed_deck};
 ghost use Rattle.timing.specs.Calls.{deck_write_tests, writing, room_after_writing};
 
-use timing::{Verdict, Written};
+use timing::Refusal;
 
 mod counts;
 mod writer;
@@ -24,7 +24,7 @@ pub fn write_deck(
     lengths: &[u32],
     allowed: u32,
     room: &mut [u8],
-) -> Written
+) -> Result<usize, Refusal>
     ensures { let D = design n starts.now ends.now early.now late.now
         marked.now in
         let L = path_list listed.now lengths.now in
@@ -34,18 +34,18 @@ pub fn write_deck(
 {
     let v = counts::write_tests(n, starts, ends, early, late, marked, listed, lengths);
     match v {
-        Verdict::Refused(r) => {
-            return Written::Refused(r);
+        Err(r) => {
+            return Err(r);
         }
-        Verdict::Passed => {}
+        Ok(()) => {}
     }
     let size = writer::deck_size(
         n, starts, ends, early, late, marked, listed, lengths, allowed,
     );
     if room.len() < size {
-        return Written::Refused(verdicts::refuse(35, 0));
+        return Err(verdicts::refuse(35, 0));
     }
-    Written::End(writer::put_deck(
+    Ok(writer::put_deck(
         n, starts, ends, early, late, marked, listed, lengths, allowed, room,
     ))
 }

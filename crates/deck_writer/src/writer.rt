@@ -10,7 +10,7 @@ ghost use Rattle.packed_lists.specs.Writing.{size, Wrote};
 ghost use Rattle.deck_writer.specs.Writing.{deck_of, Fit, tail_numbers};
 
 use entries::wide;
-use timing::Written;
+
 
 // How many bytes a number takes, and numbers: the bounds are for the sums.
 fn number_size(x: u32) -> usize
@@ -54,8 +54,8 @@ fn put(room: &mut [u8], at: usize, x: u32) -> usize
 {
     let w = packed::write_number(room, at, x);
     match w {
-        Written::End(next) => next,
-        Written::Refused(_) => at,
+        Ok(next) => next,
+        Err(_) => at,
     }
 }
 

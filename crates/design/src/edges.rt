@@ -8,7 +8,7 @@ ghost use Rattle.timing.specs.Tests.{strays, falls, out_of_range, early_above_la
 
 use entries::{delay_at, number_at};
 use timing::{MAX_DELAY, Verdict};
-use verdicts::refuse;
+use verdicts::first_bad;
 
 // Both ends of edge k are nodes.
 fn known(n: u32, starts: &[u32], ends: &[u32], k: usize) -> bool
@@ -26,17 +26,8 @@ pub(crate) fn and_known(before: Verdict, n: u32, starts: &[u32], ends: &[u32]) -
     ensures { let D = design n starts.now ends.now [] [] [] in
         result ≡ (before then first_bad 12 (strays D) 0 (upto (length starts.now) 0)) }
 {
-    let Verdict::Passed = before else {
-        return before;
-    };
-    let mut k = 0;
-    while k < starts.len() {
-        if !known(n, starts, ends, k) {
-            return Verdict::Refused(refuse(12, k));
-        }
-        k += 1;
-    }
-    Verdict::Passed
+    before?;
+    first_bad(12, starts.len(), |k| !known(n, starts, ends, k))
 }
 
 fn rises(starts: &[u32], ends: &[u32], k: usize) -> bool
@@ -50,17 +41,8 @@ pub(crate) fn and_rise(before: Verdict, starts: &[u32], ends: &[u32]) -> Verdict
     ensures { let D = design 0 starts.now ends.now [] [] [] in
         result ≡ (before then first_bad 13 (falls D) 0 (upto (length starts.now) 0)) }
 {
-    let Verdict::Passed = before else {
-        return before;
-    };
-    let mut k = 0;
-    while k < starts.len() {
-        if !rises(starts, ends, k) {
-            return Verdict::Refused(refuse(13, k));
-        }
-        k += 1;
-    }
-    Verdict::Passed
+    before?;
+    first_bad(13, starts.len(), |k| !rises(starts, ends, k))
 }
 
 fn in_range(delays: &[i32], k: usize) -> bool
@@ -89,17 +71,8 @@ pub(crate) fn and_in_range(before: Verdict, m: usize, early: &[i32], late: &[i32
     ensures { let D = design 0 [] [] early.now late.now [] in
         result ≡ (before then first_bad 14 (out_of_range D) 0 (upto m 0)) }
 {
-    let Verdict::Passed = before else {
-        return before;
-    };
-    let mut k = 0;
-    while k < m {
-        if !both_in_range(early, late, k) {
-            return Verdict::Refused(refuse(14, k));
-        }
-        k += 1;
-    }
-    Verdict::Passed
+    before?;
+    first_bad(14, m, |k| !both_in_range(early, late, k))
 }
 
 fn early_above_late(early: &[i32], late: &[i32], k: usize) -> bool
@@ -113,15 +86,6 @@ pub(crate) fn and_ordered(before: Verdict, m: usize, early: &[i32], late: &[i32]
     ensures { let D = design 0 [] [] early.now late.now [] in
         result ≡ (before then first_bad 15 (early_above_late D) 0 (upto m 0)) }
 {
-    let Verdict::Passed = before else {
-        return before;
-    };
-    let mut k = 0;
-    while k < m {
-        if early_above_late(early, late, k) {
-            return Verdict::Refused(refuse(15, k));
-        }
-        k += 1;
-    }
-    Verdict::Passed
+    before?;
+    first_bad(15, m, |k| early_above_late(early, late, k))
 }

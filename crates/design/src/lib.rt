@@ -59,11 +59,9 @@ fn and_edge_tests(
         result ≡ (before then first_bad 12 (strays D) 0 edges then first_bad 13 (falls D) 0 edges
         then first_bad 14 (out_of_range D) 0 edges then first_bad 15 (early_above_late D) 0 edges) }
 {
-    let Verdict::Passed = before else {
-        return before;
-    };
+    before?;
     if quick::all_pass(n, starts, ends, early, late) {
-        return Verdict::Passed;
+        return Ok(());
     }
     and_each_test(before, n, starts, ends, early, late)
 }

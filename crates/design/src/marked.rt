@@ -7,7 +7,7 @@ ghost use Rattle.timing.specs.Tests.{rises_not, wrong_marked};
 
 use entries::number_at;
 use timing::Verdict;
-use verdicts::refuse;
+use verdicts::first_bad;
 
 // There is a marked node before the one at index i, and that one is not below it.
 fn rises_not(marked: &[u32], i: usize) -> bool
@@ -33,15 +33,6 @@ pub(crate) fn and_marked(before: Verdict, n: u32, marked: &[u32]) -> Verdict
     ensures { let D = design n [] [] [] [] marked.now in
         result ≡ (before then first_bad 16 (wrong_marked D) 0 (upto (length marked.now) 0)) }
 {
-    let Verdict::Passed = before else {
-        return before;
-    };
-    let mut i = 0;
-    while i < marked.len() {
-        if wrong(n, marked, i) {
-            return Verdict::Refused(refuse(16, i));
-        }
-        i += 1;
-    }
-    Verdict::Passed
+    before?;
+    first_bad(16, marked.len(), |i| wrong(n, marked, i))
 }

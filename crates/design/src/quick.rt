@@ -2,7 +2,7 @@
 // more than this; the number and the place of a wrong edge are left to the passes of `edges`. The loop has no branch, and
 // reads the four slices in order, so that it is compiled to vector code.
 ghost use Rattle.std.specs.Prelude.{ℕ, ◌<◌, ◌≡◌, true, false, [], ◌∷◌, length};
-ghost use Rattle.timing.specs.declared.Verdict.TheVariants.{Passed};
+ghost use Rattle.timing.specs.Answers.{Passed};
 ghost use Rattle.timing.specs.Lists.{upto};
 ghost use Rattle.timing.specs.Refusals.{◌then◌, first_bad};
 ghost use Rattle.timing.specs.Graphs.{design};
@@ -28,10 +28,8 @@ fn edges_pass(n: u32, starts: &[u32], ends: &[u32], early: &[i32], late: &[i32])
         → (strays D k ≡ false) × (falls D k ≡ false) × (out_of_range D k ≡ false) × (early_above_late D k ≡ false)) }
 {
     let mut pass = true;
-    let mut k = 0;
-    while k < starts.len() {
-        pass = pass & edge_passes(n, starts[k], ends[k], early[k], late[k]);
-        k += 1;
+    for k in 0..starts.len() {
+        pass &= edge_passes(n, starts[k], ends[k], early[k], late[k]);
     }
     pass
 }

@@ -448,8 +448,6 @@ pub fn and_graph_test(
         from.now to.now via.now in
         result ≡ (before then node_count n then graph_test D (graph_of S)) }
 {
-    let Verdict::Passed = before else {
-        return before;
-    };
+    before?;
     graph_test(n, starts, ends, marked, nodes, endpoint, from, to, via)
 }

@@ -4,16 +4,13 @@ use native.Mathlib.Omega.{arith}
 use native.Mathlib.Numerals.{add-one}
 use mathlib.Core.Path.{◌≡◌, refl, sym, ◌∙◌, ap}
 use mathlib.Core.List.{List, ◌∷◌, map}
+use Rattle.std.specs.Prelude.{Result, Err}
+use Rattle.timing.specs.Answers.{Verdict, Passed, Value}
+use Rattle.timing.specs.declared.Taken.{Taken}
 use lib.Dec.{leb}
 use lib.ListN.{length, set, length-set}
 use lib.Seq.{sets}
 use Rattle.timing.specs.declared.Refusal.{Refusal}
-use Rattle.timing.specs.declared.Verdict.{Verdict}
-use Rattle.timing.specs.declared.Verdict.TheVariants.{Passed}
-use Rattle.timing.specs.declared.Verdict.TheVariants.{Refused as NotPassed}
-use Rattle.timing.specs.declared.NumberRead.{NumberRead}
-use Rattle.timing.specs.declared.NumberRead.TheVariants.{Value}
-use Rattle.timing.specs.declared.NumberRead.TheVariants.{Refused as NotRead}
 use Rattle.timing.specs.Numbers.{read_number}
 use Rattle.timing.specs.GraphBytes.{CopyRow, copy_row}
 use Rattle.timing.specs.Refusals.{unless}
@@ -100,9 +97,9 @@ pub number_here : (s : List ℕ) (at x b : ℕ) → number s at ≡ found x b �
 unfolding value_at next_at
 number_here s at x b e = one (read_number s at) e
   where
-    one : (r : NumberRead) → parsed_number r ≡ found x b → (x ≡ value_of r) × (b ≡ next_of at r)
+    one : (r : Result Taken Refusal) → parsed_number r ≡ found x b → (x ≡ value_of r) × (b ≡ next_of at r)
     one (Value v next) f = (cc, cc)
-    one (NotRead r) f = never r f
+    one (Err r) f = never r f
 
 row_here : (s : List ℕ) (at : ℕ) (x : Row) (b : ℕ) → row s at ≡ found x b → (x ≡ row_at s at) × (b ≡ row_end s at)
 row_here s at x b e = one (number s at) refl e
@@ -136,7 +133,7 @@ copy_here s at x b e = one (number s at) refl e
     three : (v w c : ℕ) (t : Verdict) → onward (tested t c) (λ u. return {A = CopyRow} (record { node = v; endpoint = w })) ≡ found x b
         → (x ≡ record { node = v; endpoint = w }) × (b ≡ c)
     three v w c Passed f = (cc, cc)
-    three v w c (NotPassed r) f = never r f
+    three v w c (Err r) f = never r f
 
     two : (v : ℕ) (at₁ : ℕ) (p : Parsed ℕ) → number s at₁ ≡ p
         → onward p (λ w. tested (unless 32 (leb w 1)) >> return {A = CopyRow} (record { node = v; endpoint = w })) ≡ found x b

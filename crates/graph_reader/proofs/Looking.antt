@@ -3,25 +3,19 @@ use Prim.Native.Nat.{ℕ, zero, suc, ◌*◌, ◌≤◌, ◌<◌}
 use native.Mathlib.Omega.{arith}
 use mathlib.Core.Path.{◌≡◌, refl, sym, ◌∙◌, ap}
 use mathlib.Core.List.{List, [], ◌∷◌}
+use Rattle.std.specs.Prelude.{Result, Ok, Err}
+use Rattle.timing.specs.Answers.{Verdict, Passed, Counts, Value}
+use Rattle.timing.specs.declared.Taken.{Taken}
 use lib.Dec.{leb}
 use lib.ListN.{length, length-map}
 use borrow.Author.Tests.{le-leb, lt-leb}
 use Rattle.timing.specs.declared.Refusal.{Refusal}
-use Rattle.timing.specs.declared.Verdict.{Verdict}
-use Rattle.timing.specs.declared.Verdict.TheVariants.{Passed}
-use Rattle.timing.specs.declared.Verdict.TheVariants.{Refused as NotPassed}
-use Rattle.timing.specs.declared.NumberRead.{NumberRead}
-use Rattle.timing.specs.declared.NumberRead.TheVariants.{Value}
-use Rattle.timing.specs.declared.NumberRead.TheVariants.{Refused as NotRead}
-use Rattle.timing.specs.declared.GraphMade.TheVariants.{Counts}
-use Rattle.timing.specs.declared.GraphMade.TheVariants.{Refused as NoGraph}
 use Rattle.timing.specs.Graphs.{Edge, edge, Graph}
 use Rattle.timing.specs.Numbers.{read_number}
 use Rattle.timing.specs.GraphBytes.{CopyRow, copy_row, graph_from, read_graph}
 use Rattle.timing.specs.Refusals.{refusal, unless, ◌then◌}
 use Rattle.timing.specs.Parsing.{Parsed, found, stopped, Reader, onward, ◌>>=◌, ◌>>◌, return, tested, parsed_number, number, repeated, Row, row, ended}
 use Rattle.timing.specs.Calls.{parsed, graph_answer}
-use Rattle.timing.specs.declared.Looked.TheVariants.{At, Refused}
 use Rattle.timing.specs.Looks.{looked, number_of}
 use Rattle.packed_lists.proofs.Looking.{rows_numbers}
 use Rattle.graph_reader.specs.Reading.{count_in, endpoint_in, edges_in, made_of}
@@ -31,10 +25,10 @@ module _ (s : List ℕ) (limit full room at v next : ℕ) (e : read_number s at 
   pub count_value : (unless 32 (leb v limit) then unless full (leb v room)) ≡ Passed → Value v next ≡ number_of (count_in s limit full room at)
   count_value f = rw (e, f)
 
-  pub count_refused : (r : Refusal) → (unless 32 (leb v limit) then unless full (leb v room)) ≡ NotPassed r → NotRead r ≡ number_of (count_in s limit full room at)
+  pub count_refused : (r : Refusal) → (unless 32 (leb v limit) then unless full (leb v room)) ≡ Err r → Err r ≡ number_of (count_in s limit full room at)
   count_refused r f = rw (e, f)
 
-pub count_none : (s : List ℕ) (limit full room at : ℕ) (r : Refusal) → read_number s at ≡ NotRead r → NotRead r ≡ number_of (count_in s limit full room at)
+pub count_none : (s : List ℕ) (limit full room at : ℕ) (r : Refusal) → read_number s at ≡ Err r → Err r ≡ number_of (count_in s limit full room at)
 count_none s limit full room at r e = rw e
 
 -- What a look says of what was found.
@@ -45,35 +39,35 @@ number_is {n} {at} (found x a) q =
     rw (d, b)
 number_is (stopped r) q = absurd (let z : ◌≡◌ {A = ℕ} 0 1 = cc in omega arith)
 
-pub number_no : {r : Refusal} (p : Parsed ℕ) → number_of p ≡ NotRead r → p ≡ stopped r
+pub number_no : {r : Refusal} (p : Parsed ℕ) → number_of p ≡ Err r → p ≡ stopped r
 number_no (found x a) q = absurd (let z : ◌≡◌ {A = ℕ} 0 1 = cc in omega arith)
 number_no {r} (stopped r') q = let d : r' ≡ r = cc in rw d
 
 module _ {A : Type 0} where
-  pub looked_is : {at : ℕ} (p : Parsed A) → looked p ≡ At at → (x : A) × (p ≡ found x at)
+  pub looked_is : {at : ℕ} (p : Parsed A) → looked p ≡ Ok at → (x : A) × (p ≡ found x at)
   looked_is {at} (found x a) q = let d : a ≡ at = cc in (x, rw d)
   looked_is (stopped r) q = absurd (let z : ◌≡◌ {A = ℕ} 0 1 = cc in omega arith)
 
-  pub looked_no : {r : Refusal} (p : Parsed A) → looked p ≡ Refused r → p ≡ stopped r
+  pub looked_no : {r : Refusal} (p : Parsed A) → looked p ≡ Err r → p ≡ stopped r
   looked_no (found x a) q = absurd (let z : ◌≡◌ {A = ℕ} 0 1 = cc in omega arith)
   looked_no {r} (stopped r') q = let d : r' ≡ r = cc in rw d
 
 -- The edges, and 3. Their rows were looked at as numbers.
 module _ (s : List ℕ) (edges at m next : ℕ) (e : number_of (count_in s 65536 34 edges at) ≡ Value m next) where
-  pub edges_end : (n after : ℕ) → looked (repeated (3 * m) (number s) next) ≡ At after → length s ≤ after → Counts n m ≡ made_of n (edges_in s edges at)
+  pub edges_end : (n after : ℕ) → looked (repeated (3 * m) (number s) next) ≡ Ok after → length s ≤ after → Counts n m ≡ made_of n (edges_in s edges at)
   edges_end n after f h =
       let r = looked_is (repeated m (row s) next) (sym (rows_numbers s m next) ∙ f) in
       rw (number_is (count_in s 65536 34 edges at) e, r.1, le-leb (length s) after h)
 
-  pub edges_more : (n after : ℕ) → looked (repeated (3 * m) (number s) next) ≡ At after → after < length s → NoGraph (refusal 3 after) ≡ made_of n (edges_in s edges at)
+  pub edges_more : (n after : ℕ) → looked (repeated (3 * m) (number s) next) ≡ Ok after → after < length s → Err (refusal 3 after) ≡ made_of n (edges_in s edges at)
   edges_more n after f h =
       let r = looked_is (repeated m (row s) next) (sym (rows_numbers s m next) ∙ f) in
       rw (number_is (count_in s 65536 34 edges at) e, r.1, lt-leb (length s) after h)
 
-  pub edges_stop : (n : ℕ) (q : Refusal) → looked (repeated (3 * m) (number s) next) ≡ Refused q → NoGraph q ≡ made_of n (edges_in s edges at)
+  pub edges_stop : (n : ℕ) (q : Refusal) → looked (repeated (3 * m) (number s) next) ≡ Err q → Err q ≡ made_of n (edges_in s edges at)
   edges_stop n q f = rw (number_is (count_in s 65536 34 edges at) e, looked_no (repeated m (row s) next) (sym (rows_numbers s m next) ∙ f))
 
-pub edges_none : (s : List ℕ) (edges at n : ℕ) (r : Refusal) → number_of (count_in s 65536 34 edges at) ≡ NotRead r → NoGraph r ≡ made_of n (edges_in s edges at)
+pub edges_none : (s : List ℕ) (edges at n : ℕ) (r : Refusal) → number_of (count_in s 65536 34 edges at) ≡ Err r → Err r ≡ made_of n (edges_in s edges at)
 edges_none s edges at n r e = rw (number_no (count_in s 65536 34 edges at) e)
 
 -- k things are k
@@ -93,10 +87,10 @@ repeated_length {A} p (suc k) at xs a e = one (p at) e (λ b. repeated_length p 
 
 -- A copy, by what was read of its node, and an endpoint number.
 module _ (s : List ℕ) (at v next : ℕ) (e : read_number s at ≡ Value v next) where
-  pub endpoint_in_lem : v ≤ 1 → At next ≡ looked (endpoint_in s at)
+  pub endpoint_in_lem : v ≤ 1 → Ok next ≡ looked (endpoint_in s at)
   endpoint_in_lem h = rw (e, le-leb v 1 h)
 
-  pub endpoint_above : 1 < v → Refused (refusal 32 0) ≡ looked (endpoint_in s at)
+  pub endpoint_above : 1 < v → Err (refusal 32 0) ≡ looked (endpoint_in s at)
   endpoint_above h = rw (e, lt-leb v 1 h)
 
   pub copy_rest : looked (endpoint_in s next) ≡ looked (copy_row s at)
@@ -104,17 +98,17 @@ module _ (s : List ℕ) (at v next : ℕ) (e : read_number s at ≡ Value v next
     where
       two : (x a : ℕ) (t : Verdict) → looked (onward (tested t a) (λ u. return x)) ≡ looked (onward (tested t a) (λ u. return {A = CopyRow} (record { node = v; endpoint = x })))
       two x a Passed = refl
-      two x a (NotPassed r) = refl
+      two x a (Err r) = refl
 
-      one : (r : NumberRead) → looked (onward (parsed_number r) (λ x. tested (unless 32 (leb x 1)) >> return x))
+      one : (r : Result Taken Refusal) → looked (onward (parsed_number r) (λ x. tested (unless 32 (leb x 1)) >> return x))
           ≡ looked (onward (parsed_number r) (λ x. tested (unless 32 (leb x 1)) >> return {A = CopyRow} (record { node = v; endpoint = x })))
       one (Value x a) = two x a (unless 32 (leb x 1))
-      one (NotRead r) = refl
+      one (Err r) = refl
 
-pub endpoint_none : (s : List ℕ) (at : ℕ) (r : Refusal) → read_number s at ≡ NotRead r → Refused r ≡ looked (endpoint_in s at)
+pub endpoint_none : (s : List ℕ) (at : ℕ) (r : Refusal) → read_number s at ≡ Err r → Err r ≡ looked (endpoint_in s at)
 endpoint_none s at r e = rw e
 
-pub copy_none : (s : List ℕ) (at : ℕ) (r : Refusal) → read_number s at ≡ NotRead r → Refused r ≡ looked (copy_row s at)
+pub copy_none : (s : List ℕ) (at : ℕ) (r : Refusal) → read_number s at ≡ Err r → Err r ≡ looked (copy_row s at)
 copy_none s at r e = rw e
 
 -- The whole graph: its copies, and then its edges.
@@ -147,13 +141,13 @@ edges_made s edges at n copies l = one (read_number s at)
         → graph_answer (parsed (onward (tested v a) (λ u. repeated m (row s) >>= (λ rows. ended s >> return (graph_from copies rows)))))
         ≡ made_of n (onward (onward (tested v a) (λ u. return m)) (λ m. repeated m (row s) >>= (λ rows. ended s >> return m)))
     two m a Passed = three m (repeated m (row s) a) (repeated_length (row s) m a)
-    two m a (NotPassed r) = refl
+    two m a (Err r) = refl
 
-    one : (r : NumberRead)
+    one : (r : Result Taken Refusal)
         → graph_answer (parsed (onward (parsed_number r) (λ m. tested (unless 32 (leb m 65536) then unless 34 (leb m edges)) >> (repeated m (row s) >>= (λ rows. ended s >> return (graph_from copies rows))))))
         ≡ made_of n (onward (onward (parsed_number r) (λ m. tested (unless 32 (leb m 65536) then unless 34 (leb m edges)) >> return m)) (λ m. repeated m (row s) >>= (λ rows. ended s >> return m)))
     one (Value m a) = two m a (unless 32 (leb m 65536) then unless 34 (leb m edges))
-    one (NotRead r) = refl
+    one (Err r) = refl
 
 -- a count that passed, and what the reader does with it
 pub count_parts : (s : List ℕ) (limit full room at n next : ℕ) → count_in s limit full room at ≡ found n next
@@ -166,12 +160,12 @@ count_parts s limit full room at n next e = one (read_number s at) refl e
         let d : m ≡ n = cc in
         let b : a ≡ next = cc in
         (q ∙ rw (d, b), rw d at t)
-    two m a (NotPassed r) q t f = absurd (let z : ◌≡◌ {A = ℕ} 0 1 = cc in omega arith)
+    two m a (Err r) q t f = absurd (let z : ◌≡◌ {A = ℕ} 0 1 = cc in omega arith)
 
-    one : (r : NumberRead) → read_number s at ≡ r → onward (parsed_number r) (λ m. tested (unless 32 (leb m limit) then unless full (leb m room)) >> return m) ≡ found n next
+    one : (r : Result Taken Refusal) → read_number s at ≡ r → onward (parsed_number r) (λ m. tested (unless 32 (leb m limit) then unless full (leb m room)) >> return m) ≡ found n next
         → (read_number s at ≡ Value n next) × ((unless 32 (leb n limit) then unless full (leb n room)) ≡ Passed)
     one (Value m a) q f = two m a (unless 32 (leb m limit) then unless full (leb m room)) q refl f
-    one (NotRead r) q f = absurd (let z : ◌≡◌ {A = ℕ} 0 1 = cc in omega arith)
+    one (Err r) q f = absurd (let z : ◌≡◌ {A = ℕ} 0 1 = cc in omega arith)
 
 counted : {B : Type 0} (s : List ℕ) (limit full room at : ℕ) (r : Refusal) (f : ℕ → Reader B) → count_in s limit full room at ≡ stopped r
     → onward (number s at) (λ n. tested (unless 32 (leb n limit) then unless full (leb n room)) >> f n) ≡ stopped r
@@ -179,28 +173,28 @@ counted {B} s limit full room at r f e = one (read_number s at) e
   where
     two : (m a : ℕ) (v : Verdict) → onward (tested v a) (λ u. return m) ≡ stopped r → onward (tested v a) (λ u. f m) ≡ stopped r
     two m a Passed q = absurd (let z : ◌≡◌ {A = ℕ} 0 1 = cc in omega arith)
-    two m a (NotPassed r') q = let d : r' ≡ r = cc in rw d
+    two m a (Err r') q = let d : r' ≡ r = cc in rw d
 
-    one : (q : NumberRead) → onward (parsed_number q) (λ m. tested (unless 32 (leb m limit) then unless full (leb m room)) >> return m) ≡ stopped r
+    one : (q : Result Taken Refusal) → onward (parsed_number q) (λ m. tested (unless 32 (leb m limit) then unless full (leb m room)) >> return m) ≡ stopped r
         → onward (parsed_number q) (λ n. tested (unless 32 (leb n limit) then unless full (leb n room)) >> f n) ≡ stopped r
     one (Value m a) q = two m a (unless 32 (leb m limit) then unless full (leb m room)) q
-    one (NotRead r') q = let d : r' ≡ r = cc in rw d
+    one (Err r') q = let d : r' ≡ r = cc in rw d
 
 -- what the reader answers, by what the looks do
 module _ (s : List ℕ) (copies edges n next : ℕ) (e : number_of (count_in s 16384 33 copies 0) ≡ Value n next) where
-  pub graph_rest : (after : ℕ) → looked (repeated n (copy_row s) next) ≡ At after → made_of n (edges_in s edges after) ≡ graph_answer (parsed (read_graph s copies edges))
+  pub graph_rest : (after : ℕ) → looked (repeated n (copy_row s) next) ≡ Ok after → made_of n (edges_in s edges after) ≡ graph_answer (parsed (read_graph s copies edges))
   unfolding read_graph
   graph_rest after f =
       let p = count_parts s 16384 33 copies 0 n next (number_is (count_in s 16384 33 copies 0) e) in
       let r = looked_is (repeated n (copy_row s) next) f in
       rw (p.0, p.1, r.1) (sym (edges_made s edges after n r.0 (repeated_length (copy_row s) n next r.0 after r.1)))
 
-  pub graph_stop : (q : Refusal) → looked (repeated n (copy_row s) next) ≡ Refused q → NoGraph q ≡ graph_answer (parsed (read_graph s copies edges))
+  pub graph_stop : (q : Refusal) → looked (repeated n (copy_row s) next) ≡ Err q → Err q ≡ graph_answer (parsed (read_graph s copies edges))
   unfolding read_graph
   graph_stop q f =
       let p = count_parts s 16384 33 copies 0 n next (number_is (count_in s 16384 33 copies 0) e) in
       rw (p.0, p.1, looked_no (repeated n (copy_row s) next) f)
 
-pub graph_none : (s : List ℕ) (copies edges : ℕ) (q : Refusal) → number_of (count_in s 16384 33 copies 0) ≡ NotRead q → NoGraph q ≡ graph_answer (parsed (read_graph s copies edges))
+pub graph_none : (s : List ℕ) (copies edges : ℕ) (q : Refusal) → number_of (count_in s 16384 33 copies 0) ≡ Err q → Err q ≡ graph_answer (parsed (read_graph s copies edges))
 unfolding read_graph
 graph_none s copies edges q e = rw (counted s 16384 33 copies 0 q (λ n. repeated n (copy_row s) >>= edges_reader s edges) (number_no (count_in s 16384 33 copies 0) e))

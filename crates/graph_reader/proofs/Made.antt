@@ -3,17 +3,14 @@ use Prim.Native.Nat.{ℕ, ◌+◌, ◌≤◌}
 use native.Mathlib.Omega.{arith}
 use mathlib.Core.Path.{◌≡◌, refl, sym, ◌∙◌, ap}
 use mathlib.Core.List.{List, [], ◌∷◌, ◌++◌, map}
+use Rattle.std.specs.Prelude.{Result, Err}
+use Rattle.timing.specs.Answers.{Verdict, Passed, Counts}
+use Rattle.timing.specs.declared.GraphCounts.{GraphCounts}
 use lib.Dec.{leb}
 use lib.ListN.{length, drop, length-map}
 use lib.Seq.{sets, sets-eq}
 use borrow.Author.Tests.{leb-true}
 use Rattle.timing.specs.declared.Refusal.{Refusal}
-use Rattle.timing.specs.declared.Verdict.{Verdict}
-use Rattle.timing.specs.declared.Verdict.TheVariants.{Passed}
-use Rattle.timing.specs.declared.Verdict.TheVariants.{Refused as NotPassed}
-use Rattle.timing.specs.declared.GraphMade.{GraphMade}
-use Rattle.timing.specs.declared.GraphMade.TheVariants.{Counts}
-use Rattle.timing.specs.declared.GraphMade.TheVariants.{Refused as NoGraph}
 use Rattle.timing.specs.Lists.{placed}
 use Rattle.timing.specs.Graphs.{Graph}
 use Rattle.timing.specs.GraphBytes.{CopyRow, copy_row, graph_from, read_graph}
@@ -27,7 +24,7 @@ use Rattle.graph_reader.specs.Reading.{copy_at, copy_end, copies_from, rows_from
 use Rattle.graph_reader.proofs.Looking.{edge_of_row, edges_reader, repeated_length}
 use Rattle.graph_reader.proofs.Filling.{things_length, copies_from_lem, rows_from_lem, number_here}
 
-no_counts : {X : Type 0} (r : Refusal) (c m : ℕ) → NoGraph r ≡ Counts c m → X
+no_counts : {X : Type 0} (r : Refusal) (c m : ℕ) → Err r ≡ Counts c m → X
 no_counts r c m e = absurd (let z : ◌≡◌ {A = ℕ} 0 1 = cc in omega arith)
 
 room_test : (limit full n room : ℕ) → (unless 32 (leb n limit) then unless full (leb n room)) ≡ Passed → n ≤ room
@@ -67,7 +64,7 @@ edges_read s edges copies at c m e = one (number s at) refl e
         → graph_answer (parsed (onward (tested v b) (λ u. repeated k (row s) >>= (λ rows. ended s >> return (graph_from copies rows))))) ≡ Counts c m
         → EdgesMade s edges copies at c m (parsed (onward (tested v b) (λ u. repeated k (row s) >>= (λ rows. ended s >> return (graph_from copies rows)))))
     two k b q Passed t f = three k b q (room_test 65536 34 k edges t) (repeated k (row s) b) refl f
-    two k b q (NotPassed r) t f = no_counts r c m f
+    two k b q (Err r) t f = no_counts r c m f
 
     one : (p : Parsed ℕ) → number s at ≡ p
         → graph_answer (parsed (onward p (λ k. tested (unless 32 (leb k 65536) then unless 34 (leb k edges)) >> (repeated k (row s) >>= (λ rows. ended s >> return (graph_from copies rows)))))) ≡ Counts c m
@@ -103,7 +100,7 @@ graph_read_lem s copies edges c m e = one (number s 0) refl e
         → graph_answer (parsed (onward (tested v b) (λ u. repeated k (copy_row s) >>= edges_reader s edges))) ≡ Counts c m
         → GraphFound s copies edges c m (parsed (onward (tested v b) (λ u. repeated k (copy_row s) >>= edges_reader s edges)))
     two k b q Passed t f = three k b q (room_test 16384 33 k copies t) (repeated k (copy_row s) b) refl f
-    two k b q (NotPassed r) t f = no_counts r c m f
+    two k b q (Err r) t f = no_counts r c m f
 
     one : (p : Parsed ℕ) → number s 0 ≡ p
         → graph_answer (parsed (onward p (λ k. tested (unless 32 (leb k 16384) then unless 33 (leb k copies)) >> (repeated k (copy_row s) >>= edges_reader s edges)))) ≡ Counts c m
@@ -122,12 +119,12 @@ map_map f g [] = refl
 map_map {A} {B} {C} f g (x ∷ l) = ap (λ (k : List C). f (g x) ∷ k) (map_map f g l)
 
 -- The answer, and the room afterwards.
-abbrev pub Answers : Outcome Graph → GraphMade → GraphSlices → GraphSlices → Type 0
+abbrev pub Answers : Outcome Graph → Result GraphCounts Refusal → GraphSlices → GraphSlices → Type 0
 Answers o g S S' =
     (g ≡ graph_answer o) × (S'.nodes ≡ nodes_after o S.nodes) × (S'.endpoints ≡ endpoints_after o S.endpoints)
     × (S'.starts ≡ starts_after o S.starts) × (S'.ends ≡ ends_after o S.ends) × (S'.names ≡ names_after o S.names)
 
-pub answers_refused : (o : Outcome Graph) (r : Refusal) (S : GraphSlices) → o ≡ refused r → Answers o (NoGraph r) S S
+pub answers_refused : (o : Outcome Graph) (r : Refusal) (S : GraphSlices) → o ≡ refused r → Answers o (Err r) S S
 answers_refused o r S e = rw e (refl, refl, refl, refl, refl, refl)
 
 -- a slice that was filled with one part of each of the things that were read
@@ -173,10 +170,10 @@ pub sizes_passed : (s : List ℕ) (S : GraphSlices) → room_sizes (room_of S) �
 unfolding graph_read
 sizes_passed s S e = rw e
 
-pub sizes_refused : (s : List ℕ) (S : GraphSlices) (r : Refusal) → room_sizes (room_of S) ≡ NotPassed r → graph_read s (room_of S) ≡ refused r
+pub sizes_refused : (s : List ℕ) (S : GraphSlices) (r : Refusal) → room_sizes (room_of S) ≡ Err r → graph_read s (room_of S) ≡ refused r
 unfolding graph_read
 sizes_refused s S r e = rw e
 
-pub read_stopped : (p : Outcome Graph) (r : Refusal) → graph_answer p ≡ NoGraph r → p ≡ refused r
+pub read_stopped : (p : Outcome Graph) (r : Refusal) → graph_answer p ≡ Err r → p ≡ refused r
 read_stopped (made G) r e = absurd (let z : ◌≡◌ {A = ℕ} 0 1 = cc in omega arith)
 read_stopped (refused r') r e = let d : r' ≡ r = cc in rw d

@@ -1,8 +1,8 @@
 -- Reading in two goes, a look and a fill (`Looks` of `timing`).
-use Rattle.std.specs.Prelude.{ℕ, zero, suc, List, [], ◌∷◌, leb}
-use Rattle.timing.specs.declared.GraphMade.{GraphMade}
-use Rattle.timing.specs.declared.GraphMade.TheVariants.{Counts}
-use Rattle.timing.specs.declared.GraphMade.TheVariants.{Refused as NoGraph}
+use Rattle.std.specs.Prelude.{ℕ, zero, suc, List, [], ◌∷◌, leb, Result, Err}
+use Rattle.timing.specs.Answers.{Counts}
+use Rattle.timing.specs.declared.GraphCounts.{GraphCounts}
+use Rattle.timing.specs.declared.Refusal.{Refusal}
 use Rattle.timing.specs.Refusals.{unless, ◌then◌}
 use Rattle.timing.specs.Parsing.{Parsed, found, stopped, Reader, ◌>>=◌, ◌>>◌, return, tested, number, repeated, Row, row, ended}
 use Rattle.timing.specs.GraphBytes.{CopyRow}
@@ -30,9 +30,9 @@ edges_in s edges = do
   ended s
   return m
 
-abbrev pub made_of : ℕ → Parsed ℕ → GraphMade
+abbrev pub made_of : ℕ → Parsed ℕ → Result GraphCounts Refusal
 made_of n (found m at) = Counts n m
-made_of n (stopped r) = NoGraph r
+made_of n (stopped r) = Err r
 
 -- k things from a place on, and the place behind them
 module _ {A : Type 0} where

@@ -5,7 +5,7 @@ ghost use Rattle.std.specs.Prelude.{◌≡◌};
 ghost use Rattle.timing.specs.Calls.{graph_slices, room_of, graph_read, graph_answer};
 ghost use Rattle.timing.specs.Calls.{nodes_after, endpoints_after, starts_after, ends_after, names_after};
 
-use timing::{GraphMade, Verdict};
+use timing::{GraphCounts, Refusal};
 
 mod reader;
 
@@ -17,7 +17,7 @@ pub fn read_graph(
     room_from: &mut [u32],
     room_to: &mut [u32],
     room_via: &mut [u32],
-) -> GraphMade
+) -> Result<GraphCounts, Refusal>
     ensures { let S = graph_slices room_nodes.old room_endpoint.old
         room_from.old room_to.old room_via.old in
         let o = graph_read s.now (room_of S) in
@@ -36,14 +36,14 @@ pub fn read_graph(
         room_via.len(),
     );
     match v {
-        Verdict::Refused(r) => {
-            return GraphMade::Refused(r);
+        Err(r) => {
+            return Err(r);
         }
-        Verdict::Passed => {}
+        Ok(()) => {}
     }
     let g = reader::look(s, room_nodes.len(), room_from.len());
     match g {
-        GraphMade::Counts { copies, edges } => {
+        Ok(GraphCounts { copies, edges }) => {
             reader::fill(
                 s,
                 copies,
@@ -54,8 +54,8 @@ pub fn read_graph(
                 room_to,
                 room_via,
             );
-            GraphMade::Counts { copies, edges }
+            Ok(GraphCounts { copies, edges })
         }
-        GraphMade::Refused(r) => GraphMade::Refused(r),
+        Err(r) => Err(r),
     }
 }

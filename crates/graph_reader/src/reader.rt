@@ -12,7 +12,7 @@ ghost use Rattle.graph_reader.specs.Reading.{copies_from, copies_end, rows_from,
 
 use entries::wide;
 use packed_lists::{look_rows, take_number};
-use timing::{GraphMade, Looked, NumberRead, Verdict};
+use timing::{GraphCounts, Refusal, Taken, Verdict};
 
 // 32, and then the number of the room.
 fn count_test(n: u32, limit: usize, full: u32, room: usize) -> Verdict
@@ -25,50 +25,50 @@ fn count_test(n: u32, limit: usize, full: u32, room: usize) -> Verdict
     verdicts::unless(32, false)
 }
 
-fn look_count(s: &[u8], at: usize, limit: usize, full: u32, room: usize) -> NumberRead
+fn look_count(s: &[u8], at: usize, limit: usize, full: u32, room: usize) -> Result<Taken, Refusal>
     ensures { result ≡ number_of (count_in s.now limit full room at) }
 {
     let r = packed::read_number(s, at);
     match r {
-        NumberRead::Value { value, next } => {
+        Ok(Taken { value, next }) => {
             let v = count_test(value, limit, full, room);
             match v {
-                Verdict::Passed => NumberRead::Value { value, next },
-                Verdict::Refused(e) => NumberRead::Refused(e),
+                Ok(()) => Ok(Taken { value, next }),
+                Err(e) => Err(e),
             }
         }
-        NumberRead::Refused(e) => NumberRead::Refused(e),
+        Err(e) => Err(e),
     }
 }
 
 // An endpoint number: 32 above 1, as soon as it is met.
-fn look_endpoint(s: &[u8], at: usize) -> Looked
+fn look_endpoint(s: &[u8], at: usize) -> Result<usize, Refusal>
     ensures { result ≡ looked (endpoint_in s.now at) }
 {
     let r = packed::read_number(s, at);
     match r {
-        NumberRead::Value { value, next } => {
+        Ok(Taken { value, next }) => {
             if value <= 1 {
-                return Looked::At(next);
+                return Ok(next);
             }
-            Looked::Refused(verdicts::refuse(32, 0))
+            Err(verdicts::refuse(32, 0))
         }
-        NumberRead::Refused(e) => Looked::Refused(e),
+        Err(e) => Err(e),
     }
 }
 
 // A copy: its node, and its endpoint number.
-fn look_copy(s: &[u8], at: usize) -> Looked
+fn look_copy(s: &[u8], at: usize) -> Result<usize, Refusal>
     ensures { result ≡ looked (copy_row s.now at) }
 {
     let r = packed::read_number(s, at);
     match r {
-        NumberRead::Value { value: _, next } => look_endpoint(s, next),
-        NumberRead::Refused(e) => Looked::Refused(e),
+        Ok(Taken { value: _, next }) => look_endpoint(s, next),
+        Err(e) => Err(e),
     }
 }
 
-fn look_copies(s: &[u8], at: usize, n: usize) -> Looked
+fn look_copies(s: &[u8], at: usize, n: usize) -> Result<usize, Refusal>
     ensures { result ≡ looked (repeated n (copy_row s.now) at) }
 {
     let mut here = at;
@@ -76,56 +76,56 @@ fn look_copies(s: &[u8], at: usize, n: usize) -> Looked
     while i < n {
         let r = look_copy(s, here);
         match r {
-            Looked::At(next) => {
+            Ok(next) => {
                 here = next;
                 i += 1;
             }
-            Looked::Refused(e) => {
-                return Looked::Refused(e);
+            Err(e) => {
+                return Err(e);
             }
         }
     }
-    Looked::At(here)
+    Ok(here)
 }
 
 // The edges, and 3.
-fn look_edges(s: &[u8], at: usize, copies: u32, edges: usize) -> GraphMade
+fn look_edges(s: &[u8], at: usize, copies: u32, edges: usize) -> Result<GraphCounts, Refusal>
     ensures { result ≡ made_of copies (edges_in s.now edges at) }
 {
     let r = look_count(s, at, timing::MAX_COPY_EDGES, 34, edges);
     match r {
-        NumberRead::Value { value, next } => {
+        Ok(Taken { value, next }) => {
             let q = look_rows(s, next, value, 3);
             match q {
-                Looked::At(after) => {
+                Ok(after) => {
                     if s.len() <= after {
-                        return GraphMade::Counts {
+                        return Ok(GraphCounts {
                             copies: wide(copies),
                             edges: wide(value),
-                        };
+                        });
                     }
-                    GraphMade::Refused(verdicts::refuse(3, after))
+                    Err(verdicts::refuse(3, after))
                 }
-                Looked::Refused(e) => GraphMade::Refused(e),
+                Err(e) => Err(e),
             }
         }
-        NumberRead::Refused(e) => GraphMade::Refused(e),
+        Err(e) => Err(e),
     }
 }
 
-pub(crate) fn look(s: &[u8], copies: usize, edges: usize) -> GraphMade
+pub(crate) fn look(s: &[u8], copies: usize, edges: usize) -> Result<GraphCounts, Refusal>
     ensures { result ≡ graph_answer (parsed (read_graph s.now copies edges)) }
 {
     let r = look_count(s, 0, timing::MAX_COPIES, 33, copies);
     match r {
-        NumberRead::Value { value, next } => {
+        Ok(Taken { value, next }) => {
             let q = look_copies(s, next, wide(value));
             match q {
-                Looked::At(after) => look_edges(s, after, value, edges),
-                Looked::Refused(e) => GraphMade::Refused(e),
+                Ok(after) => look_edges(s, after, value, edges),
+                Err(e) => Err(e),
             }
         }
-        NumberRead::Refused(e) => GraphMade::Refused(e),
+        Err(e) => Err(e),
     }
 }
 

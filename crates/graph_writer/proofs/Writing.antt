@@ -5,15 +5,13 @@ use native.Mathlib.Numerals.{add-one}
 use mathlib.Core.Path.{◌≡◌, refl, sym, ◌∙◌, ap}
 use mathlib.Core.Bool.{◌&&◌}
 use mathlib.Core.List.{List, [], ◌∷◌, ◌++◌, flat_map, append_assoc}
+use Rattle.std.specs.Prelude.{Ok, Err}
+use Rattle.timing.specs.Answers.{Verdict, Passed}
 use lib.Dec.{leb, leb→le}
 use lib.ListN.{length, get_or, drop, drop_of_length-le}
 use lib.Seq.{sets, drop-cons}
 use Rattle.timing.specs.WellFormed.{zero_or_one}
 use Rattle.timing.specs.declared.Refusal.{Refusal}
-use Rattle.timing.specs.declared.Verdict.{Verdict}
-use Rattle.timing.specs.declared.Verdict.TheVariants.{Passed}
-use Rattle.timing.specs.declared.Verdict.TheVariants.{Refused as NotPassed}
-use Rattle.timing.specs.declared.Written.TheVariants.{End}
 use Rattle.timing.specs.Graphs.{Graph, edges_of}
 use Rattle.timing.specs.GraphBytes.{copy_numbers, graph_numbers, packed_graph}
 use Rattle.timing.specs.Refusals.{◌then◌}
@@ -124,7 +122,7 @@ module _ (nodes endpoint from to via : List ℕ) (f : Fits nodes endpoint from t
 
 -- Two tests, and a third: where it is not asked for, and where it decides.
 module _ (u v w x : Verdict) (p : x ≡ (u then v)) where
-  pub then_refused : (r : Refusal) → x ≡ NotPassed r → x ≡ (u then v then w)
+  pub then_refused : (r : Refusal) → x ≡ Err r → x ≡ (u then v then w)
   then_refused r q = one ∙ then_assoc u v w
     where
       one : x ≡ ((u then v) then w)
@@ -154,7 +152,7 @@ tests_are nodes endpoint from to via = go (room_sizes (room_of (graph_slices nod
     go Passed q =
         let p = room_passed (room_of (graph_slices nodes endpoint from to via)) q in
         rw (edge_count_lem nodes endpoint from to via p.1 p.2)
-    go (NotPassed r) q = refl
+    go (Err r) q = refl
 
 pub tests_fit : (nodes endpoint from to via : List ℕ)
     → (room_sizes (room_of (graph_slices nodes endpoint from to via))
@@ -179,9 +177,9 @@ tests_fit nodes endpoint from to via q =
 
 -- What the writer answers and leaves, where the graph is written.
 pub write_done : (v : Verdict) (G : Graph) (room room' : List ℕ) (next : ℕ) → v ≡ Passed → length (packed_graph G) ≤ length room → Wrote room room' 0 next (graph_numbers G)
-    → (End next ≡ writing v room (packed_graph G)) × (room' ≡ room_after_writing v room (packed_graph G))
+    → (Ok next ≡ writing v room (packed_graph G)) × (room' ≡ room_after_writing v room (packed_graph G))
 write_done v G room room' next e h w =
     let l : 0 + length (packed_graph G) ≤ length room = omega arith in
     let i : room' ≡ sets room 0 (packed_graph G) = rw (packed_graph_lem G) w.is in
     let n : next ≡ 0 + length (packed_graph G) = rw (packed_graph_lem G) w.end in
-    rw e (ap End n ∙ sym (answer_fits room 0 (packed_graph G) l), i ∙ sym (written_sets room 0 (packed_graph G) l))
+    rw e (ap Ok n ∙ sym (answer_fits room 0 (packed_graph G) l), i ∙ sym (written_sets room 0 (packed_graph G) l))

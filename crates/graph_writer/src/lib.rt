@@ -5,7 +5,7 @@ ghost use Rattle.std.specs.Prelude.{◌≡◌};
 ghost use Rattle.timing.specs.GraphBytes.{packed_graph};
 ghost use Rattle.timing.specs.Calls.{graph_slices, graph_of, writing, room_after_writing, graph_write_tests};
 
-use timing::{Verdict, Written};
+use timing::Refusal;
 
 mod writer;
 
@@ -17,7 +17,7 @@ pub fn write_graph(
     to: &[u32],
     via: &[u32],
     room: &mut [u8],
-) -> Written
+) -> Result<usize, Refusal>
     ensures { let S = graph_slices nodes.now endpoint.now
         from.now to.now via.now in
         let bytes = packed_graph (graph_of S) in
@@ -26,13 +26,13 @@ pub fn write_graph(
 {
     let v = writer::write_tests(nodes.len(), endpoint, from.len(), to.len(), via.len());
     match v {
-        Verdict::Refused(r) => {
-            return Written::Refused(r);
+        Err(r) => {
+            return Err(r);
         }
-        Verdict::Passed => {}
+        Ok(()) => {}
     }
     if writer::graph_fits(nodes, endpoint, from, to, via, room.len()) {
-        return Written::End(writer::put_graph(nodes, endpoint, from, to, via, room));
+        return Ok(writer::put_graph(nodes, endpoint, from, to, via, room));
     }
-    Written::Refused(verdicts::refuse(35, 0))
+    Err(verdicts::refuse(35, 0))
 }

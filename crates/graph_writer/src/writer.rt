@@ -9,7 +9,7 @@ ghost use Rattle.timing.specs.Calls.{graph_slices, graph_of};
 ghost use Rattle.packed_lists.specs.Writing.{size, Wrote};
 ghost use Rattle.graph_writer.specs.Writing.{Fits, rows_of};
 
-use timing::{Verdict, Written};
+use timing::Verdict;
 
 fn both(a: bool, b: bool) -> bool
     ensures { result ≡ (a && b) }
@@ -34,9 +34,7 @@ pub(crate) fn write_tests(
     let v = verdicts::graph_sizes(copies, endpoint.len(), from, to, via);
     let few = both(copies <= timing::MAX_COPIES, from <= timing::MAX_COPY_EDGES);
     let v = verdicts::and_unless(v, 32, few);
-    let Verdict::Passed = v else {
-        return v;
-    };
+    v?;
     verdicts::unless(32, verdicts::zero_or_one(endpoint))
 }
 
@@ -108,8 +106,8 @@ fn put(room: &mut [u8], at: usize, x: u32) -> usize
 {
     let w = packed::write_number(room, at, x);
     match w {
-        Written::End(next) => next,
-        Written::Refused(_) => at,
+        Ok(next) => next,
+        Err(_) => at,
     }
 }
 
@@ -144,8 +142,8 @@ fn put_row(room: &mut [u8], at: usize, s: u32, t: u32, k: u32) -> usize
 {
     let w = packed::write_row(room, at, s, t, k);
     match w {
-        Written::End(next) => next,
-        Written::Refused(_) => at,
+        Ok(next) => next,
+        Err(_) => at,
     }
 }
 

@@ -4,13 +4,11 @@ use native.Mathlib.Omega.{arith}
 use mathlib.Core.Path.{◌≡◌, refl, sym, subst}
 use mathlib.Core.Bool.{Bool, true, false, cond}
 use mathlib.Core.List.{List}
+use Rattle.std.specs.Prelude.{Ok, Err}
+use Rattle.timing.specs.Answers.{Verdict, Passed}
 use lib.Dec.{leb}
 use lib.ListN.{length}
 use borrow.Author.Tests.{leb-true, leb-false}
-use Rattle.timing.specs.declared.Verdict.{Verdict}
-use Rattle.timing.specs.declared.Verdict.TheVariants.{Passed, Refused}
-use Rattle.timing.specs.declared.Written.TheVariants.{End}
-use Rattle.timing.specs.declared.Written.TheVariants.{Refused as NotWritten}
 use Rattle.timing.specs.Graphs.{Design, Graph, design_graph}
 use Rattle.timing.specs.Marks.{PathList, paths_of}
 use Rattle.timing.specs.TrueGraphs.{true_graph}
@@ -47,17 +45,17 @@ module _ (room : List ℕ) (h : length room < 9223372036854775808) where
   unfolding write_answer
   small_answer bs = go (leb (0 + length bs) (length room)) refl
     where
-      go : (b : Bool) → leb (0 + length bs) (length room) ≡ b → SmallWritten (cond b (End (0 + length bs)) (NotWritten (refusal 35 0)))
+      go : (b : Bool) → leb (0 + length bs) (length room) ≡ b → SmallWritten (cond b (Ok (0 + length bs)) (Err (refusal 35 0)))
       go true e = omega (arith, leb-true (0 + length bs) (length room) e)
       go false e = (omega arith, omega arith)
 
   small_outcome : (v : Verdict) (H : Graph) → Small v → SmallWritten (c_written (outcome v H) room)
   small_outcome Passed H s = small_answer (packed_graph H)
-  small_outcome (Refused x) H s = s
+  small_outcome (Err x) H s = s
 
   small_writing : (v : Verdict) (bs : List ℕ) → Small v → SmallWritten (writing v room bs)
   small_writing Passed bs s = small_answer bs
-  small_writing (Refused x) bs s = s
+  small_writing (Err x) bs s = s
 
   pub small_graph : (S : GraphSlices) → SmallWritten (writing (graph_write_tests S) room (packed_graph (graph_of S)))
   unfolding graph_write_tests

@@ -15,7 +15,7 @@ ghost use Rattle.timing.specs.Calls.{graph_write_tests, writing, room_after_writ
 ghost use Rattle.timing.specs.Calls.{refusal_number, graph_number, verdict_number, lateness_number, c_number, c_call, c_room};
 ghost use Rattle.true_graph.specs.Small.{SmallRefusal, SmallGraph, SmallLateness, SmallWritten, Small};
 
-use timing::{GraphMade, Lateness, Refusal, Verdict, Written};
+use timing::{GraphCounts, Refusal, Verdict};
 
 fn positive(x: usize) -> i64
     requires { x < 9223372036854775808 }
@@ -38,13 +38,13 @@ fn refusal_number(r: Refusal) -> i64
     negative(r.number as usize + 256 * r.place)
 }
 
-fn graph_number(made: GraphMade) -> i64
+fn graph_number(made: Result<GraphCounts, Refusal>) -> i64
     requires { SmallGraph made }
     ensures { result ≡ graph_number made }
 {
     match made {
-        GraphMade::Counts { copies, edges } => positive(copies + edges * 4294967296),
-        GraphMade::Refused(r) => refusal_number(r),
+        Ok(GraphCounts { copies, edges }) => positive(copies + edges * 4294967296),
+        Err(r) => refusal_number(r),
     }
 }
 
@@ -53,29 +53,29 @@ fn verdict_number(v: Verdict) -> i64
     ensures { result ≡ verdict_number v }
 {
     match v {
-        Verdict::Passed => 0,
-        Verdict::Refused(r) => refusal_number(r),
+        Ok(()) => 0,
+        Err(r) => refusal_number(r),
     }
 }
 
-fn lateness_number(l: Lateness) -> i64
+fn lateness_number(l: Result<Option<usize>, Refusal>) -> i64
     requires { SmallLateness l }
     ensures { result ≡ lateness_number l }
 {
     match l {
-        Lateness::Late { copy } => positive(1 + copy),
-        Lateness::OnTime => 0,
-        Lateness::Refused(r) => refusal_number(r),
+        Ok(Some(copy)) => positive(1 + copy),
+        Ok(None) => 0,
+        Err(r) => refusal_number(r),
     }
 }
 
-fn written_number(w: Written) -> i64
+fn written_number(w: Result<usize, Refusal>) -> i64
     requires { SmallWritten w }
     ensures { result ≡ c_number w }
 {
     match w {
-        Written::End(end) => positive(end),
-        Written::Refused(r) => refusal_number(r),
+        Ok(end) => positive(end),
+        Err(r) => refusal_number(r),
     }
 }
 

@@ -6,11 +6,10 @@ use native.Mathlib.Numerals.{add-one}
 use mathlib.Core.Path.{◌≡◌, refl, sym, ◌∙◌, ap}
 use mathlib.Core.Bool.{Bool, true, false}
 use mathlib.Core.List.{List, [], ◌∷◌, ◌++◌, map}
+use Rattle.timing.specs.Answers.{Passed, Late, OnTime}
 use lib.IntN.{ℤ, pos}
 use lib.ListN.{length, get_or, set, drop, length-append, length-drop, get_or-append}
 use lib.Seq.{get_or-append-add, get_or-drop, ext_get_or}
-use Rattle.timing.specs.declared.Lateness.TheVariants.{Late, OnTime}
-use Rattle.timing.specs.declared.Verdict.TheVariants.{Passed}
 use Rattle.timing.specs.Lists.{keep, upto, placed}
 use Rattle.timing.specs.Times.{largest, arrival_at, late_at}
 use Rattle.timing.specs.Calls.{GraphSlices, graph_of, lowest_late}

@@ -14,7 +14,7 @@ mod search;
 
 use crate::search::late_where;
 use timed::timing_tests;
-use timing::Lateness;
+use timing::Refusal;
 use verdicts::same_sizes;
 
 // The lowest copy of a true graph where paths end with an arrival above T, or that there is none. The
@@ -34,7 +34,7 @@ pub fn late_or_not(
     to: &[u32],
     via: &[u32],
     arrivals: &mut [i64],
-) -> Lateness
+) -> Result<Option<usize>, Refusal>
     ensures { let D = design n starts.now ends.now
         early.now late.now marked.now in
         let S = graph_slices nodes.now endpoint.now

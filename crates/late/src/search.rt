@@ -1,7 +1,8 @@
 // The search for the lowest late copy.
-ghost use Rattle.std.specs.Prelude.{◌≡◌, ◌&&◌, map, eqb, pos, length};
+ghost use Rattle.std.specs.Prelude.{◌≡◌, ◌&&◌, map, eqb, pos, length, Result, Ok, Err, Some, Option};
 ghost use Rattle.std.specs.Int.Signed.{lt_z};
-ghost use Rattle.timing.specs.declared.Verdict.TheVariants.{Passed};
+ghost use Rattle.timing.specs.Answers.{Passed};
+ghost use Rattle.timing.specs.declared.Refusal.{Refusal};
 ghost use Rattle.timing.specs.Lists.{placed, upto};
 ghost use Rattle.timing.specs.Graphs.{design};
 ghost use Rattle.timing.specs.Times.{arrival_at, late_copies};
@@ -10,7 +11,7 @@ ghost use Rattle.timing.specs.Calls.{late_answer};
 ghost use Rattle.times.specs.Passes.{delay_of, Fit};
 
 use crate::fanin::arrive;
-use timing::{Lateness, Verdict};
+use timing::{Refusal, Verdict};
 
 // Paths end at a copy with this endpoint number, and this arrival is above T.
 fn is_late(endpoint: u32, allowed: u32, arrival: i64) -> bool
@@ -33,7 +34,7 @@ fn find_late(
     via: &[u32],
     allowed: u32,
     arrivals: &mut [i64],
-) -> Lateness
+) -> Result<Option<usize>, Refusal>
     requires fit { Fit late.now (graph_slices nodes.now endpoint.now from.now to.now via.now) }
     requires as_long { let copies = length nodes.now in
         (length arrivals.old ≡ copies) × (length endpoint.now ≡ copies) }
@@ -50,11 +51,11 @@ fn find_late(
     while c < nodes.len() {
         first = arrive(late, from, to, via, arrivals, c, first);
         if is_late(endpoint[c], allowed, arrivals[c]) {
-            return Lateness::Late { copy: c };
+            return Ok(Some(c));
         }
         c += 1;
     }
-    Lateness::OnTime
+    Ok(None)
 }
 
 // The answer of `late_or_not`, and the arrivals afterwards, from what its tests answered.
@@ -73,7 +74,7 @@ pub(crate) fn late_where(
     to: &[u32],
     via: &[u32],
     arrivals: &mut [i64],
-) -> Lateness
+) -> Result<Option<usize>, Refusal>
     requires { let D = design n starts.now ends.now early.now late.now marked.now in
         let S = graph_slices nodes.now endpoint.now from.now to.now via.now in
         tested ≡ test_late D S allowed (length arrivals.old) }
@@ -85,7 +86,7 @@ pub(crate) fn late_where(
         (result ≡ answer) × (arrivals.new ≡ arrivals_after_late D S allowed answer arrivals.old) }
 {
     match tested {
-        Verdict::Passed => find_late(late, nodes, endpoint, from, to, via, allowed, arrivals),
-        Verdict::Refused(r) => Lateness::Refused(r),
+        Ok(()) => find_late(late, nodes, endpoint, from, to, via, allowed, arrivals),
+        Err(r) => Err(r),
     }
 }

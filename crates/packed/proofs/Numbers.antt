@@ -6,14 +6,17 @@ use native.Mathlib.Numerals.{add-one}
 use mathlib.Core.Path.{◌≡◌, refl, sym, ◌∙◌, ap}
 use mathlib.Core.Bool.{Bool, true, false, cond}
 use mathlib.Core.List.{List, [], ◌∷◌, ◌++◌}
+use Rattle.std.specs.Prelude.{Result, Ok, Err}
+use Rattle.timing.specs.Answers.{Number, Value}
+use Rattle.timing.specs.declared.Groups.{Groups}
+use Rattle.timing.specs.declared.NoNumber.{NoNumber}
+use Rattle.timing.specs.declared.Taken.{Taken}
+use Rattle.timing.specs.declared.Refusal.{Refusal}
+use Rattle.timing.specs.declared.NoNumber.TheVariants.{Ended, Unfit}
 use lib.Dec.{ltb, leb, eqb}
 use lib.ListN.{length, get_or, take, drop, drop_of_length-le}
 use lib.Seq.{drop-cons, get_or-drop, drop_at, length-take-le}
 use borrow.Author.Tests.{ltb-true, ltb-false, leb-true, eqb-false, lt-ltb, le-ltb, le-leb, ne_eqb}
-use Rattle.timing.specs.declared.Groups.{Groups}
-use Rattle.timing.specs.declared.Groups.TheVariants.{Number, Ended, Unfit}
-use Rattle.timing.specs.declared.NumberRead.{NumberRead}
-use Rattle.timing.specs.declared.NumberRead.TheVariants.{Value, Refused}
 use Rattle.timing.specs.Numbers.{packed_in, packed, followed, groups_in, number_answer, read_number, written_room}
 use Rattle.timing.proofs.Choice.{cond_elim}
 
@@ -59,21 +62,21 @@ read_packed top (suc g) x rest h =
     (ap (λ (y : ℕ). Number y (suc (length (packed_in g (x / 128))))) (omega arith)))
 
 -- 2. Packing what was read gives the bytes that were read.
-abbrev pub Back : ℕ → List ℕ → Groups → Type 0
-Back g s (Number v n) = take n s ≡ packed_in g v
-Back g s Ended = Unit {0}
-Back g s Unfit = Unit {0}
+abbrev pub Back : ℕ → List ℕ → Result Groups NoNumber → Type 0
+Back g s (Ok m) = take m.size s ≡ packed_in g m.value
+Back g s (Err Ended) = Unit {0}
+Back g s (Err Unfit) = Unit {0}
 
-followed_back : (g a : ℕ) (s : List ℕ) (r : Groups) → 128 ≤ a → a < 256 → Back g s r → Back (suc g) (a ∷ s) (followed a r)
+followed_back : (g a : ℕ) (s : List ℕ) (r : Result Groups NoNumber) → 128 ≤ a → a < 256 → Back g s r → Back (suc g) (a ∷ s) (followed a r)
 unfolding packed_in
-followed_back g a s (Number v n) l h k =
-    cond_elim (Back (suc g) (a ∷ s)) (eqb v 0) (λ e. tt)
-    (λ e. let p : 1 ≤ v = omega (arith, eqb-false v 0 e) in
-    let q : (a - 128 + 128 * v) / 128 ≡ v = omega arith in
-    let m : (a - 128 + 128 * v) % 128 + 128 ≡ a = omega arith in
-    rw (add-one n, le-ltb (a - 128 + 128 * v) 128 (omega arith), q, m, k))
-followed_back g a s Ended l h k = tt
-followed_back g a s Unfit l h k = tt
+followed_back g a s (Ok m') l h k =
+    cond_elim (Back (suc g) (a ∷ s)) (eqb m'.value 0) (λ e. tt)
+    (λ e. let p : 1 ≤ m'.value = omega (arith, eqb-false m'.value 0 e) in
+    let q : (a - 128 + 128 * m'.value) / 128 ≡ m'.value = omega arith in
+    let m : (a - 128 + 128 * m'.value) % 128 + 128 ≡ a = omega arith in
+    rw (add-one m'.size, le-ltb (a - 128 + 128 * m'.value) 128 (omega arith), q, m, k))
+followed_back g a s (Err Ended) l h k = tt
+followed_back g a s (Err Unfit) l h k = tt
 
 pub packed_read : (top g : ℕ) (s : List ℕ) → Bytes s → Back g s (groups_in top g s)
 unfolding groups_in packed_in
@@ -86,15 +89,15 @@ packed_read top (suc g) (a ∷ s) h =
     (λ e. followed_back g a s (groups_in top g s) (ltb-false a 128 e) (h 0) (packed_read top g s (λ i. h (suc i))))
 
 -- 3. What is read is below the bound and takes at most a byte for each group.
-abbrev pub Below : ℕ → ℕ → Groups → Type 0
-Below m g (Number v n) = (v < m) × (n ≤ g + 1)
-Below m g Ended = Unit {0}
-Below m g Unfit = Unit {0}
+abbrev pub Below : ℕ → ℕ → Result Groups NoNumber → Type 0
+Below m g (Ok m') = (m'.value < m) × (m'.size ≤ g + 1)
+Below m g (Err Ended) = Unit {0}
+Below m g (Err Unfit) = Unit {0}
 
-followed_below : (m g b : ℕ) (r : Groups) → b < 256 → Below m g r → Below (128 * m) (suc g) (followed b r)
-followed_below m g b (Number v n) h k = cond_elim (Below (128 * m) (suc g)) (eqb v 0) (λ e. tt) (λ e. (omega arith, omega arith))
-followed_below m g b Ended h k = tt
-followed_below m g b Unfit h k = tt
+followed_below : (m g b : ℕ) (r : Result Groups NoNumber) → b < 256 → Below m g r → Below (128 * m) (suc g) (followed b r)
+followed_below m g b (Ok m') h k = cond_elim (Below (128 * m) (suc g)) (eqb m'.value 0) (λ e. tt) (λ e. (omega arith, omega arith))
+followed_below m g b (Err Ended) h k = tt
+followed_below m g b (Err Unfit) h k = tt
 
 pub number_below : (top g : ℕ) (s : List ℕ) → Bytes s → Below (cap top g) g (groups_in top g s)
 unfolding groups_in cap
@@ -107,15 +110,15 @@ number_below top (suc g) (b ∷ s) h =
     (λ e. followed_below (cap top g) g b (groups_in top g s) (h 0) (number_below top g s (λ i. h (suc i))))
 
 -- 4. A number takes a byte at least, and no byte past the end.
-abbrev pub Inside : List ℕ → Groups → Type 0
-Inside s (Number v n) = (1 ≤ n) × (n ≤ length s)
-Inside s Ended = Unit {0}
-Inside s Unfit = Unit {0}
+abbrev pub Inside : List ℕ → Result Groups NoNumber → Type 0
+Inside s (Ok m) = (1 ≤ m.size) × (m.size ≤ length s)
+Inside s (Err Ended) = Unit {0}
+Inside s (Err Unfit) = Unit {0}
 
-followed_inside : (a : ℕ) (s : List ℕ) (r : Groups) → Inside s r → Inside (a ∷ s) (followed a r)
-followed_inside a s (Number v n) k = cond_elim (Inside (a ∷ s)) (eqb v 0) (λ e. tt) (λ e. (omega arith, omega arith))
-followed_inside a s Ended k = tt
-followed_inside a s Unfit k = tt
+followed_inside : (a : ℕ) (s : List ℕ) (r : Result Groups NoNumber) → Inside s r → Inside (a ∷ s) (followed a r)
+followed_inside a s (Ok m) k = cond_elim (Inside (a ∷ s)) (eqb m.value 0) (λ e. tt) (λ e. (omega arith, omega arith))
+followed_inside a s (Err Ended) k = tt
+followed_inside a s (Err Unfit) k = tt
 
 pub number_inside : (top g : ℕ) (s : List ℕ) → Inside s (groups_in top g s)
 unfolding groups_in
@@ -215,12 +218,12 @@ packed_shortest (suc g) x (b ∷ c ∷ s) k e =
     (λ q. omega (arith, packed_shortest g (x / 128) (c ∷ s) k.2 (omega arith)))
 
 -- The cases at a place of a list, as the reader meets them.
-pub number_end : (top g : ℕ) (s : List ℕ) (at : ℕ) → length s ≤ at → groups_in top g (drop at s) ≡ Ended
+pub number_end : (top g : ℕ) (s : List ℕ) (at : ℕ) → length s ≤ at → groups_in top g (drop at s) ≡ (Err Ended)
 unfolding groups_in
 number_end top zero s at h = rw (drop_of_length-le s h)
 number_end top (suc g) s at h = rw (drop_of_length-le s h)
 
-pub number_last : (top g : ℕ) (s : List ℕ) (at : ℕ) → at < length s → g ≡ 0 → groups_in top g (drop at s) ≡ cond (leb (get_or s at 0) top) (Number (get_or s at 0) 1) Unfit
+pub number_last : (top g : ℕ) (s : List ℕ) (at : ℕ) → at < length s → g ≡ 0 → groups_in top g (drop at s) ≡ cond (leb (get_or s at 0) top) (Number (get_or s at 0) 1) (Err Unfit)
 unfolding groups_in
 number_last top g s at h e = rw (e, drop-cons s at 0 h)
 
@@ -249,15 +252,15 @@ read_written room at x l h =
     rw (le-leb (at + length (packed x)) (length room) h, drop_at (take at room) (packed x ++ drop (at + length (packed x)) room) at (length-take-le at room (omega arith)), read_packed 15 4 x (drop (at + length (packed x)) room) (rw cap_32 l))
 
 -- and the bytes that were read as a number are its packed form.
-abbrev pub SameBytes : List ℕ → ℕ → NumberRead → Type 0
-SameBytes s at (Value v next) = take (next - at) (drop at s) ≡ packed v
-SameBytes s at (Refused r) = Unit {0}
+abbrev pub SameBytes : List ℕ → ℕ → Result Taken Refusal → Type 0
+SameBytes s at (Ok t) = take (t.next - at) (drop at s) ≡ packed t.value
+SameBytes s at (Err r) = Unit {0}
 
 pub written_read : (s : List ℕ) (at : ℕ) → Bytes s → SameBytes s at (read_number s at)
 unfolding read_number
 written_read s at h = by (groups_in 15 4 (drop at s)) (packed_read 15 4 (drop at s) (bytes_drop s at h))
   where
-    by : (r : Groups) → Back 4 (drop at s) r → SameBytes s at (number_answer (length s) at r)
+    by : (r : Result Groups NoNumber) → Back 4 (drop at s) r → SameBytes s at (number_answer (length s) at r)
     by (Number v n) k = let d : at + n - at ≡ n = omega arith in rw d k
-    by Ended k = tt
-    by Unfit k = tt
+    by (Err Ended) k = tt
+    by (Err Unfit) k = tt

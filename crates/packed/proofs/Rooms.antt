@@ -4,11 +4,11 @@ use native.Mathlib.Omega.{arith}
 use mathlib.Core.Path.{◌≡◌, refl, sym, ◌∙◌, ap}
 use mathlib.Core.Bool.{Bool, true, false, cond}
 use mathlib.Core.List.{List, [], ◌∷◌, ◌++◌, flat_map, append_assoc, append-nil}
+use Rattle.std.specs.Prelude.{Ok, Err}
 use lib.Dec.{leb}
 use lib.ListN.{length, take, drop, set, length-append, length-drop}
 use lib.Seq.{sets, sets-eq, length-sets, length-take-le}
 use borrow.Author.Tests.{leb-true, le-leb, lt-leb}
-use Rattle.timing.specs.declared.Written.TheVariants.{End, Refused}
 use Rattle.timing.specs.Refusals.{refusal}
 use Rattle.timing.specs.Numbers.{packed, write_answer, written_room}
 
@@ -42,7 +42,7 @@ pub written_sets : (room : List ℕ) (at : ℕ) (bs : List ℕ) → at + length 
 unfolding written_room
 written_sets room at bs h = rw (le-leb (at + length bs) (length room) h) (sym (sets-eq bs room at h ∙ append_assoc (take at room) bs (drop (at + length bs) room)))
 
-pub answer_fits : (room : List ℕ) (at : ℕ) (bs : List ℕ) → at + length bs ≤ length room → write_answer room at bs ≡ End (at + length bs)
+pub answer_fits : (room : List ℕ) (at : ℕ) (bs : List ℕ) → at + length bs ≤ length room → write_answer room at bs ≡ Ok (at + length bs)
 unfolding write_answer
 answer_fits room at bs h = rw (le-leb (at + length bs) (length room) h)
 
@@ -51,7 +51,7 @@ pub left_fewer : (len at n size : ℕ) → leb (at + n) len ≡ true → size �
 left_fewer len at n size e h = let l = leb-true (at + n) len e in le-leb (at + size) len (omega arith)
 
 -- where they do not
-pub too_long : (room bs : List ℕ) (at : ℕ) → length room < at + length bs → (write_answer room at bs ≡ Refused (refusal 35 0)) × (written_room room at bs ≡ room)
+pub too_long : (room bs : List ℕ) (at : ℕ) → length room < at + length bs → (write_answer room at bs ≡ Err (refusal 35 0)) × (written_room room at bs ≡ room)
 unfolding write_answer written_room
 too_long room bs at h = rw (lt-leb (at + length bs) (length room) h) (refl, refl)
 

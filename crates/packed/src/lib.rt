@@ -5,78 +5,78 @@ ghost use Rattle.std.specs.Prelude.{◌≡◌, ℕ, ◌+◌, ◌≤◌, cond, lt
 ghost use mathlib.Core.List.{[], ◌∷◌, flat_map};
 ghost use Rattle.timing.specs.Numbers.{packed, groups_in, read_number, write_answer, written_room};
 
-use timing::{Groups, NumberRead, Written};
+use timing::{Groups, NoNumber, Refusal, Taken};
 
 // The number at a place, with at most `g` groups after its first. The highest group comes back
 // first, so that each turn adds one group below what is known.
-fn groups(s: &[u8], at: usize, g: usize) -> Groups
+fn groups(s: &[u8], at: usize, g: usize) -> Result<Groups, NoNumber>
     requires { g ≤ 4 }
     ensures { result ≡ groups_in 15 g (drop at s.now) }
 {
     if s.len() <= at {
-        return Groups::Ended;
+        return Err(NoNumber::Ended);
     }
     let b = s[at] as u32;
     if g == 0 {
         if b <= 15 {
-            return Groups::Number { value: b, size: 1 };
+            return Ok(Groups { value: b, size: 1 });
         }
-        return Groups::Unfit;
+        return Err(NoNumber::Unfit);
     }
     if b < 128 {
-        return Groups::Number { value: b, size: 1 };
+        return Ok(Groups { value: b, size: 1 });
     }
     let higher = groups(s, at + 1, g - 1);
     match higher {
-        Groups::Number { value, size } => {
+        Ok(Groups { value, size }) => {
             if value == 0 {
-                return Groups::Unfit;
+                return Err(NoNumber::Unfit);
             }
-            Groups::Number {
+            Ok(Groups {
                 value: b - 128 + 128 * value,
                 size: size + 1,
-            }
+            })
         }
         _ => higher,
     }
 }
 
 // Reads the number at a place of the bytes, however many groups it has.
-fn read_groups(s: &[u8], at: usize) -> NumberRead
+fn read_groups(s: &[u8], at: usize) -> Result<Taken, Refusal>
     ensures { result ≡ read_number s.now at }
 {
     let found = groups(s, at, 4);
     match found {
-        Groups::Number { value, size } => NumberRead::Value {
+        Ok(Groups { value, size }) => Ok(Taken {
             value,
             next: at + size,
-        },
-        Groups::Ended => NumberRead::Refused(verdicts::refuse(1, s.len())),
-        Groups::Unfit => NumberRead::Refused(verdicts::refuse(2, at)),
+        }),
+        Err(NoNumber::Ended) => Err(verdicts::refuse(1, s.len())),
+        Err(NoNumber::Unfit) => Err(verdicts::refuse(2, at)),
     }
 }
 
 // Reads the number at a place of the bytes. The one or two bytes that most numbers take are spelled out, so that these
 // pass through no recursion.
-pub fn read_number(s: &[u8], at: usize) -> NumberRead
+pub fn read_number(s: &[u8], at: usize) -> Result<Taken, Refusal>
     ensures { result ≡ read_number s.now at }
 {
     if at < s.len() {
         let low = s[at] as u32;
         if low < 128 {
-            return NumberRead::Value {
+            return Ok(Taken {
                 value: low,
                 next: at + 1,
-            };
+            });
         }
         if at + 1 < s.len() {
             let high = s[at + 1] as u32;
             if 0 < high {
                 if high < 128 {
-                    return NumberRead::Value {
+                    return Ok(Taken {
                         value: low - 128 + 128 * high,
                         next: at + 2,
-                    };
+                    });
                 }
             }
         }
@@ -140,14 +140,14 @@ fn holds(len: usize, at: usize, x: u32) -> bool
 }
 
 // Writes the packed form of `x` from a place of the room on, or refuses and leaves the room as it is.
-pub fn write_number(room: &mut [u8], at: usize, x: u32) -> Written
+pub fn write_number(room: &mut [u8], at: usize, x: u32) -> Result<usize, Refusal>
     ensures { (result ≡ write_answer room.old at (packed x))
         × (room.new ≡ written_room room.old at (packed x)) }
 {
     if holds(room.len(), at, x) {
-        Written::End(put_number(room, at, x))
+        Ok(put_number(room, at, x))
     } else {
-        Written::Refused(verdicts::refuse(35, 0))
+        Err(verdicts::refuse(35, 0))
     }
 }
 
@@ -172,15 +172,15 @@ fn put_row(room: &mut [u8], at: usize, a: u32, b: u32, c: u32) -> usize
 }
 
 // Writes three numbers one after the other, or refuses and leaves the room as it is.
-pub fn write_row(room: &mut [u8], at: usize, a: u32, b: u32, c: u32) -> Written
+pub fn write_row(room: &mut [u8], at: usize, a: u32, b: u32, c: u32) -> Result<usize, Refusal>
     ensures { let bytes = flat_map packed (a ∷ b ∷ c ∷ []) in
         (result ≡ write_answer room.old at bytes)
         × (room.new ≡ written_room room.old at bytes) }
 {
     if holds_row(room.len(), at, a, b, c) {
-        Written::End(put_row(room, at, a, b, c))
+        Ok(put_row(room, at, a, b, c))
     } else {
-        Written::Refused(verdicts::refuse(35, 0))
+        Err(verdicts::refuse(35, 0))
     }
 }
 

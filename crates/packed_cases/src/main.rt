@@ -9,7 +9,7 @@ ghost use Rattle.std.specs.Prelude.{ℕ, ◌+◌, ◌≤◌, ◌≡◌, length};
 
 use print::{bytes, number, refused, text};
 use std::io::{BufWriter, Read, Result, Write};
-use timing::{NumberRead, Written};
+use timing::{Refusal, Taken};
 
 // How many bytes of the input are read, at most.
 const BLOCK: u64 = 65536;
@@ -39,16 +39,16 @@ fn size(s: &[u8], most: usize) -> usize
 }
 
 // What a writer answered, and the room.
-fn written<W: Write>(out: &mut W, place: usize, answer: Written, room: &[u8]) -> Result<()> {
+fn written<W: Write>(out: &mut W, place: usize, answer: Result<usize, Refusal>, room: &[u8]) -> Result<()> {
     text(out, b" at ")?;
     number(out, place as u64)?;
     text(out, b": ")?;
     match answer {
-        Written::End(end) => {
+        Ok(end) => {
             text(out, b"end ")?;
             number(out, end as u64)?;
         }
-        Written::Refused(r) => refused(out, r)?,
+        Err(r) => refused(out, r)?,
     }
     text(out, b",")?;
     bytes(out, room)
@@ -86,13 +86,13 @@ fn read_case<W: Write>(out: &mut W, s: &[u8], place: usize) -> Result<()> {
     number(out, place as u64)?;
     text(out, b": ")?;
     match packed::read_number(s, place) {
-        NumberRead::Value { value, next } => {
+        Ok(Taken { value, next }) => {
             text(out, b"value ")?;
             number(out, value as u64)?;
             text(out, b" next ")?;
             number(out, next as u64)?;
         }
-        NumberRead::Refused(r) => refused(out, r)?,
+        Err(r) => refused(out, r)?,
     }
     Ok(())
 }

@@ -4,10 +4,9 @@ use native.Mathlib.Nat.{mul-zero, mul-suc}
 use native.Mathlib.Omega.{arith}
 use mathlib.Core.Path.{◌≡◌, refl, sym, ◌∙◌}
 use mathlib.Core.List.{List, [], ◌∷◌}
+use Rattle.std.specs.Prelude.{Ok, Err}
+use Rattle.timing.specs.Answers.{Value}
 use Rattle.timing.specs.declared.Refusal.{Refusal}
-use Rattle.timing.specs.declared.NumberRead.TheVariants.{Value}
-use Rattle.timing.specs.declared.NumberRead.TheVariants.{Refused as NotRead}
-use Rattle.timing.specs.declared.Looked.TheVariants.{At, Refused}
 use Rattle.timing.specs.Numbers.{read_number}
 use Rattle.timing.specs.Parsing.{Parsed, found, stopped, Reader, onward, ◌>>=◌, return, number, repeated, row}
 use Rattle.timing.specs.Looks.{looked}
@@ -19,28 +18,28 @@ looked_made (stopped r) f = refl
 
 -- Things one after the other: a turn of the loop, where it stops and where it ends.
 module _ {A : Type 0} (p : Reader A) (k i at : ℕ) where
-  pub looks_turn : (next : ℕ) → i < k → looked (p at) ≡ At next → looked (repeated (k - (i + 1)) p next) ≡ looked (repeated (k - i) p at)
+  pub looks_turn : (next : ℕ) → i < k → looked (p at) ≡ Ok next → looked (repeated (k - (i + 1)) p next) ≡ looked (repeated (k - i) p at)
   looks_turn next h e =
       let d : k - i ≡ suc (k - (i + 1)) = omega arith in
       rw d (one (p at) e)
     where
-      one : (q : Parsed A) → looked q ≡ At next
+      one : (q : Parsed A) → looked q ≡ Ok next
           → looked (repeated (k - (i + 1)) p next) ≡ looked (onward q (λ x. repeated (k - (i + 1)) p >>= (λ xs. return (x ∷ xs))))
       one (found x b) f =
           let g : next ≡ b = cc in
           rw g (sym (looked_made (repeated (k - (i + 1)) p b) (λ (xs : List A). x ∷ xs)))
       one (stopped r) f = absurd (let z : ◌≡◌ {A = ℕ} 0 1 = cc in omega arith)
 
-  pub looks_stop : (r : Refusal) → i < k → looked (p at) ≡ Refused r → Refused r ≡ looked (repeated (k - i) p at)
+  pub looks_stop : (r : Refusal) → i < k → looked (p at) ≡ Err r → Err r ≡ looked (repeated (k - i) p at)
   looks_stop r h e =
       let d : k - i ≡ suc (k - (i + 1)) = omega arith in
       rw d (one (p at) e)
     where
-      one : (q : Parsed A) → looked q ≡ Refused r → Refused r ≡ looked (onward q (λ x. repeated (k - (i + 1)) p >>= (λ xs. return (x ∷ xs))))
+      one : (q : Parsed A) → looked q ≡ Err r → Err r ≡ looked (onward q (λ x. repeated (k - (i + 1)) p >>= (λ xs. return (x ∷ xs))))
       one (found x b) f = absurd (let z : ◌≡◌ {A = ℕ} 0 1 = cc in omega arith)
       one (stopped r') f = sym f
 
-  pub looks_end : k ≤ i → At at ≡ looked (repeated (k - i) p at)
+  pub looks_end : k ≤ i → Ok at ≡ looked (repeated (k - i) p at)
   looks_end h =
       let d : k - i ≡ 0 = omega arith in
       rw d
@@ -51,10 +50,10 @@ looks_all p k at =
     rw d
 
 -- a number, by what was read
-pub number_found : (s : List ℕ) (at v next : ℕ) → read_number s at ≡ Value v next → looked (number s at) ≡ At next
+pub number_found : (s : List ℕ) (at v next : ℕ) → read_number s at ≡ Value v next → looked (number s at) ≡ Ok next
 number_found s at v next e = rw e
 
-pub number_stopped : (s : List ℕ) (at : ℕ) (r : Refusal) → read_number s at ≡ NotRead r → looked (number s at) ≡ Refused r
+pub number_stopped : (s : List ℕ) (at : ℕ) (r : Refusal) → read_number s at ≡ Err r → looked (number s at) ≡ Err r
 number_stopped s at r e = rw e
 
 -- Rows. A reader spans w numbers if it gets as far as a reader of w numbers, whatever it makes of them.

@@ -5,10 +5,10 @@ use mathlib.Core.Path.{◌≡◌, refl, sym, ◌∙◌}
 use mathlib.Core.Bool.{Bool, true, false, cond}
 use mathlib.Core.Logic.{inl, inr}
 use mathlib.Core.List.{List}
+use Rattle.timing.specs.Answers.{Value}
 use lib.Dec.{ltb, eqb}
 use lib.ListN.{length, get_or}
 use borrow.Author.Tests.{ltb-true, ltb-false, eqb-false, le-ltb, lt-ltb}
-use Rattle.timing.specs.declared.NumberRead.TheVariants.{Value}
 use Rattle.timing.specs.Numbers.{read_number}
 use Rattle.timing.specs.Parsing.{number, repeated}
 use Rattle.timing.specs.Looks.{looked}

@@ -3,10 +3,10 @@ use Prim.Native.Nat.{ℕ, ◌+◌, ◌≤◌}
 use native.Mathlib.Omega.{arith}
 use mathlib.Core.Path.{◌≡◌, refl, ◌∙◌, ap}
 use mathlib.Core.List.{List, [], ◌∷◌, ◌++◌, flat_map, append-nil}
+use Rattle.std.specs.Prelude.{Ok, Err}
 use lib.ListN.{length}
 use lib.Seq.{length-sets}
 use Rattle.timing.specs.declared.Refusal.{Refusal}
-use Rattle.timing.specs.declared.Written.TheVariants.{End, Refused}
 use Rattle.timing.specs.Numbers.{packed, write_answer, written_room}
 use Rattle.packed.proofs.Rooms.{sets_append, written_sets, answer_fits}
 use Rattle.packed_lists.specs.Writing.{bytes_of, size, Wrote, Left}
@@ -38,14 +38,14 @@ module _ (room : List ℕ) (at : ℕ) (xs bs : List ℕ) (b : bytes_of xs ≡ bs
   fits_bytes : at + length bs ≤ length room
   fits_bytes = rw b at h
 
-  pub put_fits : (room' : List ℕ) (next : ℕ) → End next ≡ write_answer room at bs → room' ≡ written_room room at bs → Wrote room room' at next xs
+  pub put_fits : (room' : List ℕ) (next : ℕ) → Ok next ≡ write_answer room at bs → room' ≡ written_room room at bs → Wrote room room' at next xs
   put_fits room' next e w =
-      let q : End next ≡ End (at + length bs) = e ∙ answer_fits room at bs fits_bytes in
+      let q : Ok next ≡ Ok (at + length bs) = e ∙ answer_fits room at bs fits_bytes in
       record { end = rw b (cc); is = rw b (w ∙ written_sets room at bs fits_bytes) }
 
-  pub put_never : (r : Refusal) → Refused r ≡ write_answer room at bs → ⊥
+  pub put_never : (r : Refusal) → Err r ≡ write_answer room at bs → ⊥
   put_never r e =
-      let q : Refused r ≡ End (at + length bs) = e ∙ answer_fits room at bs fits_bytes in
+      let q : Err r ≡ Ok (at + length bs) = e ∙ answer_fits room at bs fits_bytes in
       let z : ◌≡◌ {A = ℕ} 0 1 = cc in
       omega arith
 

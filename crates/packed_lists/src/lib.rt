@@ -10,7 +10,7 @@ ghost use Rattle.timing.specs.Looks.{looked, value_at, next_at};
 use crate::skips::skip_blocks;
 use entries::{least, wide};
 use packed::{number_size, read_number};
-use timing::{Looked, NumberRead, Taken};
+use timing::{Refusal, Taken};
 
 mod skips;
 
@@ -46,7 +46,7 @@ pub fn numbers_size(s: &[u32]) -> usize
 }
 
 // k numbers, one after the other; by blocks as long as these have short numbers only.
-pub fn look_numbers(s: &[u8], at: usize, k: usize) -> Looked
+pub fn look_numbers(s: &[u8], at: usize, k: usize) -> Result<usize, Refusal>
     ensures { result ≡ looked (repeated k (number s.now) at) }
 {
     let front = skip_blocks(s, at, k);
@@ -55,20 +55,20 @@ pub fn look_numbers(s: &[u8], at: usize, k: usize) -> Looked
     while n < k {
         let r = read_number(s, here);
         match r {
-            NumberRead::Value { value: _, next } => {
+            Ok(Taken { value: _, next }) => {
                 here = next;
                 n += 1;
             }
-            NumberRead::Refused(e) => {
-                return Looked::Refused(e);
+            Err(e) => {
+                return Err(e);
             }
         }
     }
-    Looked::At(here)
+    Ok(here)
 }
 
 // m rows of so many numbers each.
-pub fn look_rows(s: &[u8], at: usize, m: u32, width: u32) -> Looked
+pub fn look_rows(s: &[u8], at: usize, m: u32, width: u32) -> Result<usize, Refusal>
     ensures { result ≡ looked (repeated (width * m) (number s.now) at) }
 {
     let rows = m as usize;
@@ -83,7 +83,7 @@ pub fn take_number(s: &[u8], at: usize) -> Taken
 {
     let r = read_number(s, at);
     match r {
-        NumberRead::Value { value, next } => Taken { value, next },
-        NumberRead::Refused(_) => Taken { value: 0, next: at },
+        Ok(Taken { value, next }) => Taken { value, next },
+        Err(_) => Taken { value: 0, next: at },
     }
 }

@@ -5,13 +5,12 @@ use native.Mathlib.Numerals.{add-one}
 use mathlib.Core.Path.{◌≡◌, refl, sym, ◌∙◌, ap}
 use mathlib.Core.Bool.{Bool, true, false}
 use mathlib.Core.List.{List, [], ◌∷◌, ◌++◌, flat_map}
+use Rattle.std.specs.Prelude.{Option, Some, None}
+use Rattle.timing.specs.Answers.{Passed}
 use lib.Dec.{leb}
 use lib.ListN.{length, get_or, take, drop, length-take, length-drop, drop_of_length-le, take-append-drop}
 use lib.Seq.{take_all, drop-cons, drop-drop}
 use borrow.Author.Tests.{leb-true, leb-false}
-use Rattle.timing.specs.declared.Verdict.TheVariants.{Passed}
-use Rattle.timing.specs.declared.Fault.{Fault}
-use Rattle.timing.specs.declared.Fault.TheVariants.{At, None}
 use Rattle.timing.specs.Lists.{sum}
 use Rattle.timing.specs.Refusals.{unless_fault, first_fault, ◌then◌}
 use Rattle.timing.specs.Marks.{cut}
@@ -48,7 +47,7 @@ module _ (flat : List ℕ) (from k to : ℕ) (inside : from ≤ length flat) (en
 
 -- How a loop that looks for the first path with a fault goes: at path p, which starts at `from`, what is left to look at is the
 -- rest of the flat list, cut by the rest of the lengths.
-module _ (number : ℕ) (fault : List ℕ → Fault) (flat lengths : List ℕ) (p from : ℕ) where
+module _ (number : ℕ) (fault : List ℕ → Option ℕ) (flat lengths : List ℕ) (p from : ℕ) where
   pub no_path_left : length lengths ≤ p → first_fault number fault p (cut (drop from flat) (drop p lengths)) ≡ Passed
   no_path_left h = rw (drop_of_length-le lengths {i = p} h)
 
@@ -58,11 +57,11 @@ module _ (number : ℕ) (fault : List ℕ → Fault) (flat lengths : List ℕ) (
     next_path =
         rw (drop-cons lengths p 0 here, add-one p, part_path flat from (get_or lengths p 0) to inside ends, part_rest flat from (get_or lengths p 0) to inside ends)
 
-    pub fault_path : (f : Fault) {i : ℕ} → f ≡ fault (take (to - from) (drop from flat)) → f ≡ At i
+    pub fault_path : (f : Option ℕ) {i : ℕ} → f ≡ fault (take (to - from) (drop from flat)) → f ≡ Some i
         → first_fault number fault p (cut (drop from flat) (drop p lengths)) ≡ unless_fault number p f
     fault_path f e at = next_path ∙ rw (← e, at)
 
-    pub sound_path : (f : Fault) → f ≡ fault (take (to - from) (drop from flat)) → f ≡ None
+    pub sound_path : (f : Option ℕ) → f ≡ fault (take (to - from) (drop from flat)) → f ≡ None
         → first_fault number fault (p + 1) (cut (drop to flat) (drop (p + 1) lengths)) ≡ first_fault number fault p (cut (drop from flat) (drop p lengths))
     sound_path f e none = sym (next_path ∙ rw (← e, none))
 
@@ -71,7 +70,7 @@ pub part_length : (flat : List ℕ) (from to : ℕ) → to ≤ length flat → l
 part_length flat from to h = simp (length-take, length-drop) (omega arith)
 
 -- it is empty exactly where it ends at its start
-pub part_empty : (flat : List ℕ) (from to : ℕ) → to ≡ from → empty_at (take (to - from) (drop from flat)) ≡ At 0
+pub part_empty : (flat : List ℕ) (from to : ℕ) → to ≡ from → empty_at (take (to - from) (drop from flat)) ≡ Some 0
 part_empty flat from to e =
     let d : to - from ≡ 0 = omega arith in
     rw d

@@ -5,17 +5,16 @@ use native.Mathlib.Numerals.{add-one}
 use mathlib.Core.Path.{◌≡◌, refl, sym, ◌∙◌}
 use mathlib.Core.Bool.{Bool, true, false, cond}
 use mathlib.Core.List.{List, [], ◌∷◌}
+use Rattle.std.specs.Prelude.{Option, Some, None}
 use lib.ListN.{length, get_or, take, drop, drop_of_length-le}
 use lib.Seq.{drop-cons}
 use borrow.Author.Tests.{lt-ltb, le-ltb, eq-eqb, ne_eqb}
-use Rattle.timing.specs.declared.Fault.{Fault}
-use Rattle.timing.specs.declared.Fault.TheVariants.{At, None}
 use Rattle.timing.specs.Graphs.{Design, edge_start, edge_end}
 use Rattle.timing.specs.Tests.{meets, first_unknown, first_break}
 
 -- 23: at edge i, what is left to look at is the path from there on
 module _ (m : ℕ) (path : List ℕ) (i : ℕ) where
-  pub unknown_here : i < length path → m ≤ get_or path i 0 → first_unknown m i (drop i path) ≡ At i
+  pub unknown_here : i < length path → m ≤ get_or path i 0 → first_unknown m i (drop i path) ≡ Some i
   unknown_here h k = rw (drop-cons path i 0 h, le-ltb (get_or path i 0) m k)
 
   pub unknown_later : i < length path → get_or path i 0 < m → first_unknown m (i + 1) (drop (i + 1) path) ≡ first_unknown m i (drop i path)
@@ -26,30 +25,30 @@ module _ (m : ℕ) (path : List ℕ) (i : ℕ) where
 
 -- 24: at edge i, the edges before it are known to join
 module _ (meet : ℕ → ℕ → Bool) where
-  never : {A : Type 0} (i : ℕ) → None ≡ At i → A
+  never : {A : Type 0} (i : ℕ) → None ≡ Some i → A
   never i e = absurd (let z : ◌≡◌ {A = ℕ} 0 1 = cc in omega arith)
 
   -- so edge i settles it for these and itself; the first edge has index s
   next_edge : (s i : ℕ) (path : List ℕ) → suc i < length path → first_break meet s (take (suc i) path) ≡ None
-      → first_break meet s (take (suc (suc i)) path) ≡ cond (meet (get_or path i 0) (get_or path (suc i) 0)) None (At (s + suc i))
+      → first_break meet s (take (suc (suc i)) path) ≡ cond (meet (get_or path i 0) (get_or path (suc i) 0)) None (Some (s + suc i))
   next_edge s i [] h e = absurd (omega arith)
   next_edge s i (x ∷ []) h e = absurd (omega arith)
   next_edge s zero (x ∷ y ∷ path) h e = rw (add-one s)
   next_edge s (suc i) (x ∷ y ∷ path) h e = go (meet x y) refl e (λ f. next_edge (suc s) i (y ∷ path) (omega arith) f)
     where
-      after : Fault
-      after = cond (meet (get_or (y ∷ path) i 0) (get_or path i 0)) None (At (suc s + suc i))
+      after : Option ℕ
+      after = cond (meet (get_or (y ∷ path) i 0) (get_or path i 0)) None (Some (suc s + suc i))
 
-      go : (b : Bool) → meet x y ≡ b → cond b (first_break meet (suc s) (y ∷ take i path)) (At (suc s)) ≡ None
+      go : (b : Bool) → meet x y ≡ b → cond b (first_break meet (suc s) (y ∷ take i path)) (Some (suc s)) ≡ None
           → (first_break meet (suc s) (y ∷ take i path) ≡ None → first_break meet (suc s) (y ∷ take (suc i) path) ≡ after)
-          → cond b (first_break meet (suc s) (y ∷ take (suc i) path)) (At (suc s)) ≡ cond (meet (get_or (y ∷ path) i 0) (get_or path i 0)) None (At (s + suc (suc i)))
+          → cond b (first_break meet (suc s) (y ∷ take (suc i) path)) (Some (suc s)) ≡ cond (meet (get_or (y ∷ path) i 0) (get_or path i 0)) None (Some (s + suc (suc i)))
       go true q f below =
           let d : s + suc (suc i) ≡ suc s + suc i = omega arith in
           rw d (below f)
       go false q f below = never (suc s) (sym f)
 
   break_up_to : (path : List ℕ) (i : ℕ) → 0 < i → i < length path → first_break meet 0 (take i path) ≡ None
-      → first_break meet 0 (take (i + 1) path) ≡ cond (meet (get_or path (i - 1) 0) (get_or path i 0)) None (At i)
+      → first_break meet 0 (take (i + 1) path) ≡ cond (meet (get_or path (i - 1) 0) (get_or path i 0)) None (Some i)
   break_up_to path zero z h e = absurd (omega arith)
   break_up_to path (suc i) z h e =
       let d : suc i - 1 ≡ i = omega arith in
@@ -62,20 +61,20 @@ module _ (meet : ℕ → ℕ → Bool) where
   first_edge (x ∷ path) = refl
 
   -- the first break of a front is that of the whole
-  pub break_of_front : (s i j : ℕ) (path : List ℕ) → first_break meet s (take i path) ≡ At j → first_break meet s path ≡ At j
+  pub break_of_front : (s i j : ℕ) (path : List ℕ) → first_break meet s (take i path) ≡ Some j → first_break meet s path ≡ Some j
   break_of_front s zero j path e = never j e
   break_of_front s (suc i) j [] e = never j e
   break_of_front s (suc i) j (x ∷ []) e = front_of_one i e
     where
-      front_of_one : (i : ℕ) → first_break meet s (x ∷ take i []) ≡ At j → None ≡ At j
+      front_of_one : (i : ℕ) → first_break meet s (x ∷ take i []) ≡ Some j → None ≡ Some j
       front_of_one zero e = e
       front_of_one (suc i) e = e
   break_of_front s (suc zero) j (x ∷ y ∷ path) e = never j e
   break_of_front s (suc (suc i)) j (x ∷ y ∷ path) e = go (meet x y) refl e (λ f. break_of_front (suc s) (suc i) j (y ∷ path) f)
     where
-      go : (b : Bool) → meet x y ≡ b → cond b (first_break meet (suc s) (y ∷ take i path)) (At (suc s)) ≡ At j
-          → (first_break meet (suc s) (y ∷ take i path) ≡ At j → first_break meet (suc s) (y ∷ path) ≡ At j)
-          → cond b (first_break meet (suc s) (y ∷ path)) (At (suc s)) ≡ At j
+      go : (b : Bool) → meet x y ≡ b → cond b (first_break meet (suc s) (y ∷ take i path)) (Some (suc s)) ≡ Some j
+          → (first_break meet (suc s) (y ∷ take i path) ≡ Some j → first_break meet (suc s) (y ∷ path) ≡ Some j)
+          → cond b (first_break meet (suc s) (y ∷ path)) (Some (suc s)) ≡ Some j
       go true q f below = below f
       go false q f below = f
 
@@ -87,7 +86,7 @@ module _ (D : Design) (path : List ℕ) (i : ℕ) (later : 0 < i) (here : i < le
       let m : meets D (get_or path (i - 1) 0) (get_or path i 0) ≡ true = rw (← ends, ← starts, eq-eqb end start e) in
       sym (break_up_to (meets D) path i later here join ∙ rw m)
 
-  pub edge_breaks : (end ≡ start → ⊥) → At i ≡ first_break (meets D) 0 (take (i + 1) path)
+  pub edge_breaks : (end ≡ start → ⊥) → Some i ≡ first_break (meets D) 0 (take (i + 1) path)
   edge_breaks n =
       let m : meets D (get_or path (i - 1) 0) (get_or path i 0) ≡ false = rw (← ends, ← starts, ne_eqb end start n) in
       sym (break_up_to (meets D) path i later here join ∙ rw m)

@@ -3,19 +3,18 @@ use Prim.Native.Nat.{ℕ, suc, ◌+◌, ◌-◌, ◌≤◌, ◌<◌}
 use native.Mathlib.Omega.{arith}
 use mathlib.Core.Path.{◌≡◌, refl}
 use mathlib.Core.List.{List, [], ◌∷◌}
+use Rattle.std.specs.Prelude.{Option, None}
+use Rattle.timing.specs.Answers.{Passed}
 use lib.ListN.{length, get_or, take, drop, length-take, length-drop}
 use lib.Seq.{get_or-take, get_or-drop}
 use borrow.Author.Tests.{lt-ltb}
-use Rattle.timing.specs.declared.Verdict.TheVariants.{Passed}
-use Rattle.timing.specs.declared.Fault.{Fault}
-use Rattle.timing.specs.declared.Fault.TheVariants.{None}
 use Rattle.timing.specs.Lists.{sum}
 use Rattle.timing.specs.Refusals.{first_fault}
 use Rattle.timing.specs.Marks.{cut}
 use Rattle.timing.specs.Tests.{empty_at, first_unknown}
 use Rattle.path_list.proofs.Laws.{offset, offset_next, offset_most, length_cut, cut_at, part_filled}
 
-module _ (number : ℕ) (fault : List ℕ → Fault) where
+module _ (number : ℕ) (fault : List ℕ → Option ℕ) where
   all_sound : (k : ℕ) (paths : List (List ℕ)) → ((p : ℕ) → p < length paths → fault (get_or paths p []) ≡ None) → first_fault number fault k paths ≡ Passed
   all_sound k [] h = refl
   all_sound k (path ∷ paths) h = rw (h 0 (omega arith)) (all_sound (suc k) paths (λ p l. h (suc p) (omega arith)))

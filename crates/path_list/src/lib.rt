@@ -57,11 +57,9 @@ fn and_path_tests(
         then first_fault 23 (first_unknown (length starts.now) 0) 0 (paths_of L)
         then first_fault 24 (first_break (meets D) 0) 0 (paths_of L)) }
 {
-    let Verdict::Passed = before else {
-        return before;
-    };
+    before?;
     if quick::all_pass(starts, ends, listed, lengths) {
-        return Verdict::Passed;
+        return Ok(());
     }
     and_each_test(before, starts, ends, listed, lengths)
 }

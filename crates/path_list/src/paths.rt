@@ -1,14 +1,13 @@
 // 22, 23 and 24 of a list of paths: each passes over every path. A path is a part of the flat
 // list, from the end of the path before it; where the lengths pass the flat list, it ends there.
-ghost use Rattle.std.specs.Prelude.{◌≡◌, [], ◌+◌, ◌<◌, ◌≤◌, min, length, take};
+ghost use Rattle.std.specs.Prelude.{◌≡◌, [], ◌+◌, ◌<◌, ◌≤◌, min, length, take, Option, Ok, Some, None};
 ghost use Rattle.timing.specs.Refusals.{◌then◌, first_fault};
 ghost use Rattle.timing.specs.Graphs.{design};
 ghost use Rattle.timing.specs.Marks.{path_list, paths_of};
 ghost use Rattle.timing.specs.Tests.{meets, empty_at, first_unknown, first_break};
-ghost use Rattle.timing.specs.declared.Fault.TheVariants.{None};
 
 use entries::number_at;
-use timing::{Fault, Verdict};
+use timing::Verdict;
 use verdicts::unless_fault;
 
 // Where a path of k edges ends that starts at `from`, in a flat list of `size` edges.
@@ -25,35 +24,33 @@ pub(crate) fn and_filled(before: Verdict, listed: &[u32], lengths: &[u32]) -> Ve
     ensures { let L = path_list listed.now lengths.now in
         result ≡ (before then first_fault 22 empty_at 0 (paths_of L)) }
 {
-    let Verdict::Passed = before else {
-        return before;
-    };
+    before?;
     let mut p = 0;
     let mut from = 0;
     while p < lengths.len() {
         let to = path_end(listed.len(), from, lengths[p]);
         if to == from {
-            return unless_fault(22, p, Fault::At(0));
+            return unless_fault(22, p, Some(0));
         }
         from = to;
         p += 1;
     }
-    Verdict::Passed
+    Ok(())
 }
 
 // The first edge of a path that is none of the m edges.
-fn first_unknown(path: &[u32], m: usize) -> Fault
+fn first_unknown(path: &[u32], m: usize) -> Option<usize>
     ensures { result ≡ first_unknown m 0 path.now }
 {
     let mut i = 0;
     while i < path.len() {
         let k = path[i] as usize;
         if m <= k {
-            return Fault::At(i);
+            return Some(i);
         }
         i += 1;
     }
-    Fault::None
+    None
 }
 
 // 23: a path names an edge not below m.
@@ -61,26 +58,24 @@ pub(crate) fn and_named(before: Verdict, m: usize, listed: &[u32], lengths: &[u3
     ensures { let L = path_list listed.now lengths.now in
         result ≡ (before then first_fault 23 (first_unknown m 0) 0 (paths_of L)) }
 {
-    let Verdict::Passed = before else {
-        return before;
-    };
+    before?;
     let mut p = 0;
     let mut from = 0;
     while p < lengths.len() {
         let to = path_end(listed.len(), from, lengths[p]);
         let unknown = first_unknown(&listed[from..to], m);
-        let Fault::None = unknown else {
+        let None = unknown else {
             return unless_fault(23, p, unknown);
         };
         from = to;
         p += 1;
     }
-    Verdict::Passed
+    Ok(())
 }
 
 // The join test of a path up to its edge i, where the edges before i are known to join: the index of
 // the first that does not start where the one before ends, or that all join.
-fn join_test(starts: &[u32], ends: &[u32], path: &[u32], i: usize) -> Fault
+fn join_test(starts: &[u32], ends: &[u32], path: &[u32], i: usize) -> Option<usize>
     requires { let D = design 0 starts.now ends.now [] [] [] in
         (0 < i) × (i < length path.now) × (first_break (meets D) 0 (take i path.now) ≡ None) }
     ensures { let D = design 0 starts.now ends.now [] [] [] in
@@ -90,9 +85,9 @@ fn join_test(starts: &[u32], ends: &[u32], path: &[u32], i: usize) -> Fault
     let j = number_at(path, h) as usize;
     let k = number_at(path, i) as usize;
     if number_at(ends, j) == number_at(starts, k) {
-        Fault::None
+        None
     } else {
-        Fault::At(i)
+        Some(i)
     }
 }
 
@@ -108,19 +103,17 @@ pub(crate) fn and_joined(
         let L = path_list listed.now lengths.now in
         result ≡ (before then first_fault 24 (first_break (meets D) 0) 0 (paths_of L)) }
 {
-    let Verdict::Passed = before else {
-        return before;
-    };
+    before?;
     let mut p = 0;
     let mut from = 0;
-    let mut found = Fault::None;
+    let mut found = None;
     'paths: while p < lengths.len() {
         let to = path_end(listed.len(), from, lengths[p]);
         let path = &listed[from..to];
         let mut i = 1;
         while i < path.len() {
             found = join_test(starts, ends, path, i);
-            let Fault::None = found else {
+            let None = found else {
                 break 'paths;
             };
             i += 1;

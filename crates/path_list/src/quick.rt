@@ -1,9 +1,8 @@
 // 22, 23 and 24 in a pass each, which says only whether all paths pass. Most lists have no wrong path, and need no more than
 // this; the number and the places of a wrong one are left to the passes of `paths`. The first two loops have no branch, and
 // read their slice in order, so that they are compiled to vector code. What they show lets the third index with no test.
-ghost use Rattle.std.specs.Prelude.{ℕ, ◌<◌, ◌≤◌, ◌≡◌, true, [], length, get_or};
-ghost use Rattle.timing.specs.declared.Fault.TheVariants.{None};
-ghost use Rattle.timing.specs.declared.Verdict.TheVariants.{Passed};
+ghost use Rattle.std.specs.Prelude.{ℕ, ◌<◌, ◌≤◌, ◌≡◌, true, [], length, get_or, None};
+ghost use Rattle.timing.specs.Answers.{Passed};
 ghost use Rattle.timing.specs.Lists.{sum};
 ghost use Rattle.timing.specs.Refusals.{◌then◌, first_fault};
 ghost use Rattle.timing.specs.Graphs.{design};

@@ -5,6 +5,9 @@ use native.Mathlib.Numerals.{add-one}
 use mathlib.Core.Path.{◌≡◌, refl, sym, ◌∙◌, ap, ap₂}
 use mathlib.Core.Bool.{Bool, true, false, cond, not}
 use mathlib.Core.List.{List, [], ◌∷◌, ◌++◌, map}
+use Rattle.std.specs.Prelude.{Option, Err, None}
+use Rattle.timing.specs.Answers.{Verdict, Passed, Times}
+use Rattle.timing.specs.declared.NodeTimes.{NodeTimes}
 use lib.Dec.{eqb}
 use lib.IntN.{ℤ, pos}
 use lib.ListN.{length, get_or, set}
@@ -13,10 +16,6 @@ use mir.Syntax.{w64}
 use mir.Val.{hbits, to_z, of_z}
 use borrow.Author.Tests.{lt-ltb, le-ltb, eq-eqb, ne_eqb}
 use Rattle.timing.specs.declared.Refusal.{Refusal}
-use Rattle.timing.specs.declared.Verdict.{Verdict}
-use Rattle.timing.specs.declared.Verdict.TheVariants.{Passed, Refused}
-use Rattle.timing.specs.declared.NodeTimes.{NodeTimes}
-use Rattle.timing.specs.declared.NodeTimes.TheVariants.{Times, None}
 use Rattle.timing.specs.Lists.{is_nil, keep, upto}
 use Rattle.timing.specs.Refusals.{◌then◌}
 use Rattle.timing.specs.Tests.{same_sizes, time_sizes, node_count}
@@ -29,7 +28,7 @@ use Rattle.timing.proofs.Ints.{read_back}
 use Rattle.theorems.proofs.Elements.{size_each, at_each, set_place, each_same}
 use Rattle.theorems.proofs.Splits.{upto_next, keep_yes, keep_no, best_snoc}
 
-pub four : {a b c d x y z w : ℤ} → a ≡ x → b ≡ y → c ≡ z → d ≡ w → ◌≡◌ {A = NodeTimes} (Times a b c d) (Times x y z w)
+pub four : {a b c d x y z w : ℤ} → a ≡ x → b ≡ y → c ≡ z → d ≡ w → ◌≡◌ {A = (Option NodeTimes)} (Times a b c d) (Times x y z w)
 four p q r s = cc
 
 module _ (nodes : List ℕ) (ats rts sts ets : List ℤ) (v : ℕ) where
@@ -72,10 +71,10 @@ module _ (nodes : List ℕ) (ats rts sts ets : List ℤ) (v : ℕ) where
 
 -- All nodes at once: a copy counts for its node, and changes nothing at the others.
 module _ (nodes : List ℕ) (ats rts sts ets : List ℤ) where
-  abbrev so_far : ℕ → ℕ → NodeTimes
+  abbrev so_far : ℕ → ℕ → Option NodeTimes
   so_far = node_so_far nodes ats rts sts ets
 
-  abbrev counted : NodeTimes → ℕ → NodeTimes
+  abbrev counted : Option NodeTimes → ℕ → Option NodeTimes
   counted t c = with_copy t (get_or ats c (pos 0)) (get_or rts c (pos 0)) (get_or sts c (pos 0)) (get_or ets c (pos 0))
 
   met_here : (c : ℕ) → counted (so_far c (get_or nodes c 0)) c ≡ so_far (c + 1) (get_or nodes c 0)
@@ -92,12 +91,12 @@ module _ (nodes : List ℕ) (ats rts sts ets : List ℤ) where
       set_place 0 (λ v. has_times (so_far c v)) (λ v. has_times (so_far (c + 1) v)) n (get_or nodes c 0) 1
       (λ h. has (so_far c (get_or nodes c 0)) ∙ ap has_times (met_here c)) (λ v h q. ap has_times (met_other c v q))
     where
-      has : (t : NodeTimes) → 1 ≡ has_times (counted t c)
+      has : (t : Option NodeTimes) → 1 ≡ has_times (counted t c)
       has (Times a r s e) = refl
       has None = refl
 
   -- one of the four times, which one more copy makes better
-  better_next : (pick : ℤ → ℤ → ℤ) (part : NodeTimes → ℤ) (n c : ℕ) (t : ℤ) → ((x : NodeTimes) → first_or pick (has_times x) (part x) t ≡ part (counted x c))
+  better_next : (pick : ℤ → ℤ → ℤ) (part : Option NodeTimes → ℤ) (n c : ℕ) (t : ℤ) → ((x : Option NodeTimes) → first_or pick (has_times x) (part x) t ≡ part (counted x c))
       → bettered pick (map (λ v. has_times (so_far c v)) (upto n 0)) (map (λ v. part (so_far c v)) (upto n 0)) (get_or nodes c 0) t
       ≡ map (λ v. part (so_far (c + 1) v)) (upto n 0)
   better_next pick part n c t one =
@@ -115,7 +114,7 @@ module _ (nodes : List ℕ) (ats rts sts ets : List ℤ) where
       ≡ map (λ v. arrival_of (so_far (c + 1) v)) (upto n 0)
   arrival_next n c = better_next larger arrival_of n c (get_or ats c (pos 0)) one
     where
-      one : (x : NodeTimes) → first_or larger (has_times x) (arrival_of x) (get_or ats c (pos 0)) ≡ arrival_of (counted x c)
+      one : (x : Option NodeTimes) → first_or larger (has_times x) (arrival_of x) (get_or ats c (pos 0)) ≡ arrival_of (counted x c)
       one (Times a r s e) = refl
       one None = refl
 
@@ -124,7 +123,7 @@ module _ (nodes : List ℕ) (ats rts sts ets : List ℤ) where
       ≡ map (λ v. required_of (so_far (c + 1) v)) (upto n 0)
   required_next n c = better_next smaller required_of n c (get_or rts c (pos 0)) one
     where
-      one : (x : NodeTimes) → first_or smaller (has_times x) (required_of x) (get_or rts c (pos 0)) ≡ required_of (counted x c)
+      one : (x : Option NodeTimes) → first_or smaller (has_times x) (required_of x) (get_or rts c (pos 0)) ≡ required_of (counted x c)
       one (Times a r s e) = refl
       one None = refl
 
@@ -133,7 +132,7 @@ module _ (nodes : List ℕ) (ats rts sts ets : List ℤ) where
       ≡ map (λ v. slack_of (so_far (c + 1) v)) (upto n 0)
   slack_next n c = better_next smaller slack_of n c (get_or sts c (pos 0)) one
     where
-      one : (x : NodeTimes) → first_or smaller (has_times x) (slack_of x) (get_or sts c (pos 0)) ≡ slack_of (counted x c)
+      one : (x : Option NodeTimes) → first_or smaller (has_times x) (slack_of x) (get_or sts c (pos 0)) ≡ slack_of (counted x c)
       one (Times a r s e) = refl
       one None = refl
 
@@ -142,7 +141,7 @@ module _ (nodes : List ℕ) (ats rts sts ets : List ℤ) where
       ≡ map (λ v. earliest_of (so_far (c + 1) v)) (upto n 0)
   earliest_next n c = better_next smaller earliest_of n c (get_or ets c (pos 0)) one
     where
-      one : (x : NodeTimes) → first_or smaller (has_times x) (earliest_of x) (get_or ets c (pos 0)) ≡ earliest_of (counted x c)
+      one : (x : Option NodeTimes) → first_or smaller (has_times x) (earliest_of x) (get_or ets c (pos 0)) ≡ earliest_of (counted x c)
       one (Times a r s e) = refl
       one None = refl
 
@@ -211,7 +210,7 @@ module _ (nodes : List ℕ) (ats rts sts ets : List ℤ) where
     )
 
   -- after the last copy, and after a refusal
-  module _ {A : Type 0} (z : A) (f : NodeTimes → A) (n : ℕ) (room : List A) where
+  module _ {A : Type 0} (z : A) (f : Option NodeTimes → A) (n : ℕ) (room : List A) where
     pub records_filled : (m : ℕ) (tested : Verdict) (after : List A) → m ≡ n → tested ≡ Passed
         → after ≡ map (λ v. f (so_far (length nodes) v)) (upto m 0) → after ≡ records_after f n nodes ats rts sts ets tested room
     unfolding records_after
@@ -221,7 +220,7 @@ module _ (nodes : List ℕ) (ats rts sts ets : List ℤ) where
         ∙ each_same z (λ v. f (so_far (length nodes) v)) (λ v. f (node_times n nodes ats rts sts ets v)) n (λ v h. ap f (node_is nodes ats rts sts ets v n h))
         ∙ ap (λ (v : Verdict). records_after f n nodes ats rts sts ets v room) (sym told)
 
-    pub records_kept : (tested : Verdict) (r : Refusal) → tested ≡ Refused r → room ≡ records_after f n nodes ats rts sts ets tested room
+    pub records_kept : (tested : Verdict) (r : Refusal) → tested ≡ Err r → room ≡ records_after f n nodes ats rts sts ets tested room
     unfolding records_after
     records_kept tested r told = ap (λ (v : Verdict). records_after f n nodes ats rts sts ets v room) (sym told)
 

@@ -163,12 +163,12 @@ pub(crate) fn records_where(
         × (ne.new ≡ records_after earliest_of n nodes.now ats rts sts ets tested ne.old) }
 {
     match tested {
-        Verdict::Passed => {
+        Ok(()) => {
             fill_records(
                 nodes, arrivals, requireds, slacks, earliests, known, na, nr, ns, ne,
             );
-            Verdict::Passed
+            Ok(())
         }
-        Verdict::Refused(r) => Verdict::Refused(r),
+        Err(r) => Err(r),
     }
 }

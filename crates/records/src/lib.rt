@@ -14,7 +14,7 @@ mod tests;
 use crate::gather::records_where;
 use crate::node::node_times;
 use crate::tests::{record_tests, records_tests};
-use timing::{NodeAnswer, NodeRecord, Verdict};
+use timing::{NodeRecord, Refusal, Verdict};
 
 // The record of node `v`, from n and the node and the four times of each copy.
 pub fn node_record(
@@ -25,7 +25,7 @@ pub fn node_record(
     slacks: &[i64],
     earliests: &[i64],
     v: u32,
-) -> NodeAnswer
+) -> Result<NodeRecord, Refusal>
     ensures { let ats = arrivals.now in
         let rts = requireds.now in
         let sts = slacks.now in
@@ -41,11 +41,11 @@ pub fn node_record(
         earliests.len(),
     );
     match fit {
-        Verdict::Passed => {
+        Ok(()) => {
             let times = node_times(n, nodes, arrivals, requireds, slacks, earliests, v);
-            NodeAnswer::Record(NodeRecord { node: v, times })
+            Ok(NodeRecord { node: v, times })
         }
-        Verdict::Refused(r) => NodeAnswer::Refused(r),
+        Err(r) => Err(r),
     }
 }
 

@@ -9,33 +9,33 @@ use extremes::{larger, smaller};
 use timing::NodeTimes;
 
 // The times of a node with one more copy.
-fn with_copy(t: NodeTimes, arrival: i64, required: i64, slack: i64, earliest: i64) -> NodeTimes
+fn with_copy(t: Option<NodeTimes>, arrival: i64, required: i64, slack: i64, earliest: i64) -> Option<NodeTimes>
     ensures { result ≡ with_copy t arrival required slack earliest }
 {
     match t {
-        NodeTimes::None => NodeTimes::Times {
+        None => Some(NodeTimes {
             arrival,
             required,
             slack,
             earliest,
-        },
-        NodeTimes::Times {
+        }),
+        Some(NodeTimes {
             arrival: a,
             required: r,
             slack: s,
             earliest: e,
-        } => NodeTimes::Times {
+        }) => Some(NodeTimes {
             arrival: larger(a, arrival),
             required: smaller(r, required),
             slack: smaller(s, slack),
             earliest: smaller(e, earliest),
-        },
+        }),
     }
 }
 
 // Copy `c` counts where it is one of node `v`.
 fn next_copy(
-    t: NodeTimes,
+    t: Option<NodeTimes>,
     nodes: &[u32],
     arrivals: &[i64],
     requireds: &[i64],
@@ -43,7 +43,7 @@ fn next_copy(
     earliests: &[i64],
     v: u32,
     c: usize,
-) -> NodeTimes
+) -> Option<NodeTimes>
     ensures { let ats = arrivals.now in
         let rts = requireds.now in
         let sts = slacks.now in
@@ -70,14 +70,14 @@ fn over_copies(
     slacks: &[i64],
     earliests: &[i64],
     v: u32,
-) -> NodeTimes
+) -> Option<NodeTimes>
     ensures { let copies = upto (length nodes.now) 0 in
         let of = keep (λ (c : ℕ). eqb (get_or nodes.now c 0) v) copies in
         let ats = arrivals.now in
         let rts = requireds.now in
         result ≡ times_of ats rts slacks.now earliests.now of }
 {
-    let mut t = NodeTimes::None;
+    let mut t = None;
     let mut c = 0;
     while c < nodes.len() {
         t = next_copy(t, nodes, arrivals, requireds, slacks, earliests, v, c);
@@ -94,7 +94,7 @@ pub(crate) fn node_times(
     slacks: &[i64],
     earliests: &[i64],
     v: u32,
-) -> NodeTimes
+) -> Option<NodeTimes>
     ensures { let ats = arrivals.now in
         let rts = requireds.now in
         let sts = slacks.now in
@@ -104,5 +104,5 @@ pub(crate) fn node_times(
     if v < n {
         return over_copies(nodes, arrivals, requireds, slacks, earliests, v);
     }
-    NodeTimes::None
+    None
 }

@@ -1,6 +1,7 @@
 -- Removal from a design that has passed its tests, and its size, as a graph whose copies and edges have their own numbers.
-use Rattle.std.specs.Prelude.{ℕ, ◌≤◌, ◌≡◌, List, ℤ, length, take}
-use Rattle.timing.specs.declared.GraphMade.{GraphMade}
+use Rattle.std.specs.Prelude.{ℕ, ◌≤◌, ◌≡◌, List, ℤ, length, take, Result}
+use Rattle.timing.specs.declared.GraphCounts.{GraphCounts}
+use Rattle.timing.specs.declared.Refusal.{Refusal}
 use Rattle.timing.specs.Lists.{upto}
 use Rattle.timing.specs.Graphs.{design, design_graph}
 use Rattle.timing.specs.Marks.{path_list}
@@ -34,13 +35,13 @@ pub record Numberable (starts ends marked listed lengths : List ℕ) (n : ℕ) :
   pub list_fits : ListFits (design n starts ends early late marked) (path_list listed lengths)
 
 -- the removal, whatever the delays are
-unfoldable pub DesignRemoved : List ℕ → List ℕ → List ℕ → List ℕ → List ℕ → ℕ → GraphMade → List ℕ → List ℕ → List ℕ → List ℕ → List ℕ → List ℕ → List ℕ → List ℕ → List ℕ → List ℕ → List ℕ → List ℕ → Type 0
+unfoldable pub DesignRemoved : List ℕ → List ℕ → List ℕ → List ℕ → List ℕ → ℕ → Result GraphCounts Refusal → List ℕ → List ℕ → List ℕ → List ℕ → List ℕ → List ℕ → List ℕ → List ℕ → List ℕ → List ℕ → List ℕ → List ℕ → Type 0
 DesignRemoved starts ends marked listed lengths n r room-nodes room-endpoint room-from room-to room-via s room-nodes' room-endpoint' room-from' room-to' room-via' s' =
     (early late : List ℤ) → DesignFits (design n starts ends early late marked) → ListFits (design n starts ends early late marked) (path_list listed lengths)
     → Removed (removal_outcome (design n starts ends early late marked) (path_list listed lengths) (design_graph (design n starts ends early late marked)) (room_of (graph_slices room-nodes room-endpoint room-from room-to room-via)) (length s)) r room-nodes room-endpoint room-from room-to room-via s room-nodes' room-endpoint' room-from' room-to' room-via' s'
 
 -- and its size
-unfoldable pub DesignSized : List ℕ → List ℕ → List ℕ → List ℕ → List ℕ → ℕ → GraphMade → List ℕ → List ℕ → Type 0
+unfoldable pub DesignSized : List ℕ → List ℕ → List ℕ → List ℕ → List ℕ → ℕ → Result GraphCounts Refusal → List ℕ → List ℕ → Type 0
 DesignSized starts ends marked listed lengths n r s s' =
     (early late : List ℤ) → DesignFits (design n starts ends early late marked) → ListFits (design n starts ends early late marked) (path_list listed lengths)
     → Sized (removal_outcome (design n starts ends early late marked) (path_list listed lengths) (design_graph (design n starts ends early late marked)) largest_room (length s)) r s s'

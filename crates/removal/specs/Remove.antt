@@ -1,9 +1,9 @@
 -- What the passes find together, and what a whole removal answers and leaves behind.
-use Rattle.std.specs.Prelude.{ℕ, ◌+◌, ◌≤◌, ◌≡◌, length, take}
+use Rattle.std.specs.Prelude.{ℕ, ◌+◌, ◌≤◌, ◌≡◌, length, take, Result, Err}
 use mathlib.Core.List.{List}
-use Rattle.timing.specs.declared.Verdict.{Verdict}
-use Rattle.timing.specs.declared.Verdict.TheVariants.{Passed, Refused}
-use Rattle.timing.specs.declared.GraphMade.{GraphMade}
+use Rattle.timing.specs.Answers.{Verdict, Passed}
+use Rattle.timing.specs.declared.GraphCounts.{GraphCounts}
+use Rattle.timing.specs.declared.Refusal.{Refusal}
 use Rattle.timing.specs.Graphs.{Design, Graph, edges_in}
 use Rattle.timing.specs.Marks.{PathList, path_list, paths_of}
 use Rattle.timing.specs.TrueGraphs.{true_graph}
@@ -71,10 +71,10 @@ AllSearched starts listed lengths nodes endpoint from to via s t (SearchFound f)
     × Found starts listed lengths nodes endpoint from to via s t f
 AllSearched starts listed lengths nodes endpoint from to via s t SearchNothing =
     (words_for starts listed lengths nodes from s ≡ Passed) × (length nodes ≡ 0) × (t ≡ s)
-AllSearched starts listed lengths nodes endpoint from to via s t (SearchRefused r) = (words_for starts listed lengths nodes from s ≡ Refused r) × (t ≡ s)
+AllSearched starts listed lengths nodes endpoint from to via s t (SearchRefused r) = (words_for starts listed lengths nodes from s ≡ Err r) × (t ≡ s)
 
 -- the answer and the room are those of an outcome
-pub record Answered (o : Outcome Graph) (r : GraphMade) (room-nodes room-endpoint room-from room-to room-via room-nodes' room-endpoint' room-from' room-to' room-via' : List ℕ) : Type 0 where
+pub record Answered (o : Outcome Graph) (r : Result GraphCounts Refusal) (room-nodes room-endpoint room-from room-to room-via room-nodes' room-endpoint' room-from' room-to' room-via' : List ℕ) : Type 0 where
   pub answer : r ≡ graph_answer o
   pub nodes : room-nodes' ≡ nodes_after o room-nodes
   pub endpoints : room-endpoint' ≡ endpoints_after o room-endpoint
@@ -86,7 +86,7 @@ pub record Answered (o : Outcome Graph) (r : GraphMade) (room-nodes room-endpoin
 abbrev pub room_outcome : PathList → Graph → Room → Outcome Graph
 room_outcome L G R = outcome (room_tests R (true_graph G (paths_of L))) (true_graph G (paths_of L))
 
-unfoldable pub RoomAnswered : Layout → List ℕ → List ℕ → List ℕ → GraphMade → List ℕ → List ℕ → List ℕ → List ℕ → List ℕ → List ℕ → List ℕ → List ℕ → List ℕ → List ℕ → Type 0
+unfoldable pub RoomAnswered : Layout → List ℕ → List ℕ → List ℕ → Result GraphCounts Refusal → List ℕ → List ℕ → List ℕ → List ℕ → List ℕ → List ℕ → List ℕ → List ℕ → List ℕ → List ℕ → Type 0
 RoomAnswered l nodes endpoint s r room-nodes room-endpoint room-from room-to room-via room-nodes' room-endpoint' room-from' room-to' room-via' =
     (D : Design) (L : PathList) (G : Graph) → Tabled D L G l (take l.slots s) → G.nodes ≡ nodes → G.endpoints ≡ endpoint → EdgesInto G (edges_in G)
     → Answered (room_outcome L G (room_of (graph_slices room-nodes room-endpoint room-from room-to room-via))) r room-nodes room-endpoint room-from room-to room-via room-nodes' room-endpoint' room-from' room-to' room-via'
@@ -96,19 +96,19 @@ abbrev pub removal_outcome : Design → PathList → Graph → Room → ℕ → 
 removal_outcome D L G R words = outcome (removal_tests D G (removal L R words)) (true_graph G (paths_of L))
 
 -- the scratch is too
-pub record Removed (o : Outcome Graph) (r : GraphMade) (room-nodes room-endpoint room-from room-to room-via s room-nodes' room-endpoint' room-from' room-to' room-via' s' : List ℕ) : Type 0 where
+pub record Removed (o : Outcome Graph) (r : Result GraphCounts Refusal) (room-nodes room-endpoint room-from room-to room-via s room-nodes' room-endpoint' room-from' room-to' room-via' s' : List ℕ) : Type 0 where
   pub answered : Answered o r room-nodes room-endpoint room-from room-to room-via room-nodes' room-endpoint' room-from' room-to' room-via'
   pub scratch : s' ≡ scratch_after o s
 
-unfoldable pub AllRemoved : List ℕ → List ℕ → List ℕ → List ℕ → List ℕ → List ℕ → List ℕ → List ℕ → GraphMade → List ℕ → List ℕ → List ℕ → List ℕ → List ℕ → List ℕ → List ℕ → List ℕ → List ℕ → List ℕ → List ℕ → List ℕ → Type 0
+unfoldable pub AllRemoved : List ℕ → List ℕ → List ℕ → List ℕ → List ℕ → List ℕ → List ℕ → List ℕ → Result GraphCounts Refusal → List ℕ → List ℕ → List ℕ → List ℕ → List ℕ → List ℕ → List ℕ → List ℕ → List ℕ → List ℕ → List ℕ → List ℕ → Type 0
 AllRemoved starts listed lengths nodes endpoint from to via r room-nodes room-endpoint room-from room-to room-via s room-nodes' room-endpoint' room-from' room-to' room-via' s' =
     (D : Design) (L : PathList) (G : Graph) → Worked D L G starts listed lengths nodes endpoint from to via → Removed (removal_outcome D L G (room_of (graph_slices room-nodes room-endpoint room-from room-to room-via)) (length s)) r room-nodes room-endpoint room-from room-to room-via s room-nodes' room-endpoint' room-from' room-to' room-via' s'
 
 -- What telling the size answers and leaves behind.
-abbrev pub Sized : Outcome Graph → GraphMade → List ℕ → List ℕ → Type 0
+abbrev pub Sized : Outcome Graph → Result GraphCounts Refusal → List ℕ → List ℕ → Type 0
 Sized o r s s' = (r ≡ graph_answer o) × (s' ≡ scratch_after o s)
 
 -- by the outcome in the largest room
-unfoldable pub AllSized : List ℕ → List ℕ → List ℕ → List ℕ → List ℕ → List ℕ → List ℕ → List ℕ → GraphMade → List ℕ → List ℕ → Type 0
+unfoldable pub AllSized : List ℕ → List ℕ → List ℕ → List ℕ → List ℕ → List ℕ → List ℕ → List ℕ → Result GraphCounts Refusal → List ℕ → List ℕ → Type 0
 AllSized starts listed lengths nodes endpoint from to via r s s' =
     (D : Design) (L : PathList) (G : Graph) → Worked D L G starts listed lengths nodes endpoint from to via → Sized (removal_outcome D L G largest_room (length s)) r s s'

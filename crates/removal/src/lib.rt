@@ -40,7 +40,7 @@ use design::and_design_tests;
 use graph::and_graph_test;
 use path_list::and_list_tests;
 use sizes::{and_list_sizes, design_sizes};
-use timing::{GraphMade, Verdict};
+use timing::{GraphCounts, Refusal, Verdict};
 use verdicts::{graph_sizes, then};
 
 mod bounds;
@@ -103,7 +103,7 @@ fn remove_numbered(
     room_to: &mut [u32],
     room_via: &mut [u32],
     scratch: &mut [u32],
-) -> GraphMade
+) -> Result<GraphCounts, Refusal>
     requires { Numberable starts.now ends.now marked.now listed.now lengths.now n
         × NumberRoom n starts.now marked.now numbers.old endpoint.old names.old
         × RoomsAlike room_nodes.old room_endpoint.old room_from.old room_to.old room_via.old }
@@ -146,7 +146,7 @@ fn remove_small(
     room_to: &mut [u32],
     room_via: &mut [u32],
     scratch: &mut [u32],
-) -> GraphMade
+) -> Result<GraphCounts, Refusal>
     requires { Numberable starts.now ends.now marked.now listed.now lengths.now n
         × RoomsAlike room_nodes.old room_endpoint.old room_from.old room_to.old room_via.old
         × (n ≤ 1024) × (length starts.now ≤ 1024) }
@@ -192,7 +192,7 @@ fn remove_large(
     room_to: &mut [u32],
     room_via: &mut [u32],
     scratch: &mut [u32],
-) -> GraphMade
+) -> Result<GraphCounts, Refusal>
     requires { Numberable starts.now ends.now marked.now listed.now lengths.now n
         × RoomsAlike room_nodes.old room_endpoint.old room_from.old room_to.old room_via.old }
     ensures { DesignRemoved starts.now ends.now marked.now listed.now
@@ -237,7 +237,7 @@ fn remove_tested(
     room_to: &mut [u32],
     room_via: &mut [u32],
     scratch: &mut [u32],
-) -> GraphMade
+) -> Result<GraphCounts, Refusal>
     requires { Numberable starts.now ends.now marked.now listed.now lengths.now n
         × RoomsAlike room_nodes.old room_endpoint.old room_from.old room_to.old room_via.old }
     ensures { DesignRemoved starts.now ends.now marked.now listed.now
@@ -294,7 +294,7 @@ pub fn remove_from_design(
     room_to: &mut [u32],
     room_via: &mut [u32],
     scratch: &mut [u32],
-) -> GraphMade
+) -> Result<GraphCounts, Refusal>
     ensures { let D = design n starts.now ends.now early.now late.now marked.now in
         let lent = lent_removal listed.now lengths.now room_nodes.old
         room_endpoint.old room_from.old room_to.old room_via.old
@@ -316,8 +316,8 @@ pub fn remove_from_design(
         room_via.len(),
     );
     let verdict = list_tests(n, starts, ends, early, late, marked, listed, lengths, room);
-    if let Verdict::Refused(r) = verdict {
-        return GraphMade::Refused(r);
+    if let Err(r) = verdict {
+        return Err(r);
     }
     remove_tested(
         n as usize,
@@ -347,7 +347,7 @@ fn size_numbered(
     endpoint: &mut [u32],
     names: &mut [u32],
     scratch: &mut [u32],
-) -> GraphMade
+) -> Result<GraphCounts, Refusal>
     requires { Numberable starts.now ends.now marked.now listed.now lengths.now n
         × NumberRoom n starts.now marked.now numbers.old endpoint.old names.old }
     ensures { DesignSized starts.now ends.now marked.now listed.now
@@ -376,7 +376,7 @@ fn size_small(
     listed: &[u32],
     lengths: &[u32],
     scratch: &mut [u32],
-) -> GraphMade
+) -> Result<GraphCounts, Refusal>
     requires { Numberable starts.now ends.now marked.now listed.now lengths.now n
         × (n ≤ 1024) × (length starts.now ≤ 1024) }
     ensures { DesignSized starts.now ends.now marked.now listed.now
@@ -408,7 +408,7 @@ fn size_large(
     listed: &[u32],
     lengths: &[u32],
     scratch: &mut [u32],
-) -> GraphMade
+) -> Result<GraphCounts, Refusal>
     requires { Numberable starts.now ends.now marked.now listed.now lengths.now n }
     ensures { DesignSized starts.now ends.now marked.now listed.now
         lengths.now n result scratch.old scratch.new }
@@ -439,7 +439,7 @@ fn size_tested(
     listed: &[u32],
     lengths: &[u32],
     scratch: &mut [u32],
-) -> GraphMade
+) -> Result<GraphCounts, Refusal>
     requires { Numberable starts.now ends.now marked.now listed.now lengths.now n }
     ensures { DesignSized starts.now ends.now marked.now listed.now
         lengths.now n result scratch.old scratch.new }
@@ -461,7 +461,7 @@ pub fn size_from_design(
     listed: &[u32],
     lengths: &[u32],
     scratch: &mut [u32],
-) -> GraphMade
+) -> Result<GraphCounts, Refusal>
     ensures { let D = design n starts.now ends.now early.now late.now marked.now in
         let L = path_list listed.now lengths.now in
         let o = size_from_design D L (length scratch.old) in
@@ -476,10 +476,10 @@ pub fn size_from_design(
         marked,
         listed,
         lengths,
-        Verdict::Passed,
+        Ok(()),
     );
-    if let Verdict::Refused(r) = verdict {
-        return GraphMade::Refused(r);
+    if let Err(r) = verdict {
+        return Err(r);
     }
     size_tested(n as usize, starts, ends, marked, listed, lengths, scratch)
 }
@@ -536,7 +536,7 @@ pub fn remove_from_graph(
     room_to: &mut [u32],
     room_via: &mut [u32],
     scratch: &mut [u32],
-) -> GraphMade
+) -> Result<GraphCounts, Refusal>
     ensures { let D = design n starts.now ends.now early.now late.now marked.now in
         let S = graph_slices nodes.now endpoint.now from.now to.now via.now in
         let lent = lent_removal listed.now lengths.now room_nodes.old
@@ -561,8 +561,8 @@ pub fn remove_from_graph(
     let verdict = graph_tests(
         n, starts, ends, early, late, marked, listed, lengths, nodes, endpoint, from, to, via, room,
     );
-    if let Verdict::Refused(r) = verdict {
-        return GraphMade::Refused(r);
+    if let Err(r) = verdict {
+        return Err(r);
     }
     remove(
         starts,
@@ -598,7 +598,7 @@ pub fn size_from_graph(
     to: &[u32],
     via: &[u32],
     scratch: &mut [u32],
-) -> GraphMade
+) -> Result<GraphCounts, Refusal>
     ensures { let D = design n starts.now ends.now early.now late.now marked.now in
         let S = graph_slices nodes.now endpoint.now from.now to.now via.now in
         let L = path_list listed.now lengths.now in
@@ -619,10 +619,10 @@ pub fn size_from_graph(
         from,
         to,
         via,
-        Verdict::Passed,
+        Ok(()),
     );
-    if let Verdict::Refused(r) = verdict {
-        return GraphMade::Refused(r);
+    if let Err(r) = verdict {
+        return Err(r);
     }
     size(
         starts, listed, lengths, nodes, endpoint, from, to, via, scratch,

@@ -13,7 +13,7 @@ use crate::rows::Layout;
 use crate::show::{reset_flags, show_all};
 use entries::zero;
 use sizes::{largest_answer, room_answer, scratch_test};
-use timing::{GraphMade, Refusal, Verdict};
+use timing::{GraphCounts, Refusal};
 
 // What a search answers: where the tables stand, with the slots flagged that are reached; or that there is no copy; or 31.
 #[derive(Clone, Copy)]
@@ -74,7 +74,7 @@ fn search(
 {
     let candidates = count_candidates(starts, listed, lengths, nodes);
     let verdict = scratch_test(scratch.len(), candidates, listed.len(), from.len());
-    if let Verdict::Refused(r) = verdict {
+    if let Err(r) = verdict {
         return Searched::Refused(r);
     }
     if nodes.len() == 0 {
@@ -98,7 +98,7 @@ fn write_counted(
     room_from: &mut [u32],
     room_to: &mut [u32],
     room_via: &mut [u32],
-) -> GraphMade
+) -> Result<GraphCounts, Refusal>
     requires { AllReached l nodes.now endpoint.now scratch.old
         × NamesIn l scratch.old (length pos.old)
         × RoomsAlike room_nodes.old room_endpoint.old room_from.old room_to.old room_via.old }
@@ -115,8 +115,8 @@ fn write_counted(
         room_nodes.len(),
         room_from.len(),
     );
-    if let GraphMade::Refused(r) = answer {
-        return GraphMade::Refused(r);
+    if let Err(r) = answer {
+        return Err(r);
     }
     reset_flags(l, scratch);
     fill_all(
@@ -146,7 +146,7 @@ fn write_result(
     room_from: &mut [u32],
     room_to: &mut [u32],
     room_via: &mut [u32],
-) -> GraphMade
+) -> Result<GraphCounts, Refusal>
     requires { AllReached l nodes.now endpoint.now scratch.old
         × NamesIn l scratch.old (length pos.old)
         × RoomsAlike room_nodes.old room_endpoint.old room_from.old room_to.old room_via.old }
@@ -158,7 +158,7 @@ fn write_result(
 {
     let most = bound_all(l, scratch);
     let ample = room_answer(most.copies, most.edges, room_nodes.len(), room_from.len());
-    if let GraphMade::Refused(_) = ample {
+    if let Err(_) = ample {
         return write_counted(
             l,
             nodes,
@@ -184,10 +184,10 @@ fn write_result(
         room_to,
         room_via,
     );
-    GraphMade::Counts {
+    Ok(GraphCounts {
         copies: counts.copies,
         edges: counts.edges,
-    }
+    })
 }
 
 // A removal with a place for each edge of the design to note where its name stands.
@@ -207,7 +207,7 @@ fn remove_with(
     room_via: &mut [u32],
     scratch: &mut [u32],
     pos: &mut [u16],
-) -> GraphMade
+) -> Result<GraphCounts, Refusal>
     requires { Workable starts.now listed.now lengths.now nodes.now endpoint.now from.now to.now via.now
         × RoomsAlike room_nodes.old room_endpoint.old room_from.old room_to.old room_via.old
         × (length starts.now ≤ length pos.old) }
@@ -239,12 +239,12 @@ fn remove_with(
         }
         Searched::Nothing => {
             zero(scratch);
-            GraphMade::Counts {
+            Ok(GraphCounts {
                 copies: 0,
                 edges: 0,
-            }
+            })
         }
-        Searched::Refused(r) => GraphMade::Refused(r),
+        Searched::Refused(r) => Err(r),
     }
 }
 
@@ -264,7 +264,7 @@ fn remove_few(
     room_to: &mut [u32],
     room_via: &mut [u32],
     scratch: &mut [u32],
-) -> GraphMade
+) -> Result<GraphCounts, Refusal>
     requires { Workable starts.now listed.now lengths.now nodes.now endpoint.now from.now to.now via.now
         × RoomsAlike room_nodes.old room_endpoint.old room_from.old room_to.old room_via.old
         × (length starts.now ≤ 1024) }
@@ -310,7 +310,7 @@ fn remove_many(
     room_to: &mut [u32],
     room_via: &mut [u32],
     scratch: &mut [u32],
-) -> GraphMade
+) -> Result<GraphCounts, Refusal>
     requires { Workable starts.now listed.now lengths.now nodes.now endpoint.now from.now to.now via.now
         × RoomsAlike room_nodes.old room_endpoint.old room_from.old room_to.old room_via.old }
     ensures { AllRemoved starts.now listed.now lengths.now nodes.now endpoint.now
@@ -356,7 +356,7 @@ pub(crate) fn remove(
     room_to: &mut [u32],
     room_via: &mut [u32],
     scratch: &mut [u32],
-) -> GraphMade
+) -> Result<GraphCounts, Refusal>
     requires { Workable starts.now listed.now lengths.now nodes.now endpoint.now from.now to.now via.now
         × RoomsAlike room_nodes.old room_endpoint.old room_from.old room_to.old room_via.old }
     ensures { AllRemoved starts.now listed.now lengths.now nodes.now endpoint.now
@@ -413,7 +413,7 @@ fn size_with(
     via: &[u32],
     scratch: &mut [u32],
     pos: &mut [u16],
-) -> GraphMade
+) -> Result<GraphCounts, Refusal>
     requires { Workable starts.now listed.now lengths.now nodes.now endpoint.now from.now to.now via.now
         × (length starts.now ≤ length pos.old) }
     ensures { AllSized starts.now listed.now lengths.now nodes.now endpoint.now
@@ -430,12 +430,12 @@ fn size_with(
         }
         Searched::Nothing => {
             zero(scratch);
-            GraphMade::Counts {
+            Ok(GraphCounts {
                 copies: 0,
                 edges: 0,
-            }
+            })
         }
-        Searched::Refused(r) => GraphMade::Refused(r),
+        Searched::Refused(r) => Err(r),
     }
 }
 
@@ -450,7 +450,7 @@ fn size_few(
     to: &[u32],
     via: &[u32],
     scratch: &mut [u32],
-) -> GraphMade
+) -> Result<GraphCounts, Refusal>
     requires { Workable starts.now listed.now lengths.now nodes.now endpoint.now from.now to.now via.now
         × (length starts.now ≤ 1024) }
     ensures { AllSized starts.now listed.now lengths.now nodes.now endpoint.now
@@ -473,7 +473,7 @@ fn size_many(
     to: &[u32],
     via: &[u32],
     scratch: &mut [u32],
-) -> GraphMade
+) -> Result<GraphCounts, Refusal>
     requires { Workable starts.now listed.now lengths.now nodes.now endpoint.now from.now to.now via.now }
     ensures { AllSized starts.now listed.now lengths.now nodes.now endpoint.now
         from.now to.now via.now result scratch.old scratch.new }
@@ -495,7 +495,7 @@ pub(crate) fn size(
     to: &[u32],
     via: &[u32],
     scratch: &mut [u32],
-) -> GraphMade
+) -> Result<GraphCounts, Refusal>
     requires { Workable starts.now listed.now lengths.now nodes.now endpoint.now from.now to.now via.now }
     ensures { AllSized starts.now listed.now lengths.now nodes.now endpoint.now
         from.now to.now via.now result scratch.old scratch.new }

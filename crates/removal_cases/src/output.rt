@@ -4,7 +4,7 @@ ghost use Rattle.std.specs.Prelude.{◌≤◌, ◌<◌, length};
 use entries::{front, least};
 use print::{refused, text};
 use std::io::{Result, Write};
-use timing::GraphMade;
+use timing::{GraphCounts, Refusal};
 
 // Sets place k to first + k mod 65,536, so that a word that is moved or changed is seen; and answers
 // how many places are set, which is at most the count.
@@ -64,28 +64,28 @@ fn shown(copies: usize, edges: usize) -> Printed {
 }
 
 // The same of what a removal made.
-fn shown_of(made: GraphMade) -> Printed {
+fn shown_of(made: Result<GraphCounts, Refusal>) -> Printed {
     match made {
-        GraphMade::Counts { copies, edges } => shown(copies, edges),
-        GraphMade::Refused(_) => shown(0, 0),
+        Ok(GraphCounts { copies, edges }) => shown(copies, edges),
+        Err(_) => shown(0, 0),
     }
 }
 
 // The counts, or the refusal.
-fn say_made<W: Write>(out: &mut W, made: GraphMade) -> Result<()> {
+fn say_made<W: Write>(out: &mut W, made: Result<GraphCounts, Refusal>) -> Result<()> {
     match made {
-        GraphMade::Counts { copies, edges } => {
+        Ok(GraphCounts { copies, edges }) => {
             text(out, b"copies ")?;
             print::number(out, copies as u64)?;
             text(out, b" edges ")?;
             print::number(out, edges as u64)
         }
-        GraphMade::Refused(r) => refused(out, r),
+        Err(r) => refused(out, r),
     }
 }
 
 // What is told before a removal, and a sum over the scratch.
-pub(crate) fn say_told<W: Write>(out: &mut W, told: GraphMade, scratch: &[u32]) -> Result<()> {
+pub(crate) fn say_told<W: Write>(out: &mut W, told: Result<GraphCounts, Refusal>, scratch: &[u32]) -> Result<()> {
     text(out, b"told ")?;
     say_made(out, told)?;
     say_slice(out, b"\nscratch ", 0, scratch)
@@ -94,7 +94,7 @@ pub(crate) fn say_told<W: Write>(out: &mut W, told: GraphMade, scratch: &[u32]) 
 // A removal's answer, the graph if it is small, and a sum over each slice.
 pub(crate) fn say<W: Write>(
     out: &mut W,
-    made: GraphMade,
+    made: Result<GraphCounts, Refusal>,
     room_nodes: &[u32],
     room_endpoint: &[u32],
     room_from: &[u32],

@@ -3,7 +3,7 @@ use crate::output::{say, set_pattern};
 use crate::tables;
 use crate::tables::{Design, Held, List, Sizes, keep, part};
 use std::io::{Result, Write};
-use timing::GraphMade;
+use timing::{GraphCounts, Refusal};
 
 // The removal from what is held.
 fn from_graph(
@@ -19,7 +19,7 @@ fn from_graph(
     room_to: &mut [u32],
     room_via: &mut [u32],
     scratch: &mut [u32],
-) -> GraphMade {
+) -> Result<GraphCounts, Refusal> {
     removal::remove_from_graph(
         d.n,
         part(words, tables::STARTS, d.starts),
@@ -55,7 +55,7 @@ fn from_design(
     room_to: &mut [u32],
     room_via: &mut [u32],
     scratch: &mut [u32],
-) -> GraphMade {
+) -> Result<GraphCounts, Refusal> {
     removal::remove_from_design(
         d.n,
         part(words, tables::STARTS, d.starts),
@@ -87,7 +87,7 @@ fn remove(
     room_to: &mut [u32],
     room_via: &mut [u32],
     scratch: &mut [u32],
-) -> GraphMade {
+) -> Result<GraphCounts, Refusal> {
     if held.any {
         return from_graph(
             words,

@@ -4,7 +4,7 @@
 use cases::{Slice, fill, unpack};
 use entries::least;
 use packed_lists::take_number;
-use timing::GraphMade;
+use timing::{GraphCounts, Refusal};
 
 pub(crate) const WORDS: usize = 101680;
 
@@ -215,7 +215,7 @@ fn copy_to(count: usize, source: &[u32], words: &mut [u32], place: usize) {
 
 // What is held after a removal: its result, or what was held before.
 pub(crate) fn keep(
-    made: GraphMade,
+    made: Result<GraphCounts, Refusal>,
     held: Held,
     room_nodes: &[u32],
     room_endpoint: &[u32],
@@ -225,7 +225,7 @@ pub(crate) fn keep(
     words: &mut [u32],
 ) -> Held {
     match made {
-        GraphMade::Counts { copies, edges } => {
+        Ok(GraphCounts { copies, edges }) => {
             copy_to(copies, room_nodes, words, NODES);
             copy_to(copies, room_endpoint, words, ENDPOINT);
             copy_to(edges, room_from, words, FROM);
@@ -240,6 +240,6 @@ pub(crate) fn keep(
                 via: edges,
             }
         }
-        GraphMade::Refused(_) => held,
+        Err(_) => held,
     }
 }

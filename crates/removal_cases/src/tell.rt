@@ -6,7 +6,7 @@ use crate::output::{say_told, set_pattern};
 use crate::tables;
 use crate::tables::{Design, Held, List, part};
 use std::io::{Result, Write};
-use timing::GraphMade;
+use timing::{GraphCounts, Refusal};
 
 // Told from what is held.
 fn from_graph(
@@ -17,7 +17,7 @@ fn from_graph(
     l: List,
     held: Held,
     scratch: &mut [u32],
-) -> GraphMade {
+) -> Result<GraphCounts, Refusal> {
     removal::size_from_graph(
         d.n,
         part(words, tables::STARTS, d.starts),
@@ -43,7 +43,7 @@ fn from_design(
     late: &[i32],
     l: List,
     scratch: &mut [u32],
-) -> GraphMade {
+) -> Result<GraphCounts, Refusal> {
     removal::size_from_design(
         d.n,
         part(words, tables::STARTS, d.starts),
@@ -65,7 +65,7 @@ fn size(
     l: List,
     held: Held,
     scratch: &mut [u32],
-) -> GraphMade {
+) -> Result<GraphCounts, Refusal> {
     if held.any {
         return from_graph(words, d, early, late, l, held, scratch);
     }

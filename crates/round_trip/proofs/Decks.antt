@@ -3,13 +3,13 @@ use Prim.Native.Nat.{ℕ, zero, suc, ◌+◌, ◌-◌, ◌≤◌}
 use native.Mathlib.Omega.{arith}
 use mathlib.Core.Path.{◌≡◌, refl, ◌∙◌, ap}
 use mathlib.Core.List.{List, [], ◌∷◌, ◌++◌, map, flat_map, append_assoc}
+use Rattle.std.specs.Prelude.{Err}
+use Rattle.timing.specs.Answers.{Verdict, Passed}
 use lib.Dec.{leb}
 use lib.IntN.{ℤ}
 use lib.ListN.{length, take, drop, length-drop, length-map, take-append-drop}
 use lib.Seq.{take_at, drop_at, length-take-le}
 use borrow.Author.Tests.{le-leb, eq-eqb}
-use Rattle.timing.specs.declared.Verdict.{Verdict}
-use Rattle.timing.specs.declared.Verdict.TheVariants.{Passed}
 use Rattle.timing.specs.Lists.{sum}
 use Rattle.timing.specs.Graphs.{Design, design}
 use Rattle.timing.specs.Marks.{PathList, path_list, cut}
@@ -17,7 +17,6 @@ use Rattle.timing.specs.Delays.{packed_delay, delay_of}
 use Rattle.timing.specs.Refusals.{unless, ◌then◌}
 use Rattle.timing.specs.Parsing.{Parsed, found, stopped, Reader, ◌>>=◌, ◌>>◌, return, tested, number, repeated, ended}
 use Rattle.timing.specs.Decks.{Deck, Tables, EdgeRow, edge_row, design_of, edge_numbers, path_numbers, deck_numbers, packed_deck, paths, read_deck}
-use Rattle.timing.specs.declared.Verdict.TheVariants.{Refused as NotPassed}
 use Rattle.timing.specs.Tests.{edge_sizes, marked_count}
 use Rattle.timing.specs.Calls.{made, parsed, guarded, deck_read}
 use Rattle.packed.proofs.Numbers.{Bytes}
@@ -262,4 +261,4 @@ written_read s starts ends early late listed lengths marked d bytes e = by (edge
 
     by : (v : Verdict) → guarded v (parsed (read_deck s (record { edges = starts; listed = listed; paths = lengths; marked = marked }))) ≡ made d → packed_deck d ≡ s
     by Passed q = two (read_deck s tables) (took_deck s bytes tables) q
-    by (NotPassed r) q = absurd (let z : ◌≡◌ {A = ℕ} 0 1 = cc in omega arith)
+    by (Err r) q = absurd (let z : ◌≡◌ {A = ℕ} 0 1 = cc in omega arith)

@@ -5,13 +5,11 @@ use native.Mathlib.Omega.{arith}
 use mathlib.Core.Path.{◌≡◌, refl, sym, ◌∙◌, ap}
 use mathlib.Core.Bool.{true}
 use mathlib.Core.List.{List, [], ◌∷◌, ◌++◌, map, flat_map, append-nil}
+use Rattle.std.specs.Prelude.{Ok, Err}
+use Rattle.timing.specs.Answers.{Verdict, Passed}
 use lib.Dec.{leb}
 use lib.ListN.{length, take, drop, length-drop, length-map}
 use borrow.Author.Tests.{le-leb, leb-true}
-use Rattle.timing.specs.declared.Verdict.{Verdict}
-use Rattle.timing.specs.declared.Verdict.TheVariants.{Passed}
-use Rattle.timing.specs.declared.Verdict.TheVariants.{Refused as NotPassed}
-use Rattle.timing.specs.declared.Written.TheVariants.{End}
 use Rattle.timing.specs.Lists.{all_of}
 use Rattle.timing.specs.Graphs.{Edge, Graph, edges_of}
 use Rattle.timing.specs.WellFormed.{zero_or_one}
@@ -169,7 +167,7 @@ ones S e =
 -- written: for numbers of 32 bits, and room for as many copies and edges.
 pub read_written : (S : GraphSlices) (room : List ℕ) (n : ℕ) (R : Room) → Small S.nodes → Small S.starts → Small S.ends → Small S.names
     → room_sizes R ≡ Passed → length S.nodes ≤ R.nodes → length S.starts ≤ R.starts
-    → writing (graph_write_tests S) room (packed_graph (graph_of S)) ≡ End n
+    → writing (graph_write_tests S) room (packed_graph (graph_of S)) ≡ Ok n
     → (graph_read (take n (room_after_writing (graph_write_tests S) room (packed_graph (graph_of S)))) R ≡ made (graph_of S)) × (slices_of (graph_of S) ≡ S)
 unfolding graph_read graph_numbers
 read_written S room n R sn ss se sm z hn he w =
@@ -296,7 +294,7 @@ tests_read G h k f o =
 -- Where `read_graph` makes a graph, `write_graph` of its slices, into a room that is long enough, answers the length of the bytes
 -- that were read and leaves these bytes.
 pub written_read : (s : List ℕ) (R : Room) (G : Graph) (room : List ℕ) → Bytes s → graph_read s R ≡ made G → length s ≤ length room
-    → (writing (graph_write_tests (slices_of G)) room (packed_graph (graph_of (slices_of G))) ≡ End (length s))
+    → (writing (graph_write_tests (slices_of G)) room (packed_graph (graph_of (slices_of G))) ≡ Ok (length s))
     × (take (length s) (room_after_writing (graph_write_tests (slices_of G)) room (packed_graph (graph_of (slices_of G)))) ≡ s)
 unfolding graph_read
 written_read s R G room bytes e h =
@@ -310,4 +308,4 @@ written_read s R G room bytes e h =
 
     by : (v : Verdict) → guarded v (parsed (read_graph s R.nodes R.starts)) ≡ made G → WasRead s bytes G
     by Passed q = two (read_graph s R.nodes R.starts) (took_graph s bytes R.nodes R.starts) q
-    by (NotPassed r) q = absurd (let z : ◌≡◌ {A = ℕ} 0 1 = cc in omega arith)
+    by (Err r) q = absurd (let z : ◌≡◌ {A = ℕ} 0 1 = cc in omega arith)

@@ -5,17 +5,15 @@ use native.Mathlib.Omega.{arith}
 use mathlib.Core.Path.{◌≡◌, refl, sym, ◌∙◌, ap}
 use mathlib.Core.Bool.{Bool, true, false, cond}
 use mathlib.Core.List.{List, [], ◌∷◌, ◌++◌, flat_map, append_assoc, append-nil}
+use Rattle.std.specs.Prelude.{Result, Ok, Err}
+use Rattle.timing.specs.Answers.{Verdict, Passed, Number}
+use Rattle.timing.specs.declared.Groups.{Groups}
+use Rattle.timing.specs.declared.NoNumber.{NoNumber}
+use Rattle.timing.specs.declared.NoNumber.TheVariants.{Ended, Unfit}
 use lib.Dec.{leb}
 use lib.ListN.{length, take, drop, take-append-drop, drop_of_length-le}
 use lib.Seq.{drop-drop, drop-append_seam, take-append_seam}
 use borrow.Author.Tests.{le-leb, leb-true}
-use Rattle.timing.specs.declared.Groups.{Groups}
-use Rattle.timing.specs.declared.Groups.TheVariants.{Number, Ended, Unfit}
-use Rattle.timing.specs.declared.Verdict.{Verdict}
-use Rattle.timing.specs.declared.Verdict.TheVariants.{Passed}
-use Rattle.timing.specs.declared.Verdict.TheVariants.{Refused as NotPassed}
-use Rattle.timing.specs.declared.Written.TheVariants.{End}
-use Rattle.timing.specs.declared.Written.TheVariants.{Refused as NotWritten}
 use Rattle.timing.specs.Numbers.{packed, groups_in, number_answer, read_number, write_answer, written_room}
 use Rattle.timing.specs.Refusals.{refusal}
 use Rattle.timing.specs.Parsing.{found, stopped, Reader, onward, ◌>>=◌, return, parsed_number, number, repeated, ended}
@@ -74,10 +72,10 @@ module _ (s : List ℕ) (bytes : Bytes s) where
   unfolding read_number
   took_number at = by (groups_in 15 4 (drop at s)) (packed_read 15 4 (drop at s) (bytes_drop s at bytes))
     where
-      by : (g : Groups) → Back 4 (drop at s) g → Is (λ x next. Took s at (x ∷ []) next) (parsed_number (number_answer (length s) at g))
+      by : (g : Result Groups NoNumber) → Back 4 (drop at s) g → Is (λ x next. Took s at (x ∷ []) next) (parsed_number (number_answer (length s) at g))
       by (Number v n) k = sym (take-append-drop n (drop at s)) ∙ rw (k, bytes_one v, drop-drop n at s)
-      by Ended k = tt
-      by Unfit k = tt
+      by (Err Ended) k = tt
+      by (Err Unfit) k = tt
 
   abbrev pub TookNumbers : ℕ → ℕ → List ℕ → ℕ → Type 0
   TookNumbers k at xs next = Took s at xs next × (length xs ≡ k)
@@ -106,18 +104,18 @@ module _ (s : List ℕ) (bytes : Bytes s) where
 -- 3. A writer whose tests pass and whose room is long enough answers the length and leaves the bytes at the front of the room;
 -- and where it answers a length, it has done so.
 pub left_front : (v : Verdict) (room bs : List ℕ) → v ≡ Passed → length bs ≤ length room
-    → (writing v room bs ≡ End (length bs)) × (take (length bs) (room_after_writing v room bs) ≡ bs)
+    → (writing v room bs ≡ Ok (length bs)) × (take (length bs) (room_after_writing v room bs) ≡ bs)
 unfolding write_answer written_room
 left_front v room bs e h =
     let d : 0 + length bs ≡ length bs = omega arith in
     rw (e, d, le-leb (length bs) (length room) h) (refl, take-append_seam bs (drop (length bs) room))
 
-pub front_left : (v : Verdict) (room bs : List ℕ) (n : ℕ) → writing v room bs ≡ End n → (v ≡ Passed) × (take n (room_after_writing v room bs) ≡ bs)
+pub front_left : (v : Verdict) (room bs : List ℕ) (n : ℕ) → writing v room bs ≡ Ok n → (v ≡ Passed) × (take n (room_after_writing v room bs) ≡ bs)
 unfolding write_answer
-front_left (NotPassed r) room bs n e = absurd (let z : ◌≡◌ {A = ℕ} 0 1 = cc in omega arith)
+front_left (Err r) room bs n e = absurd (let z : ◌≡◌ {A = ℕ} 0 1 = cc in omega arith)
 front_left Passed room bs n e = (refl, go (leb (0 + length bs) (length room)) refl e)
   where
-    go : (b : Bool) → leb (0 + length bs) (length room) ≡ b → cond b (End (0 + length bs)) (NotWritten (refusal 35 0)) ≡ End n → take n (written_room room 0 bs) ≡ bs
+    go : (b : Bool) → leb (0 + length bs) (length room) ≡ b → cond b (Ok (0 + length bs)) (Err (refusal 35 0)) ≡ Ok n → take n (written_room room 0 bs) ≡ bs
     go true t f =
         let d : 0 + length bs ≡ n = cc in
         let k : n ≡ length bs = omega arith in

@@ -10,7 +10,7 @@ ghost use Rattle.timing.specs.Tests.{edge_sizes, design_sizes, time_sizes, list_
 ghost use Rattle.timing.specs.Calls.{largest_room, counts_answer};
 
 use entries::least;
-use timing::{GraphMade, MAX_COPIES, MAX_COPY_EDGES, Verdict, WORDS_PER_UNIT};
+use timing::{GraphCounts, MAX_COPIES, MAX_COPY_EDGES, Refusal, Verdict, WORDS_PER_UNIT};
 use verdicts::{same_sizes, then, unless};
 
 // 30 for four slices of edges, from their lengths: those of a design, and the tables that the deck reader is lent.
@@ -51,18 +51,14 @@ pub fn time_sizes(
 pub fn and_list_sizes(before: Verdict, listed: &[u32], lengths: &[u32]) -> Verdict
     ensures { result ≡ (before then list_sizes (path_list listed.now lengths.now)) }
 {
-    let Verdict::Passed = before else {
-        return before;
-    };
+    before?;
     let mut left = listed.len();
-    let mut i = 0;
-    while i < lengths.len() {
-        let k = lengths[i] as usize;
+    for k in lengths {
+        let k = *k as usize;
         if left < k {
             return unless(30, false);
         }
         left -= k;
-        i += 1;
     }
     unless(30, left == 0)
 }
@@ -94,18 +90,15 @@ fn room_tests(copies: usize, edges: usize, node_room: usize, edge_room: usize) -
 }
 
 // What is answered of a result with so many copies and edges, in a room with so many places for each: 33, 34, or its counts.
-pub fn room_answer(copies: usize, edges: usize, node_room: usize, edge_room: usize) -> GraphMade
+pub fn room_answer(copies: usize, edges: usize, node_room: usize, edge_room: usize) -> Result<GraphCounts, Refusal>
     ensures { result ≡ counts_answer (count_tests copies edges node_room edge_room) copies edges }
 {
-    let verdict = room_tests(copies, edges, node_room, edge_room);
-    match verdict {
-        Verdict::Passed => GraphMade::Counts { copies, edges },
-        Verdict::Refused(r) => GraphMade::Refused(r),
-    }
+    room_tests(copies, edges, node_room, edge_room)?;
+    Ok(GraphCounts { copies, edges })
 }
 
 // The same in the largest room, where none is lent: a size that is told.
-pub fn largest_answer(copies: usize, edges: usize) -> GraphMade
+pub fn largest_answer(copies: usize, edges: usize) -> Result<GraphCounts, Refusal>
     ensures { result ≡ counts_answer (count_tests copies edges largest_room.nodes largest_room.starts) copies edges }
 {
     room_answer(copies, edges, MAX_COPIES, MAX_COPY_EDGES)

@@ -4,10 +4,11 @@ use Prim.Native.Nat.{ℕ}
 use mathlib.Core.Path.{◌≡◌, refl, sym, ap, ◌∙◌, subst}
 use mathlib.Core.List.{List, [], ◌∷◌, map}
 use mathlib.Core.Option.{Option, none, some}
+use Rattle.std.specs.Prelude.{Result, Err}
+use Rattle.timing.specs.Answers.{Verdict, Passed}
+use Rattle.timing.specs.declared.GraphCounts.{GraphCounts}
+use Rattle.timing.specs.declared.Refusal.{Refusal}
 use lib.ListN.{length, take}
-use Rattle.timing.specs.declared.Verdict.{Verdict}
-use Rattle.timing.specs.declared.Verdict.TheVariants.{Passed, Refused}
-use Rattle.timing.specs.declared.GraphMade.{GraphMade}
 use Rattle.timing.specs.Graphs.{Design, Graph, design_graph}
 use Rattle.timing.specs.Marks.{paths_of}
 use Rattle.timing.specs.TrueGraphs.{true_graph}
@@ -29,7 +30,7 @@ Sized (refused r) = Unit {0}
 
 sized : (G : Graph) (L : List (List ℕ)) (v : Verdict) → Sized (outcome v (true_graph G L))
 sized G L Passed = true_sizes G L
-sized G L (Refused r) = tt
+sized G L (Err r) = tt
 
 next_sized : (D : Design) (h : Option Graph) (r : Removal) → Sized (remove_next D h r)
 next_sized D none r = subst Sized (sym (from_design D r)) (sized (design_graph D) (paths_of r.list) (design_verdict D r))
@@ -38,11 +39,11 @@ next_sized D (some G) r = subst Sized (sym (from_graph D G r)) (sized G (paths_o
 -- what the caller lends on is the graph that the definition holds
 pub front_held : (h : Option Graph) (c : Called) (o : Outcome Graph) → Sized o → Meets o c → held_slices c.answer c.after (slices_held h) ≡ slices_held (held_next h o)
 front_held h c (made G) z m =
-    ap (λ (a : GraphMade). held_slices a c.after (slices_held h)) m.answer
+    ap (λ (a : Result GraphCounts Refusal). held_slices a c.after (slices_held h)) m.answer
     ∙ (λ i.
     some (graph_slices (take (length G.nodes) (m.nodes i)) (take (length G.nodes) (m.endpoints i)) (take (length G.edges) (m.starts i)) (take (length G.edges) (m.ends i)) (take (length G.edges) (m.names i))))
     ∙ ap some (front_made G c.room z)
-front_held h c (refused r) z m = ap (λ (a : GraphMade). held_slices a c.after (slices_held h)) m.answer
+front_held h c (refused r) z m = ap (λ (a : Result GraphCounts Refusal). held_slices a c.after (slices_held h)) m.answer
 
 -- and the last counts are that graph's
 counts_held_lem : (h : Option Graph) (c : Called) (o : Outcome Graph) → Meets o c → counts_next (counts_held h) c.answer ≡ counts_held (held_next h o)
@@ -69,7 +70,7 @@ ran_beside D h (c ∷ cs) r =
     record {
       refusals = λ i. same_verdict c o m i ∷ below.refusals i;
       slices = ap (λ (x : Option GraphSlices). last_held x cs) f ∙ below.slices;
-      counts = ap (λ (x : Option GraphMade). last_counts x cs) (counts_held_lem h c o m) ∙ below.counts;
+      counts = ap (λ (x : Option (Result GraphCounts Refusal)). last_counts x cs) (counts_held_lem h c o m) ∙ below.counts;
     }
 
 pub called_demand3 : (D : Design) (cs : List Called) → Ran D none cs → CalledDemand3 D cs

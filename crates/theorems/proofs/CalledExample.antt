@@ -6,11 +6,12 @@ use native.Mathlib.Omega.{arith}
 use mathlib.Core.Path.{◌≡◌, refl, ap}
 use mathlib.Core.List.{List, [], ◌∷◌, map, flat_map}
 use mathlib.Core.Option.{none, some}
+use Rattle.std.specs.Prelude.{Result, Ok, Err}
+use Rattle.timing.specs.Answers.{Counts}
+use Rattle.timing.specs.declared.GraphCounts.{GraphCounts}
+use Rattle.timing.specs.declared.Refusal.{Refusal}
 use lib.Dec.{leb→le}
 use lib.ListN.{length}
-use Rattle.timing.specs.declared.GraphMade.{GraphMade}
-use Rattle.timing.specs.declared.GraphMade.TheVariants.{Counts}
-use Rattle.timing.specs.declared.GraphMade.TheVariants.{Refused as NoGraph}
 use Rattle.timing.specs.Lists.{upto}
 use Rattle.timing.specs.Graphs.{Graph, design_graph, edges_in, edges_out, runs_from, complete_runs}
 use Rattle.timing.specs.Marks.{path_list, paths_of, permitted, tails, mark}
@@ -34,7 +35,7 @@ abbrev pub room_for : ℕ → GraphSlices
 room_for n = graph_slices (words n 9) (words n 9) (words 6 9) (words 6 9) (words 6 9)
 
 -- a call with n words of scratch, which hold x afterwards
-abbrev pub called_with : ℕ → List ℕ → List ℕ → GraphSlices → GraphMade → GraphSlices → ℕ → Called
+abbrev pub called_with : ℕ → List ℕ → List ℕ → GraphSlices → Result GraphCounts Refusal → GraphSlices → ℕ → Called
 called_with n listed lengths room answer after x = record {
   listed = listed;
   lengths = lengths;
@@ -46,7 +47,7 @@ called_with n listed lengths room answer after x = record {
 }
 
 -- with 120, all that 31 asks of the last call below
-abbrev pub called : List ℕ → List ℕ → GraphSlices → GraphMade → GraphSlices → ℕ → Called
+abbrev pub called : List ℕ → List ℕ → GraphSlices → Result GraphCounts Refusal → GraphSlices → ℕ → Called
 called = called_with 120
 
 abbrev pub after_a : GraphSlices
@@ -57,9 +58,9 @@ after_further = graph_slices (0 ∷ 1 ∷ 2 ∷ 2 ∷ 3 ∷ 4 ∷ []) (0 ∷ 0 �
 
 abbrev pub series : List Called
 series =
-    called (2 ∷ 1 ∷ []) (2 ∷ []) (room_for 6) (NoGraph (refusal_within 24 0 1)) (room_for 6) 9
+    called (2 ∷ 1 ∷ []) (2 ∷ []) (room_for 6) (Err (refusal_within 24 0 1)) (room_for 6) 9
     ∷ called (1 ∷ 2 ∷ []) (2 ∷ []) (room_for 6) (Counts 6 5) after_a 0
-    ∷ called (0 ∷ 3 ∷ []) (2 ∷ []) (room_for 5) (NoGraph (refusal 33 0)) (room_for 5) 0
+    ∷ called (0 ∷ 3 ∷ []) (2 ∷ []) (room_for 5) (Err (refusal 33 0)) (room_for 5) 0
     ∷ called (0 ∷ 3 ∷ []) (2 ∷ []) (room_for 6) (Counts 6 4) after_further 0
     ∷ []
 
@@ -102,14 +103,14 @@ abbrev four_edges : GraphSlices
 four_edges = graph_slices (words 6 9) (words 6 9) (words 4 9) (words 4 9) (words 4 9)
 
 abbrev pub refused_in : GraphSlices → ℕ → Called
-refused_in room number = called_with 96 (1 ∷ 2 ∷ []) (2 ∷ []) room (NoGraph (refusal number 0)) room 0
+refused_in room number = called_with 96 (1 ∷ 2 ∷ []) (2 ∷ []) room (Err (refusal number 0)) room 0
 
 -- an answer with another number than k is not refused k
-abbrev number_in : GraphMade → ℕ
-number_in (Counts c e) = 0
-number_in (NoGraph r) = r.number
+abbrev number_in : Result GraphCounts Refusal → ℕ
+number_in (Ok g) = 0
+number_in (Err r) = r.number
 
-pub apart : (a : GraphMade) (k : ℕ) → (number_in a ≡ k → ⊥) → a ≡ NoGraph (refusal k 0) → ⊥
+pub apart : (a : Result GraphCounts Refusal) (k : ℕ) → (number_in a ≡ k → ⊥) → a ≡ Err (refusal k 0) → ⊥
 apart a k h e = h (ap number_in e)
 
 pub told : Tells (size_on deck_a none (path_list (1 ∷ 2 ∷ []) (2 ∷ [])) 96) told_a
@@ -133,10 +134,10 @@ told_answers =
     let one = apart (Counts 6 5) 31 (λ e. omega arith) in (
       (foretells deck_a none told_a (refused_in (room_for 5) 33) told
           (record { answer = refl; nodes = refl; endpoints = refl; starts = refl; ends = refl; names = refl; scratch = refl })
-          refl refl one (apart (NoGraph (refusal 33 0)) 30 (λ e. omega arith)) (apart (NoGraph (refusal 33 0)) 31 (λ e. omega arith))).0,
+          refl refl one (apart (Err (refusal 33 0)) 30 (λ e. omega arith)) (apart (Err (refusal 33 0)) 31 (λ e. omega arith))).0,
       (foretells deck_a none told_a (refused_in four_edges 34) told
           (record { answer = refl; nodes = refl; endpoints = refl; starts = refl; ends = refl; names = refl; scratch = refl })
-          refl refl one (apart (NoGraph (refusal 34 0)) 30 (λ e. omega arith)) (apart (NoGraph (refusal 34 0)) 31 (λ e. omega arith))).0,
+          refl refl one (apart (Err (refusal 34 0)) 30 (λ e. omega arith)) (apart (Err (refusal 34 0)) 31 (λ e. omega arith))).0,
       (foretells deck_a none told_a (made_with 96) told filled refl refl one (apart (Counts 6 5) 30 (λ e. omega arith)) one).1 6 5 refl,
     )
 
@@ -152,7 +153,7 @@ abbrev pub shuffled : Called
 shuffled = called_with 144 (1 ∷ 2 ∷ 0 ∷ 3 ∷ 1 ∷ 2 ∷ []) (2 ∷ 2 ∷ 2 ∷ []) (room_for 6) (Counts 6 4) after_both 0
 
 abbrev repeated_short : Called
-repeated_short = called_with 120 (1 ∷ 2 ∷ 0 ∷ 3 ∷ 1 ∷ 2 ∷ []) (2 ∷ 2 ∷ 2 ∷ []) (room_for 6) (NoGraph (refusal 31 0)) (room_for 6) 9
+repeated_short = called_with 120 (1 ∷ 2 ∷ 0 ∷ 3 ∷ 1 ∷ 2 ∷ []) (2 ∷ 2 ∷ 2 ∷ []) (room_for 6) (Err (refusal 31 0)) (room_for 6) 9
 
 pub both_met : Meets (remove_on deck_a none (removal_of both)) both
 unfolding flat_map design_graph edges_in edges_out runs_from complete_runs permitted tails mark permitted_runs copies path_ends joins true_graph design_tests list_tests candidates scratch_test room_tests remove_from_design

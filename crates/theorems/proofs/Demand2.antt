@@ -6,13 +6,13 @@ use mathlib.Core.Path.{◌≡◌, refl, sym, ap, ap₂, ◌∙◌, subst}
 use mathlib.Core.Bool.{Bool, true, false, cond}
 use mathlib.Core.List.Memᴰ
 use mathlib.Core.List.{List, [], ◌∷◌, ◌++◌, map, flat_map, Memᴰ, head-eq_of_cons-eq, tail-eq_of_cons-eq, cons≢nil, nil≢cons, map-append}
+use Rattle.timing.specs.Answers.{Passed}
 use native.Mathlib.Omega.{arith}
 use lib.Dec.{T, eqb}
 use lib.ListN.{length}
 use lib.IntN.{ℤ, ◌+ℤ◌}
 use Rattle.timing.specs.Lists.{keep, upto}
 use Rattle.timing.specs.Graphs.{Design, edge_end, design_graph, Edge, Graph, node_of, edges_out, starts_at, ends_at, runs_from, Run, complete_runs, names, delay_along, DesignPath, taken_back}
-use Rattle.timing.specs.declared.Verdict.TheVariants.{Passed}
 use Rattle.timing.specs.Marks.{permitted}
 use Rattle.timing.specs.Tests.{design_sizes, design_tests}
 use Rattle.timing.specs.WellFormed.{well_formed}

@@ -5,12 +5,13 @@ use Prim.Native.Nat.{ℕ, ◌<◌}
 use mathlib.Core.Path.{◌≡◌, refl, sym, ap, ◌∙◌, subst}
 use mathlib.Core.Logic.{inr, ◌↔◌}
 use mathlib.Core.List.{List, [], ◌∷◌, ◌++◌, map, map-append}
+use Rattle.std.specs.Prelude.{Option, Some, None}
+use Rattle.timing.specs.Answers.{Times}
+use Rattle.timing.specs.declared.NodeTimes.{NodeTimes}
 use native.Mathlib.Omega.{arith}
 use lib.Dec.{T}
 use lib.IntN.{ℤ, ◌-ℤ◌}
 use lib.ListN.{length}
-use Rattle.timing.specs.declared.NodeTimes.{NodeTimes}
-use Rattle.timing.specs.declared.NodeTimes.TheVariants.{Times, None}
 use Rattle.timing.specs.Graphs.{Design, Edge, Graph, design_graph, node_of, Run, complete_runs, names, delay_along}
 use Rattle.timing.specs.Marks.{permitted, mark}
 use Rattle.timing.specs.TrueGraphs.{Copy, copy_at, permitted_runs}
@@ -71,7 +72,7 @@ module _ (G : Graph) (L : List (List ℕ)) (up : Rising G) where
       )
 
 -- the same paths, said in another way
-paths_on : {early late : ℕ → ℤ} {t : ℤ} {P Q : List Edge → List Edge → Type 0} {x : NodeTimes} → ((p q : List Edge) → P p q ↔ Q p q)
+paths_on : {early late : ℕ → ℤ} {t : ℤ} {P Q : List Edge → List Edge → Type 0} {x : Option NodeTimes} → ((p q : List Edge) → P p q ↔ Q p q)
     → PathTimes early late t P x → PathTimes early late t Q x
 paths_on {early} {late} {t} {P} {Q} e b =
     record {
@@ -88,8 +89,8 @@ paths_on {early} {late} {t} {P} {Q} e b =
           earliest = best_on (λ x. e x.0 x.1) o.earliest;
         }
 
-abbrev HasTimes : NodeTimes → Type 0
-HasTimes (Times a r s e) = Unit {0}
+abbrev HasTimes : Option NodeTimes → Type 0
+HasTimes (Some x) = Unit {0}
 HasTimes None = ⊥
 
 module _ (G H : Graph) (L : List (List ℕ)) (up : Rising G) (S : Stands G L H) where

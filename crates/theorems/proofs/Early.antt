@@ -3,12 +3,12 @@ use Prim.Native.Nat.{ℕ, ◌≤◌}
 use native.Mathlib.Omega.{arith}
 use mathlib.Core.Path.{◌≡◌, refl, subst}
 use mathlib.Core.Bool.{Bool, false, ◌&&◌, ◌||◌}
+use Rattle.std.specs.Prelude.{Err}
+use Rattle.timing.specs.Answers.{Verdict}
 use lib.Dec.{eqb}
 use borrow.Author.Tests.{ne_eqb}
 use lib.ListN.{length}
 use Rattle.timing.specs.declared.Refusal.{Refusal}
-use Rattle.timing.specs.declared.Verdict.{Verdict}
-use Rattle.timing.specs.declared.Verdict.TheVariants.{Refused}
 use Rattle.timing.specs.Lists.{sum}
 use Rattle.timing.specs.Graphs.{Design}
 use Rattle.timing.specs.Marks.{PathList}
@@ -26,7 +26,7 @@ keeps_below k h = rw (ne_eqb k 33 (λ e. omega arith), ne_eqb k 34 (λ e. omega 
 abbrev pub Early : Verdict → Type 0
 Early v = Every (λ x. keeps x.number) v
 
-pub early_refused : (v : Verdict) (x : Refusal) → Early v → v ≡ Refused x → keeps x.number
+pub early_refused : (v : Verdict) (x : Refusal) → Early v → v ≡ Err x → keeps x.number
 early_refused v x a e = subst Early e a
 
 pub early_then : (v w : Verdict) → Early v → Early w → Early (v then w)

@@ -7,14 +7,14 @@ use mathlib.Core.Logic.{inl}
 use mathlib.Core.Bool.{Bool, true, false}
 use mathlib.Core.List.{List, ◌++◌}
 use mathlib.Core.Option.{none, some, some-injective}
+use Rattle.std.specs.Prelude.{Option, Some, None}
+use Rattle.timing.specs.declared.NodeTimes.{NodeTimes}
 use native.Mathlib.Omega.{arith}
 use native.Mathlib.Decide.{dec_lt}
 use lib.Dec.{T}
 use lib.IntN.{ℤ}
 use lib.ListN.{length}
 use lib.Signed.{le_z, le_z_yes}
-use Rattle.timing.specs.declared.NodeTimes.{NodeTimes}
-use Rattle.timing.specs.declared.NodeTimes.TheVariants.{Times, None}
 use Rattle.timing.specs.Graphs.{Design, Edge, Graph, design_graph, node_of, names}
 use Rattle.timing.specs.Marks.{mark}
 use Rattle.timing.specs.TrueGraphs.{Copy, copy_at, true_graph}
@@ -43,14 +43,14 @@ stays true f = tt
 stays false f = f (λ t. t)
 
 -- what cannot fail to hold, holds
-no_worse_stays : (x y : NodeTimes) → ((NoWorse x y → ⊥) → ⊥) → NoWorse x y
+no_worse_stays : (x y : Option NodeTimes) → ((NoWorse x y → ⊥) → ⊥) → NoWorse x y
 no_worse_stays x None f = tt
-no_worse_stays None (Times a' r' s' e') f = f (λ z. z)
-no_worse_stays (Times a r s e) (Times a' r' s' e') f = record {
-  arrival = le_z_yes (stays (le_z a' a) (λ no. f (λ w. no w.arrival.le)));
-  required = le_z_yes (stays (le_z r r') (λ no. f (λ w. no w.required.le)));
-  slack = le_z_yes (stays (le_z s s') (λ no. f (λ w. no w.slack.le)));
-  earliest = le_z_yes (stays (le_z e e') (λ no. f (λ w. no w.earliest.le)));
+no_worse_stays None (Some x) f = f (λ z. z)
+no_worse_stays (Some x) (Some x') f = record {
+  arrival = le_z_yes (stays (le_z x'.arrival x.arrival) (λ no. f (λ w. no w.arrival.le)));
+  required = le_z_yes (stays (le_z x.required x'.required) (λ no. f (λ w. no w.required.le)));
+  slack = le_z_yes (stays (le_z x.slack x'.slack) (λ no. f (λ w. no w.slack.le)));
+  earliest = le_z_yes (stays (le_z x.earliest x'.earliest) (λ no. f (λ w. no w.earliest.le)));
 }
 
 -- the times of fewer paths, and the record of fewer paths
@@ -64,7 +64,7 @@ module _ {early late : ℕ → ℤ} {t : ℤ} {P Q : List Edge → List Edge →
   }
 
   -- where Q has a path the times compare, and where it has none the record is none
-  pub record_fewer : (x y : NodeTimes) → PathTimes early late t P x → PathTimes early late t Q y → NoWorse x y
+  pub record_fewer : (x y : Option NodeTimes) → PathTimes early late t P x → PathTimes early late t Q y → NoWorse x y
   record_fewer x y b c =
       no_worse_stays x y
       (λ no.

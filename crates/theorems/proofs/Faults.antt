@@ -7,13 +7,12 @@ use mathlib.Core.Logic.{⊎_elim}
 use mathlib.Core.Bool.{Bool, true, false, cond}
 use mathlib.Core.List.Memᴰ
 use mathlib.Core.List.{List, [], ◌∷◌, Memᴰ}
+use Rattle.std.specs.Prelude.{Option, Err, Some, None}
+use Rattle.timing.specs.Answers.{Passed}
 use lib.Dec.{T, ltb, eqb→eq}
 use lib.ListN.{length, get_or}
 use borrow.Author.Tests.{ltb-true, ltb-false, eqb-true, eqb-false}
 use Rattle.timing.specs.declared.Refusal.{Refusal}
-use Rattle.timing.specs.declared.Verdict.TheVariants.{Passed, Refused}
-use Rattle.timing.specs.declared.Fault.{Fault}
-use Rattle.timing.specs.declared.Fault.TheVariants.{At, None}
 use Rattle.timing.specs.Lists.{is_nil, each_next}
 use Rattle.timing.specs.Graphs.{Design, edge_start, edge_end}
 use Rattle.timing.specs.Refusals.{refusal_within, unless_fault, first_fault, ◌then◌}
@@ -22,12 +21,12 @@ use Rattle.timing.specs.Faults.{Empty, Unknown, Broken, FirstWith, NoneWith}
 use Rattle.timing.proofs.Verdicts.{refused_passed, then_passed}
 use Rattle.theorems.proofs.Lists.{and_intro, and_left, and_right, holds, get_d_mem}
 
-no_fault : {A : Type 0} (j : ℕ) → At j ≡ None → A
+no_fault : {A : Type 0} (j : ℕ) → Some j ≡ None → A
 no_fault j e = absurd (let z : ◌≡◌ {A = ℕ} 0 1 = cc in omega arith)
 
 -- what a test of one path is to say: where it finds a fault there is one, and else there is none
-pub record Finds (fault : List ℕ → Fault) (Bad : List ℕ → ℕ → Type 0) : Type 0 where
-  pub found : (path : List ℕ) (i : ℕ) → fault path ≡ At i → Bad path i
+pub record Finds (fault : List ℕ → Option ℕ) (Bad : List ℕ → ℕ → Type 0) : Type 0 where
+  pub found : (path : List ℕ) (i : ℕ) → fault path ≡ Some i → Bad path i
   pub clean : (path : List ℕ) → fault path ≡ None → (i : ℕ) → Bad path i → ⊥
 
 -- 22
@@ -38,7 +37,7 @@ has_edge (k ∷ path) e = refl
 pub finds_empty : Finds empty_at Empty
 finds_empty = record { found = found; clean = λ path e i b. no_fault 0 (rw b.0 at e) }
   where
-    found : (path : List ℕ) (i : ℕ) → empty_at path ≡ At i → Empty path i
+    found : (path : List ℕ) (i : ℕ) → empty_at path ≡ Some i → Empty path i
     found [] i e = (refl, cc)
     found (k ∷ path) i e = no_fault i (sym e)
 
@@ -47,7 +46,7 @@ pub all_known : (m i : ℕ) (path : List ℕ) → first_unknown m i path ≡ Non
 all_known m i [] e k h = absurd (Memᴰ.not-nil h)
 all_known m i (l ∷ path) e k h = go (ltb l m) refl e (λ f. all_known m (suc i) path f k)
   where
-    go : (b : Bool) → ltb l m ≡ b → cond b (first_unknown m (suc i) path) (At i) ≡ None → (first_unknown m (suc i) path ≡ None → Memᴰ k path → k < m) → k < m
+    go : (b : Bool) → ltb l m ≡ b → cond b (first_unknown m (suc i) path) (Some i) ≡ None → (first_unknown m (suc i) path ≡ None → Memᴰ k path → k < m) → k < m
     go true q f below = ⊎_elim (λ (same : k ≡ l). rw same (ltb-true l m q)) (below f) (Memᴰ.cases_cons h)
     go false q f below = no_fault i f
 
@@ -60,12 +59,12 @@ module _ (D : Design) where
       before (suc e) l = u.2 e (omega arith)
 
   -- the first edge has index i
-  unknown_from : (i j : ℕ) (path : List ℕ) → first_unknown (length D.starts) i path ≡ At j → (d : ℕ) × (j ≡ i + d) × Unknown D path d
+  unknown_from : (i j : ℕ) (path : List ℕ) → first_unknown (length D.starts) i path ≡ Some j → (d : ℕ) × (j ≡ i + d) × Unknown D path d
   unknown_from i j [] e = no_fault j (sym e)
   unknown_from i j (k ∷ path) e = go (ltb k (length D.starts)) refl e (λ f. unknown_from (suc i) j path f)
     where
-      go : (b : Bool) → ltb k (length D.starts) ≡ b → cond b (first_unknown (length D.starts) (suc i) path) (At i) ≡ At j
-          → (first_unknown (length D.starts) (suc i) path ≡ At j → (d : ℕ) × (j ≡ suc i + d) × Unknown D path d) → (d : ℕ) × (j ≡ i + d) × Unknown D (k ∷ path) d
+      go : (b : Bool) → ltb k (length D.starts) ≡ b → cond b (first_unknown (length D.starts) (suc i) path) (Some i) ≡ Some j
+          → (first_unknown (length D.starts) (suc i) path ≡ Some j → (d : ℕ) × (j ≡ suc i + d) × Unknown D path d) → (d : ℕ) × (j ≡ i + d) × Unknown D (k ∷ path) d
       go true q f below = let r = below f in (suc r.0, omega (arith, r.1), unknown_behind k path r.0 (ltb-true k (length D.starts) q) r.2)
       go false q f below =
           let same : i ≡ j = cc in
@@ -88,7 +87,7 @@ all_join meet i [] e = tt
 all_join meet i (j ∷ []) e = tt
 all_join meet i (j ∷ k ∷ path) e = go (meet j k) refl e (λ f. all_join meet (suc i) (k ∷ path) f)
   where
-    go : (b : Bool) → meet j k ≡ b → cond b (first_break meet (suc i) (k ∷ path)) (At (suc i)) ≡ None
+    go : (b : Bool) → meet j k ≡ b → cond b (first_break meet (suc i) (k ∷ path)) (Some (suc i)) ≡ None
         → (first_break meet (suc i) (k ∷ path) ≡ None → T (each_next meet (k ∷ path))) → T (each_next meet (j ∷ k ∷ path))
     go true q f below = and_intro (meet j k) (each_next meet (k ∷ path)) (holds (meet j k) q) (below f)
     go false q f below = no_fault (suc i) f
@@ -101,13 +100,13 @@ module _ (D : Design) where
       before zero l = h
       before (suc e) l = u.2 e (omega arith)
 
-  break_from : (i j : ℕ) (path : List ℕ) → first_break (meets D) i path ≡ At j → (d : ℕ) × (j ≡ i + suc d) × Broken D path (suc d)
+  break_from : (i j : ℕ) (path : List ℕ) → first_break (meets D) i path ≡ Some j → (d : ℕ) × (j ≡ i + suc d) × Broken D path (suc d)
   break_from i j [] e = no_fault j (sym e)
   break_from i j (k ∷ []) e = no_fault j (sym e)
   break_from i j (k ∷ l ∷ path) e = go (meets D k l) refl e (λ f. break_from (suc i) j (l ∷ path) f)
     where
-      go : (b : Bool) → meets D k l ≡ b → cond b (first_break (meets D) (suc i) (l ∷ path)) (At (suc i)) ≡ At j
-          → (first_break (meets D) (suc i) (l ∷ path) ≡ At j → (d : ℕ) × (j ≡ suc i + suc d) × Broken D (l ∷ path) (suc d))
+      go : (b : Bool) → meets D k l ≡ b → cond b (first_break (meets D) (suc i) (l ∷ path)) (Some (suc i)) ≡ Some j
+          → (first_break (meets D) (suc i) (l ∷ path) ≡ Some j → (d : ℕ) × (j ≡ suc i + suc d) × Broken D (l ∷ path) (suc d))
           → (d : ℕ) × (j ≡ i + suc d) × Broken D (k ∷ l ∷ path) (suc d)
       go true q f below =
           let r = below f in
@@ -137,10 +136,10 @@ module _ (D : Design) where
       clean path e (suc d) b = b.1 (joined_at path (all_join (meets D) 0 path e) d b.0)
 
 -- of all paths
-module _ (number : ℕ) (fault : List ℕ → Fault) where
-  fault_passed : (k : ℕ) (f : Fault) → unless_fault number k f ≡ Passed → f ≡ None
+module _ (number : ℕ) (fault : List ℕ → Option ℕ) where
+  fault_passed : (k : ℕ) (f : Option ℕ) → unless_fault number k f ≡ Passed → f ≡ None
   fault_passed k None e = refl
-  fault_passed k (At i) e = absurd (refused_passed (refusal_within number k i) e)
+  fault_passed k (Some i) e = absurd (refused_passed (refusal_within number k i) e)
 
   pub first_fault_passed : (k : ℕ) (paths : List (List ℕ)) → first_fault number fault k paths ≡ Passed
       → (path : List ℕ) → Memᴰ path paths → fault path ≡ None
@@ -158,22 +157,22 @@ module _ (number : ℕ) (fault : List ℕ → Fault) where
         before (suc p) l = u.2 p (omega arith)
 
     -- the first path has number k
-    first_from : (k : ℕ) (paths : List (List ℕ)) (r : Refusal) → first_fault number fault k paths ≡ Refused r → (d : ℕ) × (r.place ≡ k + d) × FirstWith Bad paths d r.index
+    first_from : (k : ℕ) (paths : List (List ℕ)) (r : Refusal) → first_fault number fault k paths ≡ Err r → (d : ℕ) × (r.place ≡ k + d) × FirstWith Bad paths d r.index
     first_from k [] r e = absurd (refused_passed r (sym e))
     first_from k (path ∷ paths) r e = go (fault path) refl e (λ f. first_from (suc k) paths r f)
       where
-        go : (f : Fault) → fault path ≡ f → (unless_fault number k f then first_fault number fault (suc k) paths) ≡ Refused r
-            → (first_fault number fault (suc k) paths ≡ Refused r → (d : ℕ) × (r.place ≡ suc k + d) × FirstWith Bad paths d r.index)
+        go : (f : Option ℕ) → fault path ≡ f → (unless_fault number k f then first_fault number fault (suc k) paths) ≡ Err r
+            → (first_fault number fault (suc k) paths ≡ Err r → (d : ℕ) × (r.place ≡ suc k + d) × FirstWith Bad paths d r.index)
             → (d : ℕ) × (r.place ≡ k + d) × FirstWith Bad (path ∷ paths) d r.index
         go None q h below = let s = below h in (suc s.0, omega (arith, s.1), first_behind path paths s.0 r.index q s.2)
-        go (At i) q h below =
+        go (Some i) q h below =
             let same : r ≡ refusal_within number k i = cc in
             let place : r.place ≡ k = ap (λ (x : Refusal). x.place) same in
             let index : r.index ≡ i = ap (λ (x : Refusal). x.index) same in
             (0, omega arith, (omega arith, rw index (finds.found path i q), λ p l. absurd (omega arith)))
 
     -- the places of the refusal are the first path with a fault and the fault's index
-    pub first_fault_at : (paths : List (List ℕ)) (r : Refusal) → first_fault number fault 0 paths ≡ Refused r → FirstWith Bad paths r.place r.index
+    pub first_fault_at : (paths : List (List ℕ)) (r : Refusal) → first_fault number fault 0 paths ≡ Err r → FirstWith Bad paths r.place r.index
     first_fault_at paths r e =
         let s = first_from 0 paths r e in
         let same : r.place ≡ s.0 = omega (arith, s.1) in

@@ -6,11 +6,11 @@ use mathlib.Core.Logic.{◌⊎◌, inl, inr, ⊎_elim, ◌↔◌}
 use mathlib.Core.Bool.{Bool, true, false, not, ◌&&◌, ◌||◌}
 use mathlib.Core.List.Memᴰ
 use mathlib.Core.List.{List, [], ◌∷◌, map, Memᴰ}
+use Rattle.timing.specs.Answers.{Passed}
 use native.Mathlib.Omega.{arith}
 use native.Mathlib.Decide.{dec_lt, ℕ_discrete}
 use lib.Dec.{T, eqb, ltb, leb, eqb→eq, eqb_refl, leb→le, ltb→lt, lt→ltb}
 use lib.ListN.{length, get_or}
-use Rattle.timing.specs.declared.Verdict.TheVariants.{Passed}
 use Rattle.timing.specs.Lists.{is_nil, one_if, count_of, each_next, upto}
 use Rattle.timing.specs.Graphs.{Design, edge_start, edge_end, Edge, edge, Graph, edges_of, is_sink, is_endpoint, design_graph, node_of, endpoint_of, edges_out, starts_at, ends_at}
 use Rattle.timing.specs.WellFormed.{edge_rises, is_source, ends_only_at_endpoints, sink_ends, entered_or_source, left_or_endpoint, well_formed}

@@ -5,12 +5,13 @@ use mathlib.Core.Path.{◌≡◌, refl, ap, ap₂, ◌∙◌}
 use mathlib.Core.Logic.{◌⊎◌, ⊎_elim, ◌↔◌}
 use mathlib.Core.Bool.{Bool, true, false, cond, ◌&&◌, not}
 use mathlib.Core.List.{List, [], ◌∷◌, map, Memᴰ}
+use Rattle.std.specs.Prelude.{Option, Some, None}
+use Rattle.timing.specs.Answers.{Times}
+use Rattle.timing.specs.declared.NodeTimes.{NodeTimes}
 use native.Mathlib.Omega.{arith}
 use lib.Dec.{T, eqb, eqb→eq, eqb_refl, ltb, lt→ltb, ltb→lt}
 use lib.IntN.{ℤ, pos, ◌-ℤ◌}
 use lib.ListN.{length, get_or}
-use Rattle.timing.specs.declared.NodeTimes.{NodeTimes}
-use Rattle.timing.specs.declared.NodeTimes.TheVariants.{Times, None}
 use Rattle.timing.specs.Lists.{is_nil, keep, upto}
 use Rattle.timing.specs.Graphs.{Edge, Graph, node_of, delay_along}
 use Rattle.timing.specs.Times.{largest, smallest, arrival_at, required_at, slack_at, earliest_at, node_times}
@@ -74,11 +75,11 @@ not_taken true x y p = absurd (p tt)
 not_taken false x y p = refl
 
 -- a copy's times
-abbrev pub copy_times_at : (ℕ → ℤ) → (ℕ → ℤ) → ℤ → Graph → ℕ → NodeTimes
+abbrev pub copy_times_at : (ℕ → ℤ) → (ℕ → ℤ) → ℤ → Graph → ℕ → Option NodeTimes
 copy_times_at early late t G c = Times (arrival_at late t G c) (required_at late t G c) (slack_at late t G c) (earliest_at early G c)
 
 -- a node's times, from the slices that hold a time of each copy
-abbrev pub node_times_at : (ℕ → ℤ) → (ℕ → ℤ) → ℤ → Graph → ℕ → ℕ → NodeTimes
+abbrev pub node_times_at : (ℕ → ℤ) → (ℕ → ℤ) → ℤ → Graph → ℕ → ℕ → Option NodeTimes
 node_times_at early late t G n v =
     let copies : List ℕ = upto (length G.nodes) 0 in
     node_times n G.nodes (map (arrival_at late t G) copies) (map (required_at late t G) copies) (map (slack_at late t G) copies)

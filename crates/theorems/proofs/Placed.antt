@@ -6,12 +6,11 @@ use mathlib.Core.Path.{◌≡◌, refl, sym, ◌∙◌, ap}
 use mathlib.Core.Bool.{Bool, ◌&&◌}
 use mathlib.Core.List.{List}
 use mathlib.Core.Option.{Option, none, some}
+use Rattle.std.specs.Prelude.{Option, Err}
+use Rattle.timing.specs.Answers.{Verdict, Passed}
 use lib.Dec.{eqb, leb}
 use lib.ListN.{length}
 use Rattle.timing.specs.declared.Refusal.{Refusal}
-use Rattle.timing.specs.declared.Verdict.{Verdict}
-use Rattle.timing.specs.declared.Verdict.TheVariants.{Passed, Refused}
-use Rattle.timing.specs.declared.Fault.{Fault}
 use Rattle.timing.specs.Lists.{sum}
 use Rattle.timing.specs.Graphs.{Design, Graph, design_graph}
 use Rattle.timing.specs.Marks.{PathList, paths_of}
@@ -37,24 +36,24 @@ module _ (n : ℕ) where
   other_unless : (k : ℕ) → (k ≡ n → ⊥) → (fit : Bool) → Other n (unless k fit)
   other_unless k h fit = every_unless (λ x. x.number ≡ n → ⊥) k h fit
 
-  other_fault : (k : ℕ) → (k ≡ n → ⊥) → (fault : List ℕ → Fault) (i : ℕ) (paths : List (List ℕ)) → Other n (first_fault k fault i paths)
+  other_fault : (k : ℕ) → (k ≡ n → ⊥) → (fault : List ℕ → Option ℕ) (i : ℕ) (paths : List (List ℕ)) → Other n (first_fault k fault i paths)
   other_fault k h fault i paths = every_fault (λ x. x.number ≡ n → ⊥) k fault i paths (λ j d l. h)
 
   -- a refusal with the number n is by none of these: it is by the rest of the chain
   module _ (x : Refusal) (number : x.number ≡ n) where
-    impossible : (v : Verdict) → Other n v → v ≡ Refused x → ⊥
+    impossible : (v : Verdict) → Other n v → v ≡ Err x → ⊥
     impossible Passed o e = refused_passed x (sym e)
-    impossible (Refused y) o e =
+    impossible (Err y) o e =
         let same : y ≡ x = cc in
         o (ap (λ (r : Refusal). r.number) same ∙ number)
 
-    behind : (v w : Verdict) → Other n v → (v then w) ≡ Refused x → (v ≡ Passed) × (w ≡ Refused x)
+    behind : (v w : Verdict) → Other n v → (v then w) ≡ Err x → (v ≡ Passed) × (w ≡ Err x)
     behind Passed w o e = (refl, e)
-    behind (Refused y) w o e = absurd (impossible (Refused y) o e)
+    behind (Err y) w o e = absurd (impossible (Err y) o e)
 
-    before : (v w : Verdict) → Other n w → (v then w) ≡ Refused x → v ≡ Refused x
+    before : (v w : Verdict) → Other n w → (v then w) ≡ Err x → v ≡ Err x
     before Passed w o e = absurd (impossible w o e)
-    before (Refused y) w o e = e
+    before (Err y) w o e = e
 
 -- what a call tests besides 22 to 24
 module _ (n : ℕ) (low : 22 ≤ n) (high : n ≤ 24) where
@@ -96,7 +95,7 @@ module _ (n : ℕ) (low : 22 ≤ n) (high : n ≤ 24) where
   module _ (x : Refusal) (number : x.number ≡ n) where
     -- what comes before the tests of the list, and after them
     from_list : (D : Design) (L : PathList) (o w : Verdict) → Other n o → Other n w
-        → (design_sizes D then (list_sizes L then (o then (design_tests D then (list_tests D L then w))))) ≡ Refused x → list_tests D L ≡ Refused x
+        → (design_sizes D then (list_sizes L then (o then (design_tests D then (list_tests D L then w))))) ≡ Err x → list_tests D L ≡ Err x
     from_list D L o w a b e =
         let sizes = behind n x number (design_sizes D) (list_sizes L then (o then (design_tests D then (list_tests D L then w)))) (other_sizes D) e in
         let sums = behind n x number (list_sizes L) (o then (design_tests D then (list_tests D L then w))) (other_sums L) sizes.1 in
@@ -104,18 +103,18 @@ module _ (n : ℕ) (low : 22 ≤ n) (high : n ≤ 24) where
         let design = behind n x number (design_tests D) (list_tests D L then w) (other_design D) others.1 in
         before n x number (list_tests D L) w b design.1
 
-    outcome_refused : {A : Type 0} (v : Verdict) (y : A) → outcome v y ≡ refused x → v ≡ Refused x
+    outcome_refused : {A : Type 0} (v : Verdict) (y : A) → outcome v y ≡ refused x → v ≡ Err x
     outcome_refused Passed y e = absurd (let z : ◌≡◌ {A = ℕ} 0 1 = cc in omega arith)
-    outcome_refused (Refused r) y e = cc
+    outcome_refused (Err r) y e = cc
 
-    design_list : (D : Design) (r : Removal) → remove_from_design D r ≡ refused x → list_tests D r.list ≡ Refused x
+    design_list : (D : Design) (r : Removal) → remove_from_design D r ≡ refused x → list_tests D r.list ≡ Err x
     unfolding remove_from_design
     design_list D r e =
         let G = design_graph D in
         from_list D r.list (room_sizes r.room) (removal_tests D G r) (other_room r.room) (other_removal D G r)
         (outcome_refused (design_sizes D then (list_sizes r.list then (room_sizes r.room then (design_tests D then (list_tests D r.list then removal_tests D G r))))) (true_graph G (paths_of r.list)) e)
 
-    graph_list : (D : Design) (S : GraphSlices) (r : Removal) → remove_from_graph D S r ≡ refused x → list_tests D r.list ≡ Refused x
+    graph_list : (D : Design) (S : GraphSlices) (r : Removal) → remove_from_graph D S r ≡ refused x → list_tests D r.list ≡ Err x
     unfolding remove_from_graph
     graph_list D S r e =
         let G = graph_of S in
@@ -127,11 +126,11 @@ module _ (n : ℕ) (low : 22 ≤ n) (high : n ≤ 24) where
         (ap (λ (v : Verdict). design_sizes D then (list_sizes L then v)) (then_assoc (graph_sizes S) (room_sizes r.room) rest)
         ∙ outcome_refused (design_sizes D then (list_sizes L then (graph_sizes S then (room_sizes r.room then rest)))) (true_graph G (paths_of L)) e)
 
-    deck_list : (D : Design) (L : PathList) (t : ℕ) → test_deck D L t ≡ Refused x → list_tests D L ≡ Refused x
+    deck_list : (D : Design) (L : PathList) (t : ℕ) → test_deck D L t ≡ Err x → list_tests D L ≡ Err x
     unfolding test_deck
     deck_list D L t e = from_list D L Passed (allowed_test t) tt (other_unless n 25 (λ h. omega arith) (leb t 1000000000)) e
 
-    test_list_lem : (D : Design) (L : PathList) → test_list D L ≡ Refused x → list_tests D L ≡ Refused x
+    test_list_lem : (D : Design) (L : PathList) → test_list D L ≡ Err x → list_tests D L ≡ Err x
     unfolding test_list
     test_list_lem D L e =
         let sizes = behind n x number (design_sizes D) (list_sizes L then (design_tests D then list_tests D L)) (other_sizes D) e in
@@ -139,7 +138,7 @@ module _ (n : ℕ) (low : 22 ≤ n) (high : n ≤ 24) where
         (behind n x number (design_tests D) (list_tests D L) (other_design D) sums.1).1
 
 -- the three tests of the list, one by one
-module _ (D : Design) (L : PathList) (x : Refusal) (by-list : (n : ℕ) → 22 ≤ n → n ≤ 24 → x.number ≡ n → list_tests D L ≡ Refused x) where
+module _ (D : Design) (L : PathList) (x : Refusal) (by-list : (n : ℕ) → 22 ≤ n → n ≤ 24 → x.number ≡ n → list_tests D L ≡ Err x) where
   abbrev K : List (List ℕ)
   K = paths_of L
 
@@ -152,7 +151,7 @@ module _ (D : Design) (L : PathList) (x : Refusal) (by-list : (n : ℕ) → 22 �
   abbrev t₂₄ : Verdict
   t₂₄ = first_fault 24 (first_break (meets D) 0) 0 K
 
-  after_counts : (n : ℕ) → 22 ≤ n → n ≤ 24 → x.number ≡ n → (t₂₂ then (t₂₃ then t₂₄)) ≡ Refused x
+  after_counts : (n : ℕ) → 22 ≤ n → n ≤ 24 → x.number ≡ n → (t₂₂ then (t₂₃ then t₂₄)) ≡ Err x
   unfolding list_tests
   after_counts n low high h = (behind n x h (list_counts L) (t₂₂ then (t₂₃ then t₂₄)) (other_counts n low high L) (by-list n low high h)).1
 
@@ -182,8 +181,8 @@ pub removal_placed : (D : Design) (held : Option GraphSlices) (r : Removal) (x :
 removal_placed D none r x e = placed D r.list x (λ n low high h. design_list n low high x h D r e)
 removal_placed D (some S) r x e = placed D r.list x (λ n low high h. graph_list n low high x h D S r e)
 
-pub deck_placed : (D : Design) (L : PathList) (t : ℕ) (x : Refusal) → test_deck D L t ≡ Refused x → Placed D (paths_of L) x
+pub deck_placed : (D : Design) (L : PathList) (t : ℕ) (x : Refusal) → test_deck D L t ≡ Err x → Placed D (paths_of L) x
 deck_placed D L t x e = placed D L x (λ n low high h. deck_list n low high x h D L t e)
 
-pub list_placed : (D : Design) (L : PathList) (x : Refusal) → test_list D L ≡ Refused x → Placed D (paths_of L) x
+pub list_placed : (D : Design) (L : PathList) (x : Refusal) → test_list D L ≡ Err x → Placed D (paths_of L) x
 list_placed D L x e = placed D L x (λ n low high h. test_list_lem n low high x h D L e)

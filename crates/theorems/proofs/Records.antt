@@ -6,17 +6,15 @@ use mathlib.Core.Path.{◌≡◌, sym, ap, ◌∙◌, subst}
 use mathlib.Core.Bool.{◌&&◌}
 use mathlib.Core.List.{List, map, Memᴰ}
 use mathlib.Core.Option.{Option, none, some}
+use Rattle.std.specs.Prelude.{Option, Ok}
+use Rattle.timing.specs.Answers.{Verdict, Passed, Times}
+use Rattle.timing.specs.declared.NodeTimes.{NodeTimes}
 use native.Mathlib.Omega.{arith}
 use lib.Dec.{T, eqb, eqb_refl}
 use lib.IntN.{ℤ, pos}
 use lib.ListN.{length, get_or, take, drop, length-map}
 use lib.Seq.{take-append_seam}
 use lib.Signed.{◌≤ℤ◌}
-use Rattle.timing.specs.declared.Verdict.{Verdict}
-use Rattle.timing.specs.declared.Verdict.TheVariants.{Passed}
-use Rattle.timing.specs.declared.NodeTimes.{NodeTimes}
-use Rattle.timing.specs.declared.NodeTimes.TheVariants.{Times}
-use Rattle.timing.specs.declared.NodeAnswer.TheVariants.{Record}
 use Rattle.timing.specs.Lists.{placed, upto}
 use Rattle.timing.specs.Graphs.{Design, edge_early, edge_late, Edge, Graph, design_graph}
 use Rattle.timing.specs.Marks.{paths_of}
@@ -78,7 +76,7 @@ unfolding test_times
 times_count D S t a r s e p = tests_count D (timing_passed D S t (time_sizes (length S.nodes) a r s e) p).tests
 
 record_passed : (n : ℕ) (nodes : List ℕ) (ats rts sts ets : List ℤ) (v : ℕ) → time_sizes (length nodes) (length ats) (length rts) (length sts) (length ets) ≡ Passed
-    → node_count n ≡ Passed → record_of n nodes ats rts sts ets v ≡ Record (node_record n nodes ats rts sts ets v)
+    → node_count n ≡ Passed → record_of n nodes ats rts sts ets v ≡ Ok (node_record n nodes ats rts sts ets v)
 unfolding record_of
 record_passed n nodes ats rts sts ets v p c = rw (p, c)
 
@@ -216,7 +214,7 @@ module _ (D : Design) (H : Graph) (t : ℕ) (ats rts sts ets : List ℤ)
   each : (f : ℕ → ℤ) → length (map f (upto (length H.nodes) 0)) ≡ length H.nodes
   each f = length-map (upto (length H.nodes) 0) f ∙ length_upto (length H.nodes) 0
 
-  pub record_after_lem : (v : ℕ) → record_after D H t ats rts sts ets v ≡ Record (record { node = v; times = node_times_at (edge_early D) (edge_late D) (pos t) H D.nodes v })
+  pub record_after_lem : (v : ℕ) → record_after D H t ats rts sts ets v ≡ Ok (record { node = v; times = node_times_at (edge_early D) (edge_late D) (pos t) H D.nodes v })
   record_after_lem v =
       (λ i. record_of D.nodes H.nodes (arrivals_filled i) (requireds_filled i) (slacks_filled i) (earliests_filled i) v)
       ∙ record_passed D.nodes H.nodes _ _ _ _ v
@@ -224,7 +222,7 @@ module _ (D : Design) (H : Graph) (t : ℕ) (ats rts sts ets : List ℤ)
       (times_count D (slices_of H) t (length ats) (length rts) (length sts) (length ets) tested)
 
   -- and what `node_records` leaves at the place of node v tells the same record
-  pub records_after_lem : {A : Type 0} (z : A) (f : NodeTimes → A) (room : List A) (v : ℕ) → v < D.nodes
+  pub records_after_lem : {A : Type 0} (z : A) (f : Option NodeTimes → A) (room : List A) (v : ℕ) → v < D.nodes
       → get_or
       (records_after f D.nodes H.nodes
       (arrivals_after D (slices_of H) t (test_times D (slices_of H) t (length ats) (length rts) (length sts) (length ets)) ats)

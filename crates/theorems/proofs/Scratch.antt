@@ -4,12 +4,12 @@ use Prim.Native.Nat.{ℕ, ◌≤◌}
 use mathlib.Core.Path.{◌≡◌, refl, sym, ◌∙◌, ap}
 use mathlib.Core.Bool.{Bool, true, false}
 use mathlib.Core.Option.{Option, none, some}
+use Rattle.std.specs.Prelude.{Err}
+use Rattle.timing.specs.Answers.{Verdict, Passed}
 use lib.Dec.{leb}
 use lib.ListN.{length}
 use borrow.Author.Tests.{le-leb}
 use Rattle.timing.specs.declared.Refusal.{Refusal}
-use Rattle.timing.specs.declared.Verdict.{Verdict}
-use Rattle.timing.specs.declared.Verdict.TheVariants.{Passed, Refused}
 use Rattle.timing.specs.Graphs.{Design, Graph, design_graph}
 use Rattle.timing.specs.Marks.{PathList, path_list, paths_of}
 use Rattle.timing.specs.TrueGraphs.{true_graph}
@@ -23,11 +23,11 @@ short = refusal 31 0
 
 -- w is what v is, where that is not 31
 abbrev Agree : Verdict → Verdict → Type 0
-Agree v w = (v ≡ Refused short → ⊥) → v ≡ w
+Agree v w = (v ≡ Err short → ⊥) → v ≡ w
 
 agree_then : (u v w : Verdict) → Agree v w → Agree (u then v) (u then w)
 agree_then Passed v w h = h
-agree_then (Refused r) v w h = λ p. refl
+agree_then (Err r) v w h = λ p. refl
 
 agree_fit : (a b : Bool) (w : Verdict) → b ≡ true → Agree (unless 31 a then w) (unless 31 b then w)
 agree_fit true true w e p = refl

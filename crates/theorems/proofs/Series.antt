@@ -5,11 +5,11 @@ use mathlib.Core.Path.{◌≡◌, refl, sym, ap, ◌∙◌, subst, subst₂}
 use mathlib.Core.Bool.{Bool, true, false, ◌&&◌}
 use mathlib.Core.List.{List, [], ◌∷◌, ◌++◌, map, flat_map, append_assoc, append-nil}
 use mathlib.Core.Option.{Option, none, some}
+use Rattle.std.specs.Prelude.{Err}
+use Rattle.timing.specs.Answers.{Verdict, Passed}
 use native.Mathlib.Omega.{arith}
 use lib.Dec.{T, eqb, leb, eqb_refl, leb→le, le→leb}
 use lib.ListN.{length, drop, length-map}
-use Rattle.timing.specs.declared.Verdict.{Verdict}
-use Rattle.timing.specs.declared.Verdict.TheVariants.{Passed, Refused}
 use Rattle.timing.specs.Lists.{count_of, sum}
 use Rattle.timing.specs.Graphs.{Design, edge_start, Edge, Graph, graph, edges_of, design_graph}
 use Rattle.timing.specs.Marks.{PathList, paths_of}
@@ -88,7 +88,7 @@ outcome_made {A} Passed x y e = (refl, ap of e)
     of : Outcome A → A
     of (made z) = z
     of (refused r) = x
-outcome_made {A} (Refused r) x y e = absurd (subst IsRefused e tt)
+outcome_made {A} (Err r) x y e = absurd (subst IsRefused e tt)
   where
     IsRefused : Outcome A → Type 0
     IsRefused (made z) = ⊥
@@ -96,7 +96,7 @@ outcome_made {A} (Refused r) x y e = absurd (subst IsRefused e tt)
 
 verdict_outcome : (v : Verdict) (G : Graph) → verdict_of (outcome v G) ≡ v
 verdict_outcome Passed G = refl
-verdict_outcome (Refused x) G = refl
+verdict_outcome (Err x) G = refl
 
 -- room that is enough keeps the result within the limits
 few_rooms : (R : Room) (G : Graph) → room_tests R G ≡ Passed → T (few_enough G)
@@ -252,7 +252,7 @@ step D none none r h =
     go : (v : Verdict) → design_verdict D r ≡ v
         → Related D (whole_next none r (verdict_of (outcome v (true_graph (design_graph D) (paths_of r.list))))) (held_next none (outcome v (true_graph (design_graph D) (paths_of r.list))))
     go Passed e = first_held D r e
-    go (Refused x) e = tt
+    go (Err x) e = tt
 step D none (some H) r h = absurd h
 step D (some L) none r h = absurd h
 step D (some L) (some H) r h = (same, subst₂ (λ (v : Verdict) (o : Outcome Graph). Related D (whole_next (some L) r v) (held_next (some H) o)) alone (sym (from_graph D H r)) (go (graph_verdict D (slices_of H) r) refl))
@@ -270,7 +270,7 @@ step D (some L) (some H) r h = (same, subst₂ (λ (v : Verdict) (o : Outcome Gr
 
     go : (v : Verdict) → graph_verdict D (slices_of H) r ≡ v → Related D (whole_next (some L) r v) (held_next (some H) (outcome v (true_graph H (paths_of r.list))))
     go Passed e = next_held D L H r h e
-    go (Refused x) e = h
+    go (Err x) e = h
 
 series : (D : Design) (rs : List Removal) (whole : Option (List (List ℕ))) (held : Option Graph) → Related D whole held
     → (verdicts D held rs ≡ verdicts_alone D whole rs) × Related D (whole_after D whole rs) (held_after D held rs)
@@ -312,7 +312,7 @@ whole_passed D (r ∷ rs) L a = go (verdict_alone D (some L) r) a (λ b. whole_p
         → (AllPassed (verdicts_alone D (some (L ++ paths_of r.list)) rs) → whole_after D (some (L ++ paths_of r.list)) rs ≡ some ((L ++ paths_of r.list) ++ flat_map (λ r. paths_of r.list) rs))
         → whole_after D (whole_next (some L) r v) rs ≡ some (L ++ flat_map (λ r. paths_of r.list) (r ∷ rs))
     go Passed b below = below b ∙ ap some (append_assoc L (paths_of r.list) (flat_map (λ r. paths_of r.list) rs))
-    go (Refused x) b below = absurd b
+    go (Err x) b below = absurd b
 
 pub cut_list : (D : Design) (r : Removal) (rs : List Removal) → AllPassed (verdicts D none (r ∷ rs)) → HeldIs D (some (lists_of (r ∷ rs))) (held_after D none (r ∷ rs))
 unfolding lists_of flat_map
@@ -323,4 +323,4 @@ cut_list D r rs a =
   where
     go : (v : Verdict) → AllPassed (v ∷ verdicts_alone D (whole_next none r v) rs) → whole_after D (whole_next none r v) rs ≡ some (flat_map (λ r. paths_of r.list) (r ∷ rs))
     go Passed b = whole_passed D rs (paths_of r.list) b
-    go (Refused x) b = absurd b
+    go (Err x) b = absurd b

@@ -6,12 +6,12 @@ use mathlib.Core.Path.{◌≡◌, refl, ap, sym, ◌∙◌}
 use mathlib.Core.Logic.{inl, inr}
 use mathlib.Core.List.{List, [], ◌∷◌, map, flat_map, Memᴰ}
 use mathlib.Core.Option.{Option}
+use Rattle.std.specs.Prelude.{Result, Ok, Err}
+use Rattle.timing.specs.Answers.{Passed, Counts}
+use Rattle.timing.specs.declared.GraphCounts.{GraphCounts}
+use Rattle.timing.specs.declared.Refusal.{Refusal}
 use lib.Dec.{T, T_not, not_T}
 use lib.ListN.{length}
-use Rattle.timing.specs.declared.Verdict.TheVariants.{Passed}
-use Rattle.timing.specs.declared.GraphMade.{GraphMade}
-use Rattle.timing.specs.declared.GraphMade.TheVariants.{Counts}
-use Rattle.timing.specs.declared.GraphMade.TheVariants.{Refused as NoGraph}
 use Rattle.timing.specs.Lists.{any_of, keep, one_if}
 use Rattle.timing.specs.Graphs.{Design, Edge, Graph, graph, node_of, Run, complete_runs, names}
 use Rattle.timing.specs.Marks.{paths_of, occurs, permitted, tails_of, tails, mark}
@@ -105,9 +105,9 @@ pub true_graph_same : (G : Graph) (K L : List (List ℕ)) → SamePaths K L → 
 true_graph_same G K L same = true_graph_by K L (permitted_same K L same) (mark_same K L same) G
 
 -- ---- two calls on one design and one graph
-not_refused : (x : GraphMade) → verdict_in x ≡ Passed → (k : ℕ) × (e : ℕ) × (x ≡ Counts k e)
-not_refused (Counts k e) p = (k, e, refl)
-not_refused (NoGraph r) p = absurd (refused_passed r p)
+not_refused : (x : Result GraphCounts Refusal) → verdict_in x ≡ Passed → (k : ℕ) × (e : ℕ) × (x ≡ Counts k e)
+not_refused (Ok g) p = (g.copies, g.edges, refl)
+not_refused (Err r) p = absurd (refused_passed r p)
 
 pub same_graph : (D : Design) (held : Option GraphSlices) (a b : Called)
     → Meets (remove_on D held (removal_of a)) a → Meets (remove_on D held (removal_of b)) b → SameGraph a b

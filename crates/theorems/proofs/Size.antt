@@ -6,11 +6,11 @@ use mathlib.Core.Logic.{inl, inr, ⊎_elim}
 use mathlib.Core.Bool.{Bool, true, false}
 use mathlib.Core.List.Memᴰ
 use mathlib.Core.List.{List, [], ◌∷◌, ◌++◌, map, flat_map, Memᴰ, cons≢nil}
+use Rattle.timing.specs.Answers.{Passed}
 use native.Mathlib.Omega.{arith}
 use lib.Dec.{T, eqb, eqb_refl}
 use lib.ListN.{length, get_or, take, drop, length-append, length-map, length-take, length-drop}
 use borrow.Author.Tests.{eqb-true, eqb-false}
-use Rattle.timing.specs.declared.Verdict.TheVariants.{Passed}
 use Rattle.timing.specs.Lists.{one_if, is_nil, keep, count_of, upto, sum}
 use Rattle.timing.specs.Graphs.{Design, edge_start, Edge, Graph, design_graph, node_of, Run, complete_runs, names}
 use Rattle.timing.specs.Marks.{PathList, cut, paths_of, permitted, suffixes, tails_of, tails, mark}

@@ -4,12 +4,11 @@ use Prim.Native.Nat.{ℕ, suc, ◌≤◌, ◌<◌}
 use mathlib.Core.Path.{◌≡◌, refl}
 use mathlib.Core.Bool.{Bool, true, false, ◌&&◌}
 use mathlib.Core.List.{List, [], Memᴰ}
+use Rattle.timing.specs.Answers.{Verdict, Passed}
 use native.Mathlib.Omega.{arith}
 use lib.Dec.{T, eqb, ltb, leb, eqb→eq, eqb_refl, leb→le, le→leb, ltb→lt, lt→ltb}
 use lib.IntN.{ℤ, nat_abs}
 use lib.ListN.{length, get_or}
-use Rattle.timing.specs.declared.Verdict.{Verdict}
-use Rattle.timing.specs.declared.Verdict.TheVariants.{Passed}
 use Rattle.timing.specs.Lists.{is_nil, all_of, each_next, upto, sum}
 use Rattle.timing.specs.Graphs.{Design, design, edge_start, edge_end, edge_early, edge_late, Edge, Graph, design_graph, node_of}
 use Rattle.timing.specs.Marks.{PathList, paths_of}

@@ -4,11 +4,11 @@ use native.Mathlib.Omega.{arith}
 use mathlib.Core.Path.{◌≡◌, refl, subst}
 use mathlib.Core.Bool.{Bool, true, false, not, cond}
 use mathlib.Core.List.{List}
+use Rattle.std.specs.Prelude.{Err}
+use Rattle.timing.specs.Answers.{Verdict, Passed}
 use lib.Dec.{ltb, leb, ltb→lt, leb→le, nleb→lt}
 use lib.ListN.{length, get_or}
 use Rattle.timing.specs.declared.Refusal.{Refusal}
-use Rattle.timing.specs.declared.Verdict.{Verdict}
-use Rattle.timing.specs.declared.Verdict.TheVariants.{Passed, Refused}
 use Rattle.timing.specs.Lists.{upto}
 use Rattle.timing.specs.Graphs.{Design}
 use Rattle.timing.specs.Marks.{PathList, paths_of}
@@ -48,7 +48,7 @@ module _ (P : Refusal → Type 0) where
     where
       go : (w : Bool) → wrong_marked D i ≡ w
           → (suc i ≤ D.nodes → ((j : ℕ) → suc i ≡ suc j → j ≤ get_or D.marked j 0) → Every P (first_bad 16 (wrong_marked D) (suc i) (upto k (suc i))))
-          → Every P (cond w (Refused (refusal 16 i)) (first_bad 16 (wrong_marked D) (suc i) (upto k (suc i))))
+          → Every P (cond w (Err (refusal 16 i)) (first_bad 16 (wrong_marked D) (suc i) (upto k (suc i))))
       go true e below = h i a
       go false e below =
           let r = marked_right D i e in

@@ -7,15 +7,14 @@ use mathlib.Core.Path.{◌≡◌, refl, sym, ap, ◌∙◌, subst}
 use mathlib.Core.Bool.{Bool, true, false, not, cond, ◌&&◌, ◌||◌}
 use mathlib.Core.List.{List, map}
 use mathlib.Core.Option.{Option, none, some}
+use Rattle.std.specs.Prelude.{Result, Err}
+use Rattle.timing.specs.Answers.{Verdict, Passed, Counts}
+use Rattle.timing.specs.declared.GraphCounts.{GraphCounts}
+use Rattle.timing.specs.declared.Refusal.{Refusal}
 use lib.Dec.{eqb, ltb, leb}
 use lib.ListN.{length, drop, length-map}
 use lib.Seq.{drop-append_seam}
 use borrow.Author.Tests.{le-leb, lt-leb, lt-ltb, le-ltb}
-use Rattle.timing.specs.declared.Verdict.{Verdict}
-use Rattle.timing.specs.declared.Verdict.TheVariants.{Passed, Refused}
-use Rattle.timing.specs.declared.GraphMade.{GraphMade}
-use Rattle.timing.specs.declared.GraphMade.TheVariants.{Counts}
-use Rattle.timing.specs.declared.GraphMade.TheVariants.{Refused as NoGraph}
 use Rattle.timing.specs.Lists.{placed}
 use Rattle.timing.specs.Graphs.{Design, Edge, Graph, design_graph}
 use Rattle.timing.specs.Marks.{PathList, path_list, paths_of}
@@ -46,20 +45,20 @@ not_34 k e = (neither_true (eqb k 33) (eqb k 34) (neither_true (eqb k 33 || eqb 
 
 -- the result H, in a room
 module _ (R : Room) (H : Graph) where
-  abbrev answer : Verdict → GraphMade
+  abbrev answer : Verdict → Result GraphCounts Refusal
   answer v = graph_answer (outcome v H)
 
-  abbrev told : GraphMade → GraphMade
+  abbrev told : Result GraphCounts Refusal → Result GraphCounts Refusal
   told a = foretold R (length H.nodes) a
 
   -- telling is v and filling w
   abbrev Fore : Verdict → Verdict → Type 0
-  Fore v w = (v ≡ Refused (refusal 31 0) → ⊥) → (w ≡ Refused (refusal 30 0) → ⊥) → (w ≡ Refused (refusal 31 0) → ⊥) → answer w ≡ told (answer v)
+  Fore v w = (v ≡ Err (refusal 31 0) → ⊥) → (w ≡ Err (refusal 30 0) → ⊥) → (w ≡ Err (refusal 31 0) → ⊥) → answer w ≡ told (answer v)
 
   -- a test that both make, and whose refusals are none for room
   fore_then : (u v w : Verdict) → Early u → Fore v w → Fore (u then v) (u then w)
   fore_then Passed v w a f = f
-  fore_then (Refused r) v w a f = λ p q s. ap (λ (b : Bool). cond (b && ltb R.nodes (length H.nodes)) (NoGraph (refusal 33 0)) (NoGraph r)) (sym (not_34 r.number a))
+  fore_then (Err r) v w a f = λ p q s. ap (λ (b : Bool). cond (b && ltb R.nodes (length H.nodes)) (Err (refusal 33 0)) (Err r)) (sym (not_34 r.number a))
 
   -- 30 of the room, which telling does not test
   fore_room : (a b : Bool) (v w : Verdict) → Fore v w → Fore v ((unless 30 a then unless 30 b) then w)
@@ -74,13 +73,13 @@ module _ (R : Room) (H : Graph) where
   fore_words false b v w f = λ p q s. absurd (p refl)
 
   -- 33 and 34: x where the room of copies is too short, y where that of edges is
-  abbrev short : Bool → Bool → GraphMade → GraphMade
-  short x y (Counts c e) = cond x (NoGraph (refusal 33 0)) (cond y (NoGraph (refusal 34 0)) (Counts c e))
-  short x y (NoGraph r) = cond (eqb r.number 34 && x) (NoGraph (refusal 33 0)) (NoGraph r)
+  abbrev short : Bool → Bool → Result GraphCounts Refusal → Result GraphCounts Refusal
+  short x y (Counts c e) = cond x (Err (refusal 33 0)) (cond y (Err (refusal 34 0)) (Counts c e))
+  short x y (Err r) = cond (eqb r.number 34 && x) (Err (refusal 33 0)) (Err r)
 
   told_short : (v : Verdict) → short (ltb R.nodes (length H.nodes)) (ltb R.starts (length H.edges)) (answer v) ≡ told (answer v)
   told_short Passed = refl
-  told_short (Refused r) = refl
+  told_short (Err r) = refl
 
   by_room : (a b x y : Bool) → answer (unless 33 (a && not x) then unless 34 (b && not y)) ≡ short x y (answer (unless 33 a then unless 34 b))
   by_room true true true y = refl
@@ -158,9 +157,9 @@ module _ (D : Design) (L : PathList) (R : Room) (m n : ℕ) where
 
   -- over the definitions: what removal answers in a room with n words of scratch, from what was told with m
   pub foretold_on : (held : Option GraphSlices)
-      → (graph_answer (size_on D held L m) ≡ NoGraph (refusal 31 0) → ⊥)
-      → (graph_answer (remove_on D held (removal L R n)) ≡ NoGraph (refusal 30 0) → ⊥)
-      → (graph_answer (remove_on D held (removal L R n)) ≡ NoGraph (refusal 31 0) → ⊥)
+      → (graph_answer (size_on D held L m) ≡ Err (refusal 31 0) → ⊥)
+      → (graph_answer (remove_on D held (removal L R n)) ≡ Err (refusal 30 0) → ⊥)
+      → (graph_answer (remove_on D held (removal L R n)) ≡ Err (refusal 31 0) → ⊥)
       → graph_answer (remove_on D held (removal L R n)) ≡ foretold R (length (true_graph (graph_on D held) (paths_of L)).nodes) (graph_answer (size_on D held L m))
   foretold_on held p q s =
       let H = true_graph (graph_on D held) (paths_of L) in
@@ -177,7 +176,7 @@ behind_placed {A} n xs room e =
 
 counted : (v : Verdict) (H : Graph) (k e : ℕ) → graph_answer (outcome v H) ≡ Counts k e → (outcome v H ≡ made H) × (length H.nodes ≡ k) × (length H.edges ≡ e)
 counted Passed H k e q = (refl, cc, cc)
-counted (Refused r) H k e q = absurd (let z : ◌≡◌ {A = ℕ} 0 1 = cc in omega arith)
+counted (Err r) H k e q = absurd (let z : ◌≡◌ {A = ℕ} 0 1 = cc in omega arith)
 
 fills : (H : Graph) (c : Called) → length H.endpoints ≡ length H.nodes → Meets (made H) c → FillsJust H (length H.nodes) (length H.edges) c.room c.after
 fills H c same m =

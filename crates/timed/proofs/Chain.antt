@@ -2,9 +2,9 @@
 use Prim.Native.Nat.{ℕ}
 use mathlib.Core.Path.{◌≡◌, refl, ap}
 use mathlib.Core.List.{List, []}
+use Rattle.std.specs.Prelude.{Err}
+use Rattle.timing.specs.Answers.{Verdict, Passed}
 use lib.IntN.{ℤ}
-use Rattle.timing.specs.declared.Verdict.{Verdict}
-use Rattle.timing.specs.declared.Verdict.TheVariants.{Passed, Refused}
 use Rattle.timing.specs.Graphs.{design}
 use Rattle.timing.specs.Refusals.{◌then◌}
 use Rattle.timing.specs.Tests.{design_sizes, design_tests, node_count, allowed_test, graph_test}
@@ -13,11 +13,11 @@ use Rattle.theorems.proofs.Tested.{tests_count, no_delays}
 
 chain : (d g a e t c w : Verdict) → (e ≡ Passed → c ≡ Passed)
     → ((((d then (g then a)) then e) then t) then (c then w)) ≡ (d then (g then (a then (e then (t then w)))))
-chain (Refused x) g a e t c w f = refl
-chain Passed (Refused x) a e t c w f = refl
-chain Passed Passed (Refused x) e t c w f = refl
-chain Passed Passed Passed (Refused x) t c w f = refl
-chain Passed Passed Passed Passed (Refused x) c w f = refl
+chain (Err x) g a e t c w f = refl
+chain Passed (Err x) a e t c w f = refl
+chain Passed Passed (Err x) e t c w f = refl
+chain Passed Passed Passed (Err x) t c w f = refl
+chain Passed Passed Passed Passed (Err x) c w f = refl
 chain Passed Passed Passed Passed Passed c w f = ap (λ (v : Verdict). v then w) (f refl)
 
 pub called_tests : (n : ℕ) (starts ends : List ℕ) (early late : List ℤ) (marked : List ℕ) (S : GraphSlices) (t : ℕ) (lent : Verdict)

@@ -5,11 +5,10 @@ use mathlib.Core.Path.{◌≡◌}
 use mathlib.Core.Logic.{⊎_elim}
 use mathlib.Core.Bool.{Bool, ◌&&◌}
 use mathlib.Core.List.{List, [], ◌∷◌}
+use Rattle.timing.specs.Answers.{Verdict, Passed}
 use lib.Dec.{T, eqb, ltb, leb, eqb→eq, ltb→lt, leb→le, le→leb}
 use lib.IntN.{ℤ, nat_abs}
 use lib.ListN.{length}
-use Rattle.timing.specs.declared.Verdict.{Verdict}
-use Rattle.timing.specs.declared.Verdict.TheVariants.{Passed}
 use Rattle.timing.specs.Lists.{each_next}
 use Rattle.timing.specs.Graphs.{Design, Edge}
 use Rattle.timing.specs.WellFormed.{edge_rises, well_formed}

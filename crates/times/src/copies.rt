@@ -106,13 +106,13 @@ pub(crate) fn times_where(
         × (earliests.new ≡ earliests_after D S tested earliests.old) }
 {
     match tested {
-        Verdict::Passed => {
+        Ok(()) => {
             fill_times(
                 early, late, nodes, endpoint, from, to, via, allowed, arrivals, requireds, slacks,
                 earliests,
             );
-            Verdict::Passed
+            Ok(())
         }
-        Verdict::Refused(r) => Verdict::Refused(r),
+        Err(r) => Err(r),
     }
 }

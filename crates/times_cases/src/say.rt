@@ -2,7 +2,7 @@
 use entries::{number_at, time_at};
 use print::{refused, text};
 use std::io::{Result, Write};
-use timing::{Lateness, NodeAnswer, NodeTimes, Refusal, Verdict};
+use timing::{NodeRecord, NodeTimes, Refusal, Verdict};
 
 // Of many copies or nodes the first 64 are printed, and then every 512th.
 fn printed(k: usize) -> bool {
@@ -78,30 +78,30 @@ pub(crate) fn say_found<W: Write>(
     earliests: &[i64],
 ) -> Result<()> {
     match v {
-        Verdict::Passed => say_copies(out, arrivals, requireds, slacks, earliests),
-        Verdict::Refused(r) => say_refused(out, r),
+        Ok(()) => say_copies(out, arrivals, requireds, slacks, earliests),
+        Err(r) => say_refused(out, r),
     }
 }
 
 // The answer of `node_record`.
-pub(crate) fn say_answer<W: Write>(out: &mut W, answer: NodeAnswer) -> Result<()> {
+pub(crate) fn say_answer<W: Write>(out: &mut W, answer: Result<NodeRecord, Refusal>) -> Result<()> {
     match answer {
-        NodeAnswer::Record(record) => {
+        Ok(record) => {
             text(out, b"record ")?;
             print::number(out, record.node as u64)?;
             text(out, b" ")?;
             let times = record.times;
             match times {
-                NodeTimes::Times {
+                Some(NodeTimes {
                     arrival,
                     required,
                     slack,
                     earliest,
-                } => say_times(out, arrival, required, slack, earliest),
-                NodeTimes::None => text(out, b"none\n"),
+                }) => say_times(out, arrival, required, slack, earliest),
+                None => text(out, b"none\n"),
             }
         }
-        NodeAnswer::Refused(r) => say_refused(out, r),
+        Err(r) => say_refused(out, r),
     }
 }
 
@@ -160,21 +160,21 @@ pub(crate) fn say_records<W: Write>(
     ne: &[i64],
 ) -> Result<()> {
     match v {
-        Verdict::Passed => say_nodes(out, known, na, nr, ns, ne),
-        Verdict::Refused(r) => say_refused(out, r),
+        Ok(()) => say_nodes(out, known, na, nr, ns, ne),
+        Err(r) => say_refused(out, r),
     }
 }
 
 // The answer of `late_or_not`.
-pub(crate) fn say_lateness<W: Write>(out: &mut W, answer: Lateness) -> Result<()> {
+pub(crate) fn say_lateness<W: Write>(out: &mut W, answer: Result<Option<usize>, Refusal>) -> Result<()> {
     match answer {
-        Lateness::Late { copy } => {
+        Ok(Some(copy)) => {
             text(out, b"late ")?;
             print::number(out, copy as u64)?;
             text(out, b"\n")
         }
-        Lateness::OnTime => text(out, b"on time\n"),
-        Lateness::Refused(r) => say_refused(out, r),
+        Ok(None) => text(out, b"on time\n"),
+        Err(r) => say_refused(out, r),
     }
 }
 

@@ -4,10 +4,11 @@ use mathlib.Core.Path.{◌≡◌, refl}
 use mathlib.Core.Logic.{⊎_elim}
 use mathlib.Core.List.Memᴰ
 use mathlib.Core.List.{List, [], ◌∷◌}
+use Rattle.std.specs.Prelude.{Option, None}
+use Rattle.timing.specs.Answers.{Times}
+use Rattle.timing.specs.declared.NodeTimes.{NodeTimes}
 use lib.IntN.{ℤ, pos, negsuc}
 use lib.Signed.{le_z_yes}
-use Rattle.timing.specs.declared.NodeTimes.{NodeTimes}
-use Rattle.timing.specs.declared.NodeTimes.TheVariants.{Times, None}
 use Rattle.timing.specs.Extended.{ExtendedTo, SamePaths, NoWorse, times_in}
 
 -- a list with one path more, in front; and not with one less
@@ -25,7 +26,7 @@ pub not_same : (p : List ℕ) → SamePaths [] (p ∷ []) → ⊥
 not_same p f = not_shorter p f.1
 
 -- arrival, required time, slack, earliest arrival: before, and as good or better after
-abbrev before : NodeTimes
+abbrev before : Option NodeTimes
 before = Times (pos 9) (pos 7) (negsuc 1) (pos 4)
 
 pub unchanged : NoWorse before before

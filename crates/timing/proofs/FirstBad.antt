@@ -4,12 +4,13 @@ use native.Mathlib.Omega.{arith}
 use native.Mathlib.Numerals.{add-one}
 use mathlib.Core.Path.{◌≡◌, ap}
 use mathlib.Core.Bool.{Bool, true, false}
-use Rattle.timing.specs.declared.Verdict.TheVariants.{Passed, Refused}
+use Rattle.std.specs.Prelude.{Err}
+use Rattle.timing.specs.Answers.{Passed}
 use Rattle.timing.specs.Lists.{upto}
 use Rattle.timing.specs.Refusals.{refusal, first_bad}
 
 module _ (number : ℕ) (bad : ℕ → Bool) (k m : ℕ) where
-  pub bad_here : k < m → bad k ≡ true → first_bad number bad k (upto (m - k) k) ≡ Refused (refusal number k)
+  pub bad_here : k < m → bad k ≡ true → first_bad number bad k (upto (m - k) k) ≡ Err (refusal number k)
   bad_here h e =
       let d : m - k ≡ suc (m - suc k) = omega arith in
       rw (d, e)

@@ -5,18 +5,14 @@
 use Prim.Native.Nat.{ℕ, suc}
 use mathlib.Core.Path.{◌≡◌, refl}
 use mathlib.Core.List.{List, [], ◌∷◌, map, flat_map}
+use Rattle.std.specs.Prelude.{Option, Result, Err, None}
+use Rattle.timing.specs.Answers.{Verdict, Passed, Counts, Times, Late, OnTime}
+use Rattle.timing.specs.declared.Taken.{Taken}
+use Rattle.timing.specs.declared.GraphCounts.{GraphCounts}
+use Rattle.timing.specs.declared.NodeTimes.{NodeTimes}
+use Rattle.timing.specs.declared.Refusal.{Refusal}
 use lib.IntN.{ℤ, pos, negsuc}
 use lib.ListN.{length, get_or}
-use Rattle.timing.specs.declared.Verdict.{Verdict}
-use Rattle.timing.specs.declared.Verdict.TheVariants.{Passed, Refused}
-use Rattle.timing.specs.declared.NumberRead.{NumberRead}
-use Rattle.timing.specs.declared.NumberRead.TheVariants.{Refused as NotRead}
-use Rattle.timing.specs.declared.NodeTimes.{NodeTimes}
-use Rattle.timing.specs.declared.NodeTimes.TheVariants.{Times, None}
-use Rattle.timing.specs.declared.GraphMade.{GraphMade}
-use Rattle.timing.specs.declared.GraphMade.TheVariants.{Counts, Refused as NotMade}
-use Rattle.timing.specs.declared.Lateness.{Lateness}
-use Rattle.timing.specs.declared.Lateness.TheVariants.{Late, OnTime, Refused as NotTimed}
 use Rattle.timing.specs.Lists.{upto}
 use Rattle.timing.specs.Graphs.{Design, design, edge, Graph, graph, design_graph, edges_in, edges_out}
 use Rattle.timing.specs.Graphs.{runs_to, runs_from, complete_runs}
@@ -41,15 +37,15 @@ removed G (L ∷ Ls) = removed (true_graph G (paths_of L)) Ls
 
 pub data Fact : Type 0 where
   graph_is : Design → List PathList → Graph → Fact
-  times_are : Design → ℕ → List PathList → List NodeTimes → Fact
-  nodes_are : Design → ℕ → List PathList → List NodeTimes → Fact
+  times_are : Design → ℕ → List PathList → List (Option NodeTimes) → Fact
+  nodes_are : Design → ℕ → List PathList → List (Option NodeTimes) → Fact
   removal_is : Design → Removal → Outcome Graph → Fact
   again_is : Design → Graph → Removal → Outcome Graph → Fact
   program_is : List ℕ → Outcome Graph → Fact
   c_call_is : List ℕ → ℕ → ℤ → Fact
   c_room_is : List ℕ → ℕ → List ℕ → Fact
   packed_is : ℕ → List ℕ → Fact
-  read_is : List ℕ → NumberRead → Fact
+  read_is : List ℕ → Result Taken Refusal → Fact
   reader_answers : List ℕ → List ℕ → Verdict → Fact
   times_answer : Design → Graph → ℕ → List ℕ → Verdict → Fact
   records_answer : ℕ → Graph → List ℕ → List ℕ → Verdict → Fact
@@ -57,9 +53,9 @@ pub data Fact : Type 0 where
   deck_writer_answers : Design → PathList → ℕ → Verdict → Fact
   graph_read_is : List ℕ → Room → Outcome Graph → Fact
   graph_writer_answers : GraphSlices → Verdict → Fact
-  size_is : Design → PathList → ℕ → GraphMade → Fact
-  size_again_is : Design → Graph → PathList → ℕ → GraphMade → Fact
-  late_is : Design → Graph → ℕ → ℕ → Lateness → List ℤ → Fact
+  size_is : Design → PathList → ℕ → Result GraphCounts Refusal → Fact
+  size_again_is : Design → Graph → PathList → ℕ → Result GraphCounts Refusal → Fact
+  late_is : Design → Graph → ℕ → ℕ → Result (Option ℕ) Refusal → List ℤ → Fact
 
 abbrev pub zeros : ℕ → List ℕ
 zeros n = map (λ i. 0) (upto n 0)
@@ -78,7 +74,7 @@ of_times D T R f =
     f (arrivals_after D S T Passed []) (requireds_after D S T Passed []) (slacks_after D S T Passed [])
     (earliests_after D S Passed [])
 
-abbrev copy_times : List ℤ → List ℤ → List ℤ → List ℤ → ℕ → NodeTimes
+abbrev copy_times : List ℤ → List ℤ → List ℤ → List ℤ → ℕ → Option NodeTimes
 copy_times arrivals requireds slacks earliests c =
     let at : List ℤ → ℤ = λ ts. get_or ts c (pos 0) in
     Times (at arrivals) (at requireds) (at slacks) (at earliests)
@@ -92,7 +88,7 @@ slice ls k = map (λ i. pos 0) (upto (lent ls k) 0)
 
 abbrev verdict_in : Outcome Deck → Verdict
 verdict_in (made d) = Passed
-verdict_in (refused r) = Refused r
+verdict_in (refused r) = Err r
 
 abbrev pub Holds : Fact → Type 0
 Holds (graph_is D Ls R) = removed (design_graph D) Ls ≡ R
@@ -124,7 +120,7 @@ Holds (size_again_is D G L words a) = graph_answer (size_from_graph D (slices_of
 Holds (late_is D G T n a ts) =
     let S = slices_of G in
     let answer = late_or_not D S T n in
-    ◌≡◌ {A = (x : Lateness) × List ℤ} (answer, arrivals_after_late D S T answer (map (λ i. pos 77) (upto n 0))) (a, ts)
+    ◌≡◌ {A = (x : Result (Option ℕ) Refusal) × List ℤ} (answer, arrivals_after_late D S T answer (map (λ i. pos 77) (upto n 0))) (a, ts)
 
 infixr 4 ◌also◌
 pub data All : List Fact → Type 0 where
@@ -331,10 +327,10 @@ marked =
     -- M10: packed numbers
     ∷ packed_is 127 (127 ∷ [])
     ∷ packed_is 128 (128 ∷ 1 ∷ [])
-    ∷ read_is (128 ∷ 0 ∷ []) (NotRead (refusal 2 0))
+    ∷ read_is (128 ∷ 0 ∷ []) (Err (refusal 2 0))
     ∷ packed_is 4294967295 (255 ∷ 255 ∷ 255 ∷ 255 ∷ 15 ∷ [])
-    ∷ read_is (255 ∷ 255 ∷ 255 ∷ 255 ∷ 16 ∷ []) (NotRead (refusal 2 0))
-    ∷ read_is (128 ∷ []) (NotRead (refusal 1 1))
+    ∷ read_is (255 ∷ 255 ∷ 255 ∷ 255 ∷ 16 ∷ []) (Err (refusal 2 0))
+    ∷ read_is (128 ∷ []) (Err (refusal 1 1))
     -- Inner tails, with parallel edges: shuts out only the longest tail of each path
     ∷ graph_is parallel (path_list (0 ∷ 2 ∷ 4 ∷ []) (3 ∷ []) ∷ [])
     (graph (0 ∷ 1 ∷ 1 ∷ 2 ∷ 2 ∷ 3 ∷ []) (0 ∷ 0 ∷ 0 ∷ 0 ∷ 0 ∷ 1 ∷ []) (edge 0 1 0 ∷ edge 0 1 1 ∷ edge 0 2 1 ∷
@@ -420,15 +416,15 @@ marked =
     ∷ removal_is (design 2 (1 ∷ []) (0 ∷ []) (pos 0 ∷ []) [] []) (removal no_paths ample 96) (refused (refusal 30 0))
     -- 30: slices of the deck reader, of times and of records that have one place less or more, the last of each and another
     ∷ reader_answers bytes_a (4 ∷ 4 ∷ 4 ∷ 4 ∷ 2 ∷ 1 ∷ 0 ∷ []) Passed
-    ∷ reader_answers bytes_a (4 ∷ 4 ∷ 4 ∷ 5 ∷ 2 ∷ 1 ∷ 0 ∷ []) (Refused (refusal 30 0))
-    ∷ reader_answers bytes_a (4 ∷ 4 ∷ 3 ∷ 4 ∷ 2 ∷ 1 ∷ 0 ∷ []) (Refused (refusal 30 0))
+    ∷ reader_answers bytes_a (4 ∷ 4 ∷ 4 ∷ 5 ∷ 2 ∷ 1 ∷ 0 ∷ []) (Err (refusal 30 0))
+    ∷ reader_answers bytes_a (4 ∷ 4 ∷ 3 ∷ 4 ∷ 2 ∷ 1 ∷ 0 ∷ []) (Err (refusal 30 0))
     ∷ times_answer deck_a graph_a 10 (6 ∷ 6 ∷ 6 ∷ 6 ∷ []) Passed
-    ∷ times_answer deck_a graph_a 10 (6 ∷ 6 ∷ 6 ∷ 5 ∷ []) (Refused (refusal 30 0))
-    ∷ times_answer deck_a graph_a 10 (6 ∷ 7 ∷ 6 ∷ 6 ∷ []) (Refused (refusal 30 0))
+    ∷ times_answer deck_a graph_a 10 (6 ∷ 6 ∷ 6 ∷ 5 ∷ []) (Err (refusal 30 0))
+    ∷ times_answer deck_a graph_a 10 (6 ∷ 7 ∷ 6 ∷ 6 ∷ []) (Err (refusal 30 0))
     ∷ records_answer 5 graph_a (6 ∷ 6 ∷ 6 ∷ 6 ∷ []) (5 ∷ 5 ∷ 5 ∷ 5 ∷ 5 ∷ []) Passed
-    ∷ records_answer 5 graph_a (6 ∷ 6 ∷ 6 ∷ 5 ∷ []) (5 ∷ 5 ∷ 5 ∷ 5 ∷ 5 ∷ []) (Refused (refusal 30 0))
-    ∷ records_answer 5 graph_a (6 ∷ 6 ∷ 6 ∷ 6 ∷ []) (5 ∷ 5 ∷ 5 ∷ 5 ∷ 6 ∷ []) (Refused (refusal 30 0))
-    ∷ records_answer 5 graph_a (6 ∷ 6 ∷ 6 ∷ 6 ∷ []) (4 ∷ 5 ∷ 5 ∷ 5 ∷ 5 ∷ []) (Refused (refusal 30 0))
+    ∷ records_answer 5 graph_a (6 ∷ 6 ∷ 6 ∷ 5 ∷ []) (5 ∷ 5 ∷ 5 ∷ 5 ∷ 5 ∷ []) (Err (refusal 30 0))
+    ∷ records_answer 5 graph_a (6 ∷ 6 ∷ 6 ∷ 6 ∷ []) (5 ∷ 5 ∷ 5 ∷ 5 ∷ 6 ∷ []) (Err (refusal 30 0))
+    ∷ records_answer 5 graph_a (6 ∷ 6 ∷ 6 ∷ 6 ∷ []) (4 ∷ 5 ∷ 5 ∷ 5 ∷ 5 ∷ []) (Err (refusal 30 0))
     -- 14: by the early delay alone, and by the late one
     ∷ removal_is (design 2 (0 ∷ []) (1 ∷ []) (negsuc 1000000 ∷ []) (pos 0 ∷ []) []) (removal no_paths ample 96)
     (refused (refusal 14 0))
@@ -505,16 +501,16 @@ marked =
     ∷ removal_is (marking (2 ∷ 2 ∷ [])) (removal (path_list [] (zeros 1025)) ample 999) (refused (refusal 16 1))
     ∷ removal_is (marking (2 ∷ 2 ∷ [])) (removal (path_list (2 ∷ 1 ∷ []) (2 ∷ [])) ample 999) (refused (refusal 16 1))
     -- 16 of the deck's reader: more marked nodes than n, with place n, before 36; 36 at one more than the table has; which nodes is not judged
-    ∷ reader_answers (5 ∷ 0 ∷ 0 ∷ 6 ∷ []) (0 ∷ 0 ∷ 0 ∷ 0 ∷ 0 ∷ 0 ∷ 9 ∷ []) (Refused (refusal 16 5))
-    ∷ reader_answers (5 ∷ 0 ∷ 0 ∷ 6 ∷ []) (0 ∷ 0 ∷ 0 ∷ 0 ∷ 0 ∷ 0 ∷ 2 ∷ []) (Refused (refusal 16 5))
-    ∷ reader_answers (5 ∷ 0 ∷ 0 ∷ 3 ∷ []) (0 ∷ 0 ∷ 0 ∷ 0 ∷ 0 ∷ 0 ∷ 2 ∷ []) (Refused (refusal 36 0))
+    ∷ reader_answers (5 ∷ 0 ∷ 0 ∷ 6 ∷ []) (0 ∷ 0 ∷ 0 ∷ 0 ∷ 0 ∷ 0 ∷ 9 ∷ []) (Err (refusal 16 5))
+    ∷ reader_answers (5 ∷ 0 ∷ 0 ∷ 6 ∷ []) (0 ∷ 0 ∷ 0 ∷ 0 ∷ 0 ∷ 0 ∷ 2 ∷ []) (Err (refusal 16 5))
+    ∷ reader_answers (5 ∷ 0 ∷ 0 ∷ 3 ∷ []) (0 ∷ 0 ∷ 0 ∷ 0 ∷ 0 ∷ 0 ∷ 2 ∷ []) (Err (refusal 36 0))
     ∷ reader_answers (5 ∷ 0 ∷ 0 ∷ 2 ∷ 9 ∷ 9 ∷ 10 ∷ []) (0 ∷ 0 ∷ 0 ∷ 0 ∷ 0 ∷ 0 ∷ 2 ∷ []) Passed
     ∷ program_is (208 ∷ 15 ∷ 0 ∷ 0 ∷ 129 ∷ 8 ∷ []) (refused (refusal 36 0))
     ∷ program_is (208 ∷ 15 ∷ 0 ∷ 0 ∷ 209 ∷ 15 ∷ []) (refused (refusal 16 2000))
     ∷ program_is (5 ∷ 0 ∷ 0 ∷ 2 ∷ 9 ∷ 9 ∷ 10 ∷ []) (refused (refusal 16 0))
     -- 16 of the deck's writer: more marked nodes than n, with place n, after 20; which nodes is not judged; in the deck they stand before T
-    ∷ deck_writer_answers (design 2 [] [] [] [] (0 ∷ 1 ∷ 1 ∷ [])) no_paths 10 (Refused (refusal 16 2))
-    ∷ deck_writer_answers (design 0 [] [] [] [] (0 ∷ [])) (path_list [] (zeros 1025)) 10 (Refused (refusal 20 0))
+    ∷ deck_writer_answers (design 2 [] [] [] [] (0 ∷ 1 ∷ 1 ∷ [])) no_paths 10 (Err (refusal 16 2))
+    ∷ deck_writer_answers (design 0 [] [] [] [] (0 ∷ [])) (path_list [] (zeros 1025)) 10 (Err (refusal 20 0))
     ∷ deck_writer_answers (design 2 [] [] [] [] (9 ∷ 9 ∷ [])) no_paths 10 Passed
     ∷ packed_deck_is observed list_a 10
     (5 ∷ 4 ∷ 0 ∷ 2 ∷ 6 ∷ 6 ∷ 1 ∷ 2 ∷ 10 ∷ 10 ∷ 2 ∷ 3 ∷ 4 ∷ 4 ∷ 2 ∷ 4 ∷ 2 ∷ 2 ∷ 1 ∷ 2 ∷ 1 ∷ 2 ∷ 1 ∷ 2 ∷ 10 ∷ [])
@@ -536,15 +532,15 @@ marked =
     ∷ graph_read_is (1 ∷ 0 ∷ 2 ∷ 0 ∷ []) (room 1 1 0 0 0) (refused (refusal 32 0))
     ∷ graph_read_is (1 ∷ 0 ∷ 2 ∷ 128 ∷ 0 ∷ []) (room 1 1 0 0 0) (refused (refusal 32 0))
     ∷ graph_read_is (2 ∷ 7 ∷ 1 ∷ 9 ∷ 0 ∷ 0 ∷ []) (room 2 2 0 0 0) (made (graph (7 ∷ 9 ∷ []) (1 ∷ 0 ∷ []) []))
-    ∷ graph_writer_answers (graph_slices (7 ∷ 9 ∷ []) (1 ∷ 2 ∷ []) [] [] []) (Refused (refusal 32 0))
+    ∷ graph_writer_answers (graph_slices (7 ∷ 9 ∷ []) (1 ∷ 2 ∷ []) [] [] []) (Err (refusal 32 0))
     ∷ graph_writer_answers (graph_slices (7 ∷ 9 ∷ []) (1 ∷ 1 ∷ []) [] [] []) Passed
-    ∷ graph_writer_answers (graph_slices (7 ∷ 9 ∷ []) (1 ∷ 2 ∷ []) (5 ∷ []) [] []) (Refused (refusal 30 0))
+    ∷ graph_writer_answers (graph_slices (7 ∷ 9 ∷ []) (1 ∷ 2 ∷ []) (5 ∷ []) [] []) (Err (refusal 30 0))
     -- 30: as many endpoint numbers as nodes, in the room, in the earlier graph, in times, in the graph's reader and in its writer
     ∷ removal_is observed (removal list_a (room 6 7 5 5 5) 999) (refused (refusal 30 0))
     ∷ again_is observed (ending (0 ∷ 0 ∷ 1 ∷ 0 ∷ 1 ∷ [])) (removal no_paths ample 999) (refused (refusal 30 0))
-    ∷ times_answer observed (ending (0 ∷ 0 ∷ 1 ∷ 0 ∷ 1 ∷ 1 ∷ 1 ∷ [])) 10 (6 ∷ 6 ∷ 6 ∷ 6 ∷ []) (Refused (refusal 30 0))
+    ∷ times_answer observed (ending (0 ∷ 0 ∷ 1 ∷ 0 ∷ 1 ∷ 1 ∷ 1 ∷ [])) 10 (6 ∷ 6 ∷ 6 ∷ 6 ∷ []) (Err (refusal 30 0))
     ∷ graph_read_is (1 ∷ 0 ∷ 2 ∷ 0 ∷ []) (room 1 2 0 0 0) (refused (refusal 30 0))
-    ∷ graph_writer_answers (graph_slices (7 ∷ 9 ∷ []) (2 ∷ []) [] [] []) (Refused (refusal 30 0))
+    ∷ graph_writer_answers (graph_slices (7 ∷ 9 ∷ []) (2 ∷ []) [] [] []) (Err (refusal 30 0))
     -- Told of deck A; with path 2 alone, which shuts out candidates for copies; of a list that removes everything; of no nodes
     ∷ size_is deck_a list_a 96 (Counts 6 5)
     ∷ size_is deck_a (path_list (2 ∷ []) (1 ∷ [])) 999 (Counts 4 3)
@@ -555,15 +551,15 @@ marked =
     ∷ size_again_is forked split_source (path_list (0 ∷ 1 ∷ []) (2 ∷ [])) 999 (Counts 3 2)
     ∷ size_again_is observed observed_alone no_paths 999 (Counts 3 2)
     -- Telling asks removal's scratch: one word less, of the design and of an earlier graph
-    ∷ size_is deck_a list_a 95 (NotMade (refusal 31 0))
-    ∷ size_again_is deck_a graph_a (path_list (0 ∷ 3 ∷ []) (2 ∷ [])) 119 (NotMade (refusal 31 0))
+    ∷ size_is deck_a list_a 95 (Err (refusal 31 0))
+    ∷ size_again_is deck_a graph_a (path_list (0 ∷ 3 ∷ []) (2 ∷ [])) 119 (Err (refusal 31 0))
     -- Telling is lent no room, but 30 measures the rest: early delays, lengths of paths, endpoint numbers; 13 before 24, 24 before 32, 32 before 31
-    ∷ size_is (design 2 (1 ∷ []) (0 ∷ []) [] (pos 0 ∷ []) []) no_paths 96 (NotMade (refusal 30 0))
-    ∷ size_is deck_a (path_list (1 ∷ 2 ∷ []) (1 ∷ [])) 999 (NotMade (refusal 30 0))
-    ∷ size_again_is observed (ending (0 ∷ 0 ∷ 1 ∷ 0 ∷ 1 ∷ [])) no_paths 999 (NotMade (refusal 30 0))
-    ∷ size_is falling (path_list (0 ∷ 0 ∷ []) (2 ∷ [])) 96 (NotMade (refusal 13 0))
-    ∷ size_again_is forked out_of_order (path_list (1 ∷ 0 ∷ []) (2 ∷ [])) 0 (NotMade (refusal_within 24 0 1))
-    ∷ size_again_is forked out_of_order (path_list (0 ∷ 1 ∷ []) (2 ∷ [])) 0 (NotMade (refusal 32 0))
+    ∷ size_is (design 2 (1 ∷ []) (0 ∷ []) [] (pos 0 ∷ []) []) no_paths 96 (Err (refusal 30 0))
+    ∷ size_is deck_a (path_list (1 ∷ 2 ∷ []) (1 ∷ [])) 999 (Err (refusal 30 0))
+    ∷ size_again_is observed (ending (0 ∷ 0 ∷ 1 ∷ 0 ∷ 1 ∷ [])) no_paths 999 (Err (refusal 30 0))
+    ∷ size_is falling (path_list (0 ∷ 0 ∷ []) (2 ∷ [])) 96 (Err (refusal 13 0))
+    ∷ size_again_is forked out_of_order (path_list (1 ∷ 0 ∷ []) (2 ∷ [])) 0 (Err (refusal_within 24 0 1))
+    ∷ size_again_is forked out_of_order (path_list (0 ∷ 1 ∷ []) (2 ∷ [])) 0 (Err (refusal 32 0))
     -- Deck A: nothing late with T 10, nor with T 6, an arrival of just T; late at its last copy with T 5; at copy 4, and copy 5 is unchanged, with T 4
     ∷ late_is deck_a graph_a 10 6 OnTime (pos 0 ∷ pos 0 ∷ pos 5 ∷ pos 3 ∷ pos 5 ∷ pos 6 ∷ [])
     ∷ late_is deck_a graph_a 6 6 OnTime (pos 0 ∷ pos 0 ∷ pos 5 ∷ pos 3 ∷ pos 5 ∷ pos 6 ∷ [])
@@ -585,16 +581,16 @@ marked =
     ∷ late_is quick (graph (0 ∷ 1 ∷ 2 ∷ []) (0 ∷ 0 ∷ 1 ∷ []) (edge 0 1 0 ∷ edge 1 2 1 ∷ [])) 5 3 OnTime
     (pos 0 ∷ pos 8 ∷ pos 5 ∷ [])
     -- Late or not is refused as times are, and then no place changes: 30 for a place more and for one less, before 13; 13 before 25; 25 before 32; 32
-    ∷ late_is deck_a graph_a 10 7 (NotTimed (refusal 30 0))
+    ∷ late_is deck_a graph_a 10 7 (Err (refusal 30 0))
     (pos 77 ∷ pos 77 ∷ pos 77 ∷ pos 77 ∷ pos 77 ∷ pos 77 ∷ pos 77 ∷ [])
-    ∷ late_is deck_a graph_a 10 5 (NotTimed (refusal 30 0)) (pos 77 ∷ pos 77 ∷ pos 77 ∷ pos 77 ∷ pos 77 ∷ [])
-    ∷ late_is falling graph_a 10 7 (NotTimed (refusal 30 0))
+    ∷ late_is deck_a graph_a 10 5 (Err (refusal 30 0)) (pos 77 ∷ pos 77 ∷ pos 77 ∷ pos 77 ∷ pos 77 ∷ [])
+    ∷ late_is falling graph_a 10 7 (Err (refusal 30 0))
     (pos 77 ∷ pos 77 ∷ pos 77 ∷ pos 77 ∷ pos 77 ∷ pos 77 ∷ pos 77 ∷ [])
-    ∷ late_is falling graph_a 1000000001 6 (NotTimed (refusal 13 0))
+    ∷ late_is falling graph_a 1000000001 6 (Err (refusal 13 0))
     (pos 77 ∷ pos 77 ∷ pos 77 ∷ pos 77 ∷ pos 77 ∷ pos 77 ∷ [])
-    ∷ late_is forked out_of_order 1000000001 6 (NotTimed (refusal 25 0))
+    ∷ late_is forked out_of_order 1000000001 6 (Err (refusal 25 0))
     (pos 77 ∷ pos 77 ∷ pos 77 ∷ pos 77 ∷ pos 77 ∷ pos 77 ∷ [])
-    ∷ late_is forked out_of_order 0 6 (NotTimed (refusal 32 0)) (pos 77 ∷ pos 77 ∷ pos 77 ∷ pos 77 ∷ pos 77 ∷ pos 77 ∷ [])
+    ∷ late_is forked out_of_order 0 6 (Err (refusal 32 0)) (pos 77 ∷ pos 77 ∷ pos 77 ∷ pos 77 ∷ pos 77 ∷ pos 77 ∷ [])
     -- M6's paths in the other order, and one of them three times: the graph of M6; M8's paths in the other order, one of them twice: the graph of M8
     ∷ graph_is deck_a (path_list (0 ∷ 3 ∷ 1 ∷ 2 ∷ []) (2 ∷ 2 ∷ []) ∷ [])
     (graph (0 ∷ 1 ∷ 2 ∷ 2 ∷ 3 ∷ 4 ∷ []) (0 ∷ 0 ∷ 0 ∷ 0 ∷ 1 ∷ 1 ∷ []) (edge 0 2 0 ∷ edge 1 3 1 ∷ edge 2 4 2 ∷

@@ -4,41 +4,39 @@ use native.Mathlib.Omega.{arith}
 use mathlib.Core.Path.{◌≡◌, refl, sym, ◌∙◌, ap, subst}
 use mathlib.Core.Bool.{Bool, true, false, cond, ◌&&◌}
 use mathlib.Core.List.{List, [], ◌∷◌}
+use Rattle.std.specs.Prelude.{Option, Err, Some, None}
+use Rattle.timing.specs.Answers.{Verdict, Passed}
 use lib.Dec.{T, eqb, leb, leb→le}
 use lib.ListN.{length}
 use borrow.Author.Tests.{eqb-true}
 use Rattle.timing.specs.declared.Refusal.{Refusal}
-use Rattle.timing.specs.declared.Verdict.{Verdict}
-use Rattle.timing.specs.declared.Verdict.TheVariants.{Passed, Refused}
-use Rattle.timing.specs.declared.Fault.{Fault}
-use Rattle.timing.specs.declared.Fault.TheVariants.{At, None}
 use Rattle.timing.specs.Refusals.{refusal, refusal_within, ◌then◌, unless, first_bad, unless_fault, first_fault}
 use Rattle.timing.specs.Tests.{same_sizes, edge_sizes, time_sizes, marked_count, Room, room_sizes}
 
 abbrev Pass : Verdict → Type 0
 Pass Passed = Unit {0}
-Pass (Refused r) = ⊥
+Pass (Err r) = ⊥
 
 -- a refusal is no pass
-pub refused_passed : (r : Refusal) → Refused r ≡ Passed → ⊥
+pub refused_passed : (r : Refusal) → Err r ≡ Passed → ⊥
 refused_passed r e = subst Pass (sym e) tt
 
 pub then_passed : (v w : Verdict) → (v then w) ≡ Passed → (v ≡ Passed) × (w ≡ Passed)
 then_passed Passed w e = (refl, e)
-then_passed (Refused r) w e = absurd (refused_passed r e)
+then_passed (Err r) w e = absurd (refused_passed r e)
 
 pub unless_passed : (number : ℕ) (fit : Bool) → unless number fit ≡ Passed → fit ≡ true
 unless_passed number true e = refl
 unless_passed number false e = absurd (refused_passed (refusal number 0) e)
 
-pub unless_refused : (number : ℕ) (fit : Bool) (r : Refusal) → unless number fit ≡ Refused r → refusal number 0 ≡ r
+pub unless_refused : (number : ℕ) (fit : Bool) (r : Refusal) → unless number fit ≡ Err r → refusal number 0 ≡ r
 unless_refused number true r e = absurd (refused_passed r (sym e))
 unless_refused number false r e = cc
 
 -- The code passes a verdict on from test to test, the definitions group a chain to the right: it is the same chain.
 pub then_assoc : (u v w : Verdict) → ((u then v) then w) ≡ (u then v then w)
 then_assoc Passed v w = refl
-then_assoc (Refused r) v w = refl
+then_assoc (Err r) v w = refl
 
 pub chain_two : {q r : Verdict} (v a b : Verdict) → q ≡ (v then a) → r ≡ (q then b) → r ≡ (v then (a then b))
 chain_two v a b e f = f ∙ ap (λ (x : Verdict). x then b) e ∙ then_assoc v a b
@@ -84,7 +82,7 @@ room_passed R e =
 pub marked_passed : (n count : ℕ) → marked_count n count ≡ Passed → count ≤ n
 marked_passed n count e = go (leb count n) refl e
   where
-    go : (b : Bool) → leb count n ≡ b → cond b Passed (Refused (refusal 16 n)) ≡ Passed → count ≤ n
+    go : (b : Bool) → leb count n ≡ b → cond b Passed (Err (refusal 16 n)) ≡ Passed → count ≤ n
     go true q p = leb→le count n (subst T (sym q) tt)
     go false q p = absurd (refused_passed (refusal 16 n) p)
 
@@ -98,13 +96,13 @@ times_passed n a b c d e =
 -- P is true of the refusal, if there is one.
 abbrev pub Every : (Refusal → Type 0) → Verdict → Type 0
 Every P Passed = Unit {0}
-Every P (Refused r) = P r
+Every P (Err r) = P r
 
 -- Whatever can be refused by a chain of tests, by a test whose place is 0, and by a test over everything, at each of its places.
 module _ (P : Refusal → Type 0) where
   pub every_then : (v w : Verdict) → Every P v → (v ≡ Passed → Every P w) → Every P (v then w)
   every_then Passed w a b = b refl
-  every_then (Refused r) w a b = a
+  every_then (Err r) w a b = a
 
   pub every_unless : (k : ℕ) → P (refusal k 0) → (fit : Bool) → Every P (unless k fit)
   every_unless k h true = tt
@@ -114,19 +112,19 @@ module _ (P : Refusal → Type 0) where
   every_bad k bad i [] h = tt
   every_bad {A} k bad i (x ∷ xs) h = go (bad x) (every_bad k bad (suc i) xs (λ j l. h j (omega arith)))
     where
-      go : (b : Bool) → Every P (first_bad k bad (suc i) xs) → Every P (cond b (Refused (refusal k i)) (first_bad k bad (suc i) xs))
+      go : (b : Bool) → Every P (first_bad k bad (suc i) xs) → Every P (cond b (Err (refusal k i)) (first_bad k bad (suc i) xs))
       go true r = h i (omega arith)
       go false r = r
 
-  pub every_fault : (k : ℕ) (fault : List ℕ → Fault) (i : ℕ) (paths : List (List ℕ)) → ((j d : ℕ) → j < i + length paths → P (refusal_within k j d))
+  pub every_fault : (k : ℕ) (fault : List ℕ → Option ℕ) (i : ℕ) (paths : List (List ℕ)) → ((j d : ℕ) → j < i + length paths → P (refusal_within k j d))
       → Every P (first_fault k fault i paths)
   every_fault k fault i [] h = tt
   every_fault k fault i (p ∷ paths) h =
       every_then (unless_fault k i (fault p)) (first_fault k fault (suc i) paths) (go (fault p)) (λ e. every_fault k fault (suc i) paths (λ j d l. h j d (omega arith)))
     where
-      go : (f : Fault) → Every P (unless_fault k i f)
+      go : (f : Option ℕ) → Every P (unless_fault k i f)
       go None = tt
-      go (At d) = h i d (omega arith)
+      go (Some d) = h i d (omega arith)
 
 -- what was made from one verdict is what an equal one makes
 pub after_told : (A : Type 0) (after : A) (f : Verdict → A) (u v : Verdict) → u ≡ v → after ≡ f u → after ≡ f v

@@ -1,12 +1,10 @@
 -- A series of removals as it is run: what each call was lent, what it answered and what it left. `Meets` is what the contracts of
 -- `remove_from_design` and `remove_from_graph` say of one call; crate `called` shows it of both from these contracts.
-use Rattle.std.specs.Prelude.{ℕ, ◌≤◌, ◌≡◌, List, [], ◌∷◌, map, length, take}
+use Rattle.std.specs.Prelude.{ℕ, ◌≤◌, ◌≡◌, List, [], ◌∷◌, map, length, take, Result, Ok, Err}
 use Rattle.std.proofs.Math.Option.{Option, none, some}
-use Rattle.timing.specs.declared.Verdict.{Verdict}
-use Rattle.timing.specs.declared.Verdict.TheVariants.{Passed, Refused}
-use Rattle.timing.specs.declared.GraphMade.{GraphMade}
-use Rattle.timing.specs.declared.GraphMade.TheVariants.{Counts}
-use Rattle.timing.specs.declared.GraphMade.TheVariants.{Refused as NoGraph}
+use Rattle.timing.specs.Answers.{Verdict, Passed, Counts}
+use Rattle.timing.specs.declared.GraphCounts.{GraphCounts}
+use Rattle.timing.specs.declared.Refusal.{Refusal}
 use Rattle.timing.specs.Graphs.{Design, Graph, design_graph}
 use Rattle.timing.specs.Marks.{path_list}
 use Rattle.timing.specs.Refusals.{refusal}
@@ -20,7 +18,7 @@ pub record Called : Type 0 where
   pub lengths : List ℕ
   pub room : GraphSlices
   pub scratch : List ℕ
-  pub answer : GraphMade
+  pub answer : Result GraphCounts Refusal
   pub after : GraphSlices
   pub scratch_at : List ℕ
 
@@ -49,9 +47,9 @@ front c e S = graph_slices (take c S.nodes) (take c S.endpoints) (take e S.start
 
 -- the slices that the caller holds after a call, and lends on: the front of the room, as long as the call answered; a refused
 -- call leaves them
-abbrev pub held_slices : GraphMade → GraphSlices → Option GraphSlices → Option GraphSlices
-held_slices (Counts c e) S held = some (front c e S)
-held_slices (NoGraph r) S held = held
+abbrev pub held_slices : Result GraphCounts Refusal → GraphSlices → Option GraphSlices → Option GraphSlices
+held_slices (Ok g) S held = some (front g.copies g.edges S)
+held_slices (Err r) S held = held
 
 abbrev pub last_held : Option GraphSlices → List Called → Option GraphSlices
 last_held held [] = held
@@ -62,16 +60,16 @@ abbrev pub Ran : Design → Option GraphSlices → List Called → Type 0
 Ran D held [] = Unit {0}
 Ran D held (c ∷ cs) = Meets (remove_on D held (removal_of c)) c × Ran D (held_slices c.answer c.after held) cs
 
-abbrev pub verdict_in : GraphMade → Verdict
-verdict_in (Counts c e) = Passed
-verdict_in (NoGraph r) = Refused r
+abbrev pub verdict_in : Result GraphCounts Refusal → Verdict
+verdict_in (Ok g) = Passed
+verdict_in (Err r) = Err r
 
 -- the last answer that is no refusal
-abbrev pub counts_next : Option GraphMade → GraphMade → Option GraphMade
-counts_next counts (Counts c e) = some (Counts c e)
-counts_next counts (NoGraph r) = counts
+abbrev pub counts_next : Option (Result GraphCounts Refusal) → Result GraphCounts Refusal → Option (Result GraphCounts Refusal)
+counts_next counts (Ok g) = some (Counts g.copies g.edges)
+counts_next counts (Err r) = counts
 
-abbrev pub last_counts : Option GraphMade → List Called → Option GraphMade
+abbrev pub last_counts : Option (Result GraphCounts Refusal) → List Called → Option (Result GraphCounts Refusal)
 last_counts counts [] = counts
 last_counts counts (c ∷ cs) = last_counts (counts_next counts c.answer) cs
 
@@ -80,7 +78,7 @@ abbrev pub slices_held : Option Graph → Option GraphSlices
 slices_held none = none
 slices_held (some G) = some (slices_of G)
 
-abbrev pub counts_held : Option Graph → Option GraphMade
+abbrev pub counts_held : Option Graph → Option (Result GraphCounts Refusal)
 counts_held none = none
 counts_held (some G) = some (Counts (length G.nodes) (length G.edges))
 
@@ -106,7 +104,7 @@ abbrev pub SameAnswers : Design → Option GraphSlices → Called → Called →
 SameAnswers D held a b =
     let G = graph_on D held in
     let L = path_list b.listed b.lengths in
-    (a.answer ≡ NoGraph (refusal 31 0) → ⊥)
+    (a.answer ≡ Err (refusal 31 0) → ⊥)
     → b.listed ≡ a.listed
     → b.lengths ≡ a.lengths
     → b.room ≡ a.room

@@ -1,27 +1,13 @@
 -- For each call its answer and what each lent buffer holds afterwards, for every input. "Slice calls test 30, then 10 to
 -- 14 [02: 16], 20 to 25, 32, 31, 33, 34, 35, one number over everything before the next, leaving out tests of
 -- what a call does not take." "A refusal changes no result buffer." "Result places past the result are unchanged."
-use Rattle.std.specs.Prelude.{ℕ, ◌+◌, ◌*◌, cond, ◌||◌, List, [], ◌∷◌, map, eqb, leb, ℤ, pos, neg_ℤ, length}
-use Rattle.timing.specs.declared.Refusal.{Refusal}
-use Rattle.timing.specs.declared.Verdict.{Verdict}
-use Rattle.timing.specs.declared.Verdict.TheVariants.{Passed, Refused}
-use Rattle.timing.specs.declared.Written.{Written}
-use Rattle.timing.specs.declared.Written.TheVariants.{End}
-use Rattle.timing.specs.declared.Written.TheVariants.{Refused as NotWritten}
-use Rattle.timing.specs.declared.DeckRead.{DeckRead}
-use Rattle.timing.specs.declared.DeckRead.TheVariants.{Deck as DeckFound}
-use Rattle.timing.specs.declared.DeckRead.TheVariants.{Refused as NoDeck}
-use Rattle.timing.specs.declared.GraphMade.{GraphMade}
-use Rattle.timing.specs.declared.GraphMade.TheVariants.{Counts}
-use Rattle.timing.specs.declared.GraphMade.TheVariants.{Refused as NoGraph}
+use Rattle.std.specs.Prelude.{ℕ, ◌+◌, ◌*◌, cond, ◌||◌, List, [], ◌∷◌, map, eqb, leb, ℤ, pos, neg_ℤ, length, Option, Result, Ok, Err, Some, None}
+use Rattle.timing.specs.Answers.{Verdict, Passed, Counts, Times, DeckFound, Late, OnTime}
+use Rattle.timing.specs.declared.DeckCounts.{DeckCounts}
+use Rattle.timing.specs.declared.GraphCounts.{GraphCounts}
 use Rattle.timing.specs.declared.NodeTimes.{NodeTimes}
-use Rattle.timing.specs.declared.NodeTimes.TheVariants.{Times, None}
-use Rattle.timing.specs.declared.NodeAnswer.{NodeAnswer}
-use Rattle.timing.specs.declared.NodeAnswer.TheVariants.{Record}
-use Rattle.timing.specs.declared.NodeAnswer.TheVariants.{Refused as NoRecord}
-use Rattle.timing.specs.declared.Lateness.{Lateness}
-use Rattle.timing.specs.declared.Lateness.TheVariants.{Late, OnTime}
-use Rattle.timing.specs.declared.Lateness.TheVariants.{Refused as NotTimed}
+use Rattle.timing.specs.declared.NodeRecord.{NodeRecord}
+use Rattle.timing.specs.declared.Refusal.{Refusal}
 use Rattle.timing.specs.Lists.{placed, upto}
 use Rattle.timing.specs.Graphs.{Design, edge_early, edge_late, Graph, graph, edges_of, design_graph}
 use Rattle.timing.specs.Marks.{PathList, path_list, paths_of}
@@ -84,7 +70,7 @@ pub data Outcome (A : Type 0) : Type 0 where
 
 abbrev pub outcome : {A : Type 0} → Verdict → A → Outcome A
 outcome Passed x = made x
-outcome (Refused r) x = refused r
+outcome (Err r) x = refused r
 
 -- what a lent buffer holds afterwards, where part f of what is made goes there
 abbrev pub filled : {A B : Type 0} → (A → List B) → Outcome A → List B → List B
@@ -137,13 +123,13 @@ unfoldable pub size_from_graph : Design → GraphSlices → PathList → ℕ →
 size_from_graph D S L words = remove_from_graph D S (removal L largest_room words)
 
 -- what a removal answers: the counts of its result, or its refusal; and the same from a verdict and counts alone
-abbrev pub graph_answer : Outcome Graph → GraphMade
+abbrev pub graph_answer : Outcome Graph → Result GraphCounts Refusal
 graph_answer (made G) = Counts (length G.nodes) (length G.edges)
-graph_answer (refused r) = NoGraph r
+graph_answer (refused r) = Err r
 
-abbrev pub counts_answer : Verdict → ℕ → ℕ → GraphMade
+abbrev pub counts_answer : Verdict → ℕ → ℕ → Result GraphCounts Refusal
 counts_answer Passed copies edges = Counts copies edges
-counts_answer (Refused r) copies edges = NoGraph r
+counts_answer (Err r) copies edges = Err r
 
 -- the room afterwards
 abbrev pub nodes_after : Outcome Graph → List ℕ → List ℕ
@@ -178,7 +164,7 @@ test_times D S T arrivals requireds slacks earliests = timing_tests D S T (time_
 -- a slice with one place for each of n copies or nodes, afterwards: what f says of each
 abbrev pub each_after : {A : Type 0} → Verdict → (ℕ → A) → ℕ → List A → List A
 each_after Passed f n room = map f (upto n 0)
-each_after (Refused r) f n room = room
+each_after (Err r) f n room = room
 
 unfoldable pub arrivals_after : Design → GraphSlices → ℕ → Verdict → List ℤ → List ℤ
 arrivals_after D S T v ts = each_after v (arrival_at (edge_late D) (pos T) (graph_of S)) (length S.nodes) ts
@@ -198,36 +184,36 @@ unfoldable pub test_late : Design → GraphSlices → ℕ → ℕ → Verdict
 test_late D S T arrivals = let copies = length S.nodes in timing_tests D S T (same_sizes copies copies arrivals)
 
 -- "the lowest copy where paths end with an arrival above T", "or that nothing is late"
-abbrev pub lowest_late : Verdict → List ℕ → Lateness
+abbrev pub lowest_late : Verdict → List ℕ → Result (Option ℕ) Refusal
 lowest_late Passed [] = OnTime
 lowest_late Passed (c ∷ cs) = Late c
-lowest_late (Refused r) cs = NotTimed r
+lowest_late (Err r) cs = Err r
 
 -- the answer, from what the tests answered; and from the length of the lent slice
-abbrev pub late_answer : Design → GraphSlices → ℕ → Verdict → Lateness
+abbrev pub late_answer : Design → GraphSlices → ℕ → Verdict → Result (Option ℕ) Refusal
 late_answer D S T tested = lowest_late tested (late_copies (edge_late D) (pos T) (graph_of S))
 
-unfoldable pub late_or_not : Design → GraphSlices → ℕ → ℕ → Lateness
+unfoldable pub late_or_not : Design → GraphSlices → ℕ → ℕ → Result (Option ℕ) Refusal
 late_or_not D S T arrivals = late_answer D S T (test_late D S T arrivals)
 
 -- how many arrivals it writes: those up to the late copy, since "places after the returned copy are unchanged"; all where nothing is late; none
 -- after a refusal
-abbrev pub arrivals_written : ℕ → Lateness → ℕ
+abbrev pub arrivals_written : ℕ → Result (Option ℕ) Refusal → ℕ
 arrivals_written copies (Late c) = c + 1
 arrivals_written copies OnTime = copies
-arrivals_written copies (NotTimed r) = 0
+arrivals_written copies (Err r) = 0
 
 -- the lent slice afterwards
-unfoldable pub arrivals_after_late : Design → GraphSlices → ℕ → Lateness → List ℤ → List ℤ
+unfoldable pub arrivals_after_late : Design → GraphSlices → ℕ → Result (Option ℕ) Refusal → List ℤ → List ℤ
 arrivals_after_late D S T answer ts =
     placed (map (arrival_at (edge_late D) (pos T) (graph_of S)) (upto (arrivals_written (length S.nodes) answer) 0)) ts
 
 -- The record of a node, from n and what is known of each copy.
-abbrev pub record_answer : ℕ → List ℕ → List ℤ → List ℤ → List ℤ → List ℤ → ℕ → Verdict → NodeAnswer
-record_answer n nodes ats rts sts ets v Passed = Record (node_record n nodes ats rts sts ets v)
-record_answer n nodes ats rts sts ets v (Refused r) = NoRecord r
+abbrev pub record_answer : ℕ → List ℕ → List ℤ → List ℤ → List ℤ → List ℤ → ℕ → Verdict → Result NodeRecord Refusal
+record_answer n nodes ats rts sts ets v Passed = Ok (node_record n nodes ats rts sts ets v)
+record_answer n nodes ats rts sts ets v (Err r) = Err r
 
-unfoldable pub record_of : ℕ → List ℕ → List ℤ → List ℤ → List ℤ → List ℤ → ℕ → NodeAnswer
+unfoldable pub record_of : ℕ → List ℕ → List ℤ → List ℤ → List ℤ → List ℤ → ℕ → Result NodeRecord Refusal
 record_of n nodes ats rts sts ets v =
     record_answer n nodes ats rts sts ets v
     (time_sizes (length nodes) (length ats) (length rts) (length sts) (length ets) then node_count n)
@@ -239,28 +225,28 @@ test_records n nodes ats rts sts ets known arrivals requireds slacks earliests =
     time_sizes (length nodes) (length ats) (length rts) (length sts) (length ets)
     then same_sizes n n known then time_sizes n arrivals requireds slacks earliests then node_count n
 
-abbrev pub has_times : NodeTimes → ℕ
-has_times (Times a r s e) = 1
+abbrev pub has_times : Option NodeTimes → ℕ
+has_times (Some x) = 1
 has_times None = 0
 
-abbrev pub arrival_of : NodeTimes → ℤ
-arrival_of (Times a r s e) = a
+abbrev pub arrival_of : Option NodeTimes → ℤ
+arrival_of (Some x) = x.arrival
 arrival_of None = pos 0
 
-abbrev pub required_of : NodeTimes → ℤ
-required_of (Times a r s e) = r
+abbrev pub required_of : Option NodeTimes → ℤ
+required_of (Some x) = x.required
 required_of None = pos 0
 
-abbrev pub slack_of : NodeTimes → ℤ
-slack_of (Times a r s e) = s
+abbrev pub slack_of : Option NodeTimes → ℤ
+slack_of (Some x) = x.slack
 slack_of None = pos 0
 
-abbrev pub earliest_of : NodeTimes → ℤ
-earliest_of (Times a r s e) = e
+abbrev pub earliest_of : Option NodeTimes → ℤ
+earliest_of (Some x) = x.earliest
 earliest_of None = pos 0
 
 -- the slices afterwards, where f is what the slice tells of a record's times
-unfoldable pub records_after : {A : Type 0} → (NodeTimes → A) → ℕ → List ℕ → List ℤ → List ℤ → List ℤ → List ℤ → Verdict → List A → List A
+unfoldable pub records_after : {A : Type 0} → (Option NodeTimes → A) → ℕ → List ℕ → List ℤ → List ℤ → List ℤ → List ℤ → Verdict → List A → List A
 records_after f n nodes ats rts sts ets tested room = each_after tested (λ v. f (node_record n nodes ats rts sts ets v).times) n room
 
 -- Reading: what was parsed, and then what is done with it.
@@ -271,7 +257,7 @@ parsed (stopped r) = refused r
 -- a test before reading
 abbrev pub guarded : {A : Type 0} → Verdict → Outcome A → Outcome A
 guarded Passed o = o
-guarded (Refused r) o = refused r
+guarded (Err r) o = refused r
 
 -- The deck reader, from the bytes and the lengths of the lent tables: starts, ends, early and late delays; listed edges; lengths; marked nodes.
 unfoldable pub deck_read : List ℕ → ℕ → ℕ → ℕ → ℕ → ℕ → ℕ → ℕ → Outcome Deck
@@ -279,20 +265,20 @@ deck_read s starts ends early late listed lengths marked =
     guarded (edge_sizes starts ends early late)
     (parsed (read_deck s (record { edges = starts; listed = listed; paths = lengths; marked = marked })))
 
-abbrev pub deck_answer : Outcome Deck → DeckRead
+abbrev pub deck_answer : Outcome Deck → Result DeckCounts Refusal
 deck_answer (made d) =
     DeckFound d.design.nodes (length d.design.starts) (length d.list.edges) (length d.list.lengths)
     (length d.design.marked) d.allowed
-deck_answer (refused r) = NoDeck r
+deck_answer (refused r) = Err r
 
 -- Writing: the tests, and then 35.
-abbrev pub writing : Verdict → List ℕ → List ℕ → Written
+abbrev pub writing : Verdict → List ℕ → List ℕ → Result ℕ Refusal
 writing Passed room bs = write_answer room 0 bs
-writing (Refused r) room bs = NotWritten r
+writing (Err r) room bs = Err r
 
 abbrev pub room_after_writing : Verdict → List ℕ → List ℕ → List ℕ
 room_after_writing Passed room bs = written_room room 0 bs
-room_after_writing (Refused r) room bs = room
+room_after_writing (Err r) room bs = room
 
 -- "Writers test only 30, the counts (10, 11, 20, 21; 32 for a graph) and 35"; "after the counts" 16 for more marked nodes than n, and 32
 -- for an endpoint number above 1 (02, request 6)
@@ -334,32 +320,32 @@ unfoldable pub program : List ℕ → Outcome Graph
 program s = few_bytes s (program_from (parsed (read_deck s program_tables)))
 
 -- the packed true graph goes into the room of the C call
-abbrev pub c_written : Outcome Graph → List ℕ → Written
+abbrev pub c_written : Outcome Graph → List ℕ → Result ℕ Refusal
 c_written (made G) room = write_answer room 0 (packed_graph G)
-c_written (refused r) room = NotWritten r
+c_written (refused r) room = Err r
 
 -- "one signed 64-bit number: the length, or on a refusal minus the sum of the number and 256 times the place"
 abbrev pub refusal_number : Refusal → ℤ
 refusal_number r = neg_ℤ (pos (r.number + 256 * r.place))
 
-abbrev pub c_number : Written → ℤ
-c_number (End n) = pos n
-c_number (NotWritten r) = refusal_number r
+abbrev pub c_number : Result ℕ Refusal → ℤ
+c_number (Ok n) = pos n
+c_number (Err r) = refusal_number r
 
 -- beyond document 01: a C call over plain arrays answers its counts, as copies + edges · 2^32, or 0
-abbrev pub graph_number : GraphMade → ℤ
-graph_number (Counts copies edges) = pos (copies + edges * 4294967296)
-graph_number (NoGraph r) = refusal_number r
+abbrev pub graph_number : Result GraphCounts Refusal → ℤ
+graph_number (Ok g) = pos (g.copies + g.edges * 4294967296)
+graph_number (Err r) = refusal_number r
 
 abbrev pub verdict_number : Verdict → ℤ
 verdict_number Passed = pos 0
-verdict_number (Refused r) = refusal_number r
+verdict_number (Err r) = refusal_number r
 
 -- of late or not: 1 + the copy's number where it is late, and 0 where nothing is
-abbrev pub lateness_number : Lateness → ℤ
+abbrev pub lateness_number : Result (Option ℕ) Refusal → ℤ
 lateness_number (Late c) = pos (1 + c)
 lateness_number OnTime = pos 0
-lateness_number (NotTimed r) = refusal_number r
+lateness_number (Err r) = refusal_number r
 
 unfoldable pub c_call : List ℕ → List ℕ → ℤ
 c_call s room = c_number (c_written (program s) room)

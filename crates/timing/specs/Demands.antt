@@ -1,14 +1,12 @@
 -- Demand 2 as a statement, and what it says of times: those of a copy and of a node are those of the design's permitted
 -- complete paths. Demand 3 stands in `Series`. The proofs are in `crates/theorems`, and
 -- over calls in `crates/called`.
-use Rattle.std.specs.Prelude.{ℕ, ◌≡◌, ◌↔◌, ℤ, pos, ◌-ℤ◌, length, get_or}
+use Rattle.std.specs.Prelude.{ℕ, ◌≡◌, ◌↔◌, ℤ, pos, ◌-ℤ◌, length, get_or, Option, Result, Ok, Err, None}
 use mathlib.Core.List.{List, [], ◌∷◌, ◌++◌, flat_map, Memᴰ}
-use Rattle.timing.specs.declared.Verdict.{Verdict}
-use Rattle.timing.specs.declared.Verdict.TheVariants.{Passed, Refused}
+use Rattle.timing.specs.Answers.{Verdict, Passed, Times}
 use Rattle.timing.specs.declared.NodeTimes.{NodeTimes}
-use Rattle.timing.specs.declared.NodeTimes.TheVariants.{Times, None}
-use Rattle.timing.specs.declared.NodeAnswer.{NodeAnswer}
-use Rattle.timing.specs.declared.NodeAnswer.TheVariants.{Record}
+use Rattle.timing.specs.declared.NodeRecord.{NodeRecord}
+use Rattle.timing.specs.declared.Refusal.{Refusal}
 use Rattle.timing.specs.Graphs.{Design, edge_early, edge_late, Edge, Graph, Run, complete_runs, delay_along, taken_back}
 use Rattle.timing.specs.Marks.{paths_of}
 use Rattle.timing.specs.TrueGraphs.{permitted_runs}
@@ -45,7 +43,7 @@ pub record PathBest (early late : ℕ → ℤ) (t : ℤ) (P : List Edge → List
 
 -- x is the record of the paths P: "either its three times or the answer none", and with the times the earliest arrival; none exactly if
 -- there is no such path
-pub record PathTimes (early late : ℕ → ℤ) (t : ℤ) (P : List Edge → List Edge → Type 0) (x : NodeTimes) : Type 0 where
+pub record PathTimes (early late : ℕ → ℤ) (t : ℤ) (P : List Edge → List Edge → Type 0) (x : Option NodeTimes) : Type 0 where
   pub none : (x ≡ None) ↔ ((p q : List Edge) → P p q → ⊥)
   pub some : (p q : List Edge) → P p q → (a : ℤ) × (r : ℤ) × (s : ℤ) × (e : ℤ) × (x ≡ Times a r s e) × PathBest early late t P a r s e
 
@@ -53,7 +51,7 @@ pub record PathTimes (early late : ℕ → ℤ) (t : ℤ) (P : List Edge → Lis
 abbrev pub AllPassed : List Verdict → Type 0
 AllPassed [] = Unit {0}
 AllPassed (Passed ∷ vs) = AllPassed vs
-AllPassed (Refused x ∷ vs) = ⊥
+AllPassed (Err x ∷ vs) = ⊥
 
 unfoldable pub lists_of : List Removal → List (List ℕ)
 lists_of rs = flat_map (λ r. paths_of r.list) rs
@@ -73,7 +71,7 @@ module _ (D : Design) (H : Graph) (t : ℕ) (ats rts sts ets : List ℤ) where
       (get_or (earliests_after D S tested ets) h (pos 0))
 
   -- what `node_record` then answers of node v
-  abbrev pub record_after : ℕ → NodeAnswer
+  abbrev pub record_after : ℕ → Result NodeRecord Refusal
   record_after v =
       let S = slices_of H in
       let tested = test_times D S t (length ats) (length rts) (length sts) (length ets) in
@@ -82,6 +80,6 @@ module _ (D : Design) (H : Graph) (t : ℕ) (ats rts sts ets : List ℤ) where
 
   -- and that this is the record of the paths P
   pub record RecordOfPaths (v : ℕ) (P : List Edge → List Edge → Type 0) : Type 0 where
-    pub times : NodeTimes
-    pub answer : record_after v ≡ Record (record { node = v; times = times })
+    pub times : Option NodeTimes
+    pub answer : record_after v ≡ Ok (record { node = v; times = times })
     pub paths : PathTimes (edge_early D) (edge_late D) (pos t) P times

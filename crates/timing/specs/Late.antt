@@ -1,17 +1,16 @@
 -- "Late or not" (02, request 10): what the answer of `late_or_not` says of the full times and of the paths. Crate `called` shows it of calls.
-use Rattle.std.specs.Prelude.{ℕ, ◌<◌, T, ℤ, pos, length, get_or}
+use Rattle.std.specs.Prelude.{ℕ, ◌<◌, T, ℤ, pos, length, get_or, Option, Result, Err}
 use mathlib.Core.List.{List, Memᴰ}
 use Rattle.std.specs.Int.Signed.{lt_z}
-use Rattle.timing.specs.declared.Lateness.{Lateness}
-use Rattle.timing.specs.declared.Lateness.TheVariants.{Late, OnTime}
-use Rattle.timing.specs.declared.Lateness.TheVariants.{Refused as NotTimed}
+use Rattle.timing.specs.Answers.{Late, OnTime}
+use Rattle.timing.specs.declared.Refusal.{Refusal}
 use Rattle.timing.specs.Graphs.{Run, delay_along}
 
 -- there is no refusal, and "the answer [is] late if and only if" P
-abbrev pub LateIff : Lateness → Type 0 → Type 0
+abbrev pub LateIff : Result (Option ℕ) Refusal → Type 0 → Type 0
 LateIff (Late c) P = P
 LateIff OnTime P = P → ⊥
-LateIff (NotTimed r) P = ⊥
+LateIff (Err r) P = ⊥
 
 -- "a negative slack somewhere", where a slice has the slack of each copy or of each node; a node without times has 0 there, which is not negative
 abbrev pub SomeNegative : List ℤ → Type 0

@@ -15,7 +15,8 @@ pub mod Parsing
 pub mod Looks
 pub mod Decks
 pub mod GraphBytes
--- who can cause a refusal
+-- what calls answer, and who can cause a refusal
+pub mod Answers
 pub mod Refusals
 pub mod Tests
 -- what each call answers, and what each lent buffer holds afterwards

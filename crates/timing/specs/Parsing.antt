@@ -1,11 +1,8 @@
 -- Reading numbers one after the other. A reader goes from a place to what it found and the next place, or to a refusal.
-use Rattle.std.specs.Prelude.{ℕ, zero, suc, cond, List, [], ◌∷◌, leb, length}
+use Rattle.std.specs.Prelude.{ℕ, zero, suc, cond, List, [], ◌∷◌, leb, length, Result, Ok, Err}
+use Rattle.timing.specs.Answers.{Verdict, Passed}
+use Rattle.timing.specs.declared.Taken.{Taken}
 use Rattle.timing.specs.declared.Refusal.{Refusal}
-use Rattle.timing.specs.declared.Verdict.{Verdict}
-use Rattle.timing.specs.declared.Verdict.TheVariants.{Passed, Refused}
-use Rattle.timing.specs.declared.NumberRead.{NumberRead}
-use Rattle.timing.specs.declared.NumberRead.TheVariants.{Value}
-use Rattle.timing.specs.declared.NumberRead.TheVariants.{Refused as NotRead}
 use Rattle.timing.specs.Refusals.{refusal}
 use Rattle.timing.specs.Numbers.{read_number}
 
@@ -34,11 +31,11 @@ return x at = found x at
 -- a test of what was read so far
 abbrev pub tested : Verdict → Reader (Unit {0})
 tested Passed at = found tt at
-tested (Refused r) at = stopped r
+tested (Err r) at = stopped r
 
-abbrev pub parsed_number : NumberRead → Parsed ℕ
-parsed_number (Value v next) = found v next
-parsed_number (NotRead r) = stopped r
+abbrev pub parsed_number : Result Taken Refusal → Parsed ℕ
+parsed_number (Ok t) = found t.value t.next
+parsed_number (Err r) = stopped r
 
 abbrev pub number : List ℕ → Reader ℕ
 number s at = parsed_number (read_number s at)

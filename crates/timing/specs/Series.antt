@@ -1,9 +1,8 @@
 -- "A series is any number of removals, in order, over one design, refused ones included."
-use Rattle.std.specs.Prelude.{ℕ, ◌+◌, ◌≤◌, ◌<◌, ◌≡◌, length}
+use Rattle.std.specs.Prelude.{ℕ, ◌+◌, ◌≤◌, ◌<◌, ◌≡◌, length, Err}
 use mathlib.Core.List.{List, [], ◌∷◌, ◌++◌, map, Memᴰ}
 use Rattle.std.proofs.Math.Option.{Option, none, some}
-use Rattle.timing.specs.declared.Verdict.{Verdict}
-use Rattle.timing.specs.declared.Verdict.TheVariants.{Passed, Refused}
+use Rattle.timing.specs.Answers.{Verdict, Passed}
 use Rattle.timing.specs.Lists.{sum}
 use Rattle.timing.specs.Graphs.{Design, Edge, edge, Graph, design_graph, node_of, endpoint_of}
 use Rattle.timing.specs.Marks.{paths_of}
@@ -22,7 +21,7 @@ held_next held (refused r) = held
 
 abbrev pub verdict_of : Outcome Graph → Verdict
 verdict_of (made G) = Passed
-verdict_of (refused r) = Refused r
+verdict_of (refused r) = Err r
 
 -- what each removal of a series answers, and the graph held after all of them
 abbrev pub verdicts : Design → Option Graph → List Removal → List Verdict
@@ -47,7 +46,7 @@ with_list (some L) K = some (L ++ K)
 -- "The whole list is the lists of the unrefused removals, in order, put end to end"
 abbrev pub whole_next : Option (List (List ℕ)) → Removal → Verdict → Option (List (List ℕ))
 whole_next whole r Passed = with_list whole (paths_of r.list)
-whole_next whole r (Refused x) = whole
+whole_next whole r (Err x) = whole
 
 abbrev pub verdict_alone : Design → Option (List (List ℕ)) → Removal → Verdict
 verdict_alone D whole r = verdict_of (remove_next D (held_for D whole) r)

@@ -1,11 +1,8 @@
 -- Who can cause a refusal: each test with its number, its exact condition and its place.
-use Rattle.std.specs.Prelude.{ℕ, zero, suc, ◌+◌, ◌*◌, min, Bool, false, not, cond, ◌&&◌, ◌||◌, eqb, ltb, leb, nat_abs, length, get_or, drop}
+use Rattle.std.specs.Prelude.{ℕ, zero, suc, ◌+◌, ◌*◌, min, Bool, false, not, cond, ◌&&◌, ◌||◌, eqb, ltb, leb, nat_abs, length, get_or, drop, Option, Err, Some, None}
 use mathlib.Core.List.{List, [], ◌∷◌, map, flat_map}
 use Rattle.std.specs.Int.Signed.{lt_z}
-use Rattle.timing.specs.declared.Verdict.{Verdict}
-use Rattle.timing.specs.declared.Verdict.TheVariants.{Passed, Refused}
-use Rattle.timing.specs.declared.Fault.{Fault}
-use Rattle.timing.specs.declared.Fault.TheVariants.{At, None}
+use Rattle.timing.specs.Answers.{Verdict, Passed}
 use Rattle.timing.specs.Lists.{count_of, upto, sum}
 use Rattle.timing.specs.Graphs.{Design, edge_start, edge_end, edge_early, edge_late, Graph}
 use Rattle.timing.specs.Marks.{PathList, paths_of}
@@ -64,7 +61,7 @@ wrong_marked D i = not (ltb (get_or D.marked i 0) D.nodes) || rises_not D.marked
 
 -- "the reader gives it at a count of marks above n, place n", and the deck's writer too: of more than n marked nodes one is wrong
 abbrev pub marked_count : ℕ → ℕ → Verdict
-marked_count n count = cond (leb count n) Passed (Refused (refusal 16 n))
+marked_count n count = cond (leb count n) Passed (Err (refusal 16 n))
 
 -- 10 to 16, "one number over everything before the next"
 unfoldable pub design_tests : Design → Verdict
@@ -88,20 +85,20 @@ meets D j k = eqb (edge_end D j) (edge_start D k)
 -- 22 to 24, of one path: where its first fault is, by "the index, within the path" (02, request 4). In 23 and 24 i is the index of
 -- the first edge that is looked at.
 -- 22: "an empty path"; "22's index is 0"
-abbrev pub empty_at : List ℕ → Fault
-empty_at [] = At 0
+abbrev pub empty_at : List ℕ → Option ℕ
+empty_at [] = Some 0
 empty_at (k ∷ path) = None
 
 -- 23: the first "edge number not below m"
-abbrev pub first_unknown : ℕ → ℕ → List ℕ → Fault
+abbrev pub first_unknown : ℕ → ℕ → List ℕ → Option ℕ
 first_unknown m i [] = None
-first_unknown m i (k ∷ path) = cond (ltb k m) (first_unknown m (suc i) path) (At i)
+first_unknown m i (k ∷ path) = cond (ltb k m) (first_unknown m (suc i) path) (Some i)
 
 -- 24: "the first edge that does not start where the one before ends, or that all join"; `meet` is `meets` of the design
-abbrev pub first_break : (ℕ → ℕ → Bool) → ℕ → List ℕ → Fault
+abbrev pub first_break : (ℕ → ℕ → Bool) → ℕ → List ℕ → Option ℕ
 first_break meet i [] = None
 first_break meet i (j ∷ []) = None
-first_break meet i (j ∷ k ∷ path) = cond (meet j k) (first_break meet (suc i) (k ∷ path)) (At (suc i))
+first_break meet i (j ∷ k ∷ path) = cond (meet j k) (first_break meet (suc i) (k ∷ path)) (Some (suc i))
 
 -- 20 to 24
 unfoldable pub list_tests : Design → PathList → Verdict

@@ -1,10 +1,10 @@
 -- "Room known beforehand" (02, request 8): a call that tells a removal's size, and what filling then answers, from the same design, list and
 -- earlier graph. `Tells` is what the contracts of `size_from_design` and `size_from_graph` say of one call; crate `called` shows it of both.
-use Rattle.std.specs.Prelude.{ℕ, ◌≡◌, cond, ◌&&◌, List, eqb, ltb, length, drop}
+use Rattle.std.specs.Prelude.{ℕ, ◌≡◌, cond, ◌&&◌, List, eqb, ltb, length, drop, Result, Ok, Err}
 use Rattle.std.proofs.Math.Option.{Option, none, some}
-use Rattle.timing.specs.declared.GraphMade.{GraphMade}
-use Rattle.timing.specs.declared.GraphMade.TheVariants.{Counts}
-use Rattle.timing.specs.declared.GraphMade.TheVariants.{Refused as NoGraph}
+use Rattle.timing.specs.Answers.{Counts}
+use Rattle.timing.specs.declared.GraphCounts.{GraphCounts}
+use Rattle.timing.specs.declared.Refusal.{Refusal}
 use Rattle.timing.specs.Graphs.{Design, Graph}
 use Rattle.timing.specs.Marks.{PathList, path_list, paths_of}
 use Rattle.timing.specs.TrueGraphs.{true_graph}
@@ -18,7 +18,7 @@ pub record Telling : Type 0 where
   pub listed : List ℕ
   pub lengths : List ℕ
   pub scratch : List ℕ
-  pub answer : GraphMade
+  pub answer : Result GraphCounts Refusal
   pub scratch_at : List ℕ
 
 -- the call did what the outcome says
@@ -33,10 +33,10 @@ size_on D (some S) L words = size_from_graph D S L words
 
 -- What filling answers in room R, from what was told: it "is refused for room if and only if a room is below the told number", by 33 if that is the
 -- room of copies, and else by 34. Where 34 was told, filling gives 33 if its room is below the result's copies. What else was told it gives too.
-abbrev pub foretold : Room → ℕ → GraphMade → GraphMade
-foretold R copies (Counts c e) =
-    cond (ltb R.nodes c) (NoGraph (refusal 33 0)) (cond (ltb R.starts e) (NoGraph (refusal 34 0)) (Counts c e))
-foretold R copies (NoGraph r) = cond (eqb r.number 34 && ltb R.nodes copies) (NoGraph (refusal 33 0)) (NoGraph r)
+abbrev pub foretold : Room → ℕ → Result GraphCounts Refusal → Result GraphCounts Refusal
+foretold R copies (Ok g) =
+    cond (ltb R.nodes g.copies) (Err (refusal 33 0)) (cond (ltb R.starts g.edges) (Err (refusal 34 0)) (Counts g.copies g.edges))
+foretold R copies (Err r) = cond (eqb r.number 34 && ltb R.nodes copies) (Err (refusal 33 0)) (Err r)
 
 -- the places of a room behind c copies and e edges
 abbrev pub behind : ℕ → ℕ → GraphSlices → GraphSlices
@@ -56,8 +56,8 @@ Foretells D held t c =
     let G = true_graph (graph_on D held) (paths_of (path_list t.listed t.lengths)) in
     c.listed ≡ t.listed
     → c.lengths ≡ t.lengths
-    → (t.answer ≡ NoGraph (refusal 31 0) → ⊥)
-    → (c.answer ≡ NoGraph (refusal 30 0) → ⊥)
-    → (c.answer ≡ NoGraph (refusal 31 0) → ⊥)
+    → (t.answer ≡ Err (refusal 31 0) → ⊥)
+    → (c.answer ≡ Err (refusal 30 0) → ⊥)
+    → (c.answer ≡ Err (refusal 31 0) → ⊥)
     → (c.answer ≡ foretold (room_of c.room) (length G.nodes) t.answer)
     × ((k e : ℕ) → c.answer ≡ Counts k e → FillsJust G k e c.room c.after)

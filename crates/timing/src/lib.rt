@@ -32,108 +32,60 @@ pub struct Refusal {
     pub index: usize,
 }
 
-// What a test answers.
+// What a test answers: that it passes, or its refusal.
+pub type Verdict = Result<(), Refusal>;
+
+// A number that some bytes begin with: its value, and how many bytes it takes.
 #[derive(Clone, Copy)]
-pub enum Verdict {
-    Passed,
-    Refused(Refusal),
+pub struct Groups {
+    pub value: u32,
+    pub size: usize,
 }
 
-// What a test of one path answers: the index within the path of the first edge that fails it (0 where it has
-// none), or that the path passes.
+// Why bytes begin with no number: they end inside it, or it is not shortest or too large.
 #[derive(Clone, Copy)]
-pub enum Fault {
-    At(usize),
-    None,
-}
-
-// The number that some bytes begin with: its value and how many bytes it takes; the bytes end
-// inside it; or it is not shortest or too large.
-#[derive(Clone, Copy)]
-pub enum Groups {
-    Number { value: u32, size: usize },
+pub enum NoNumber {
     Ended,
     Unfit,
 }
 
-// What reading a number at a place answers: its value and the place behind it.
-#[derive(Clone, Copy)]
-pub enum NumberRead {
-    Value { value: u32, next: usize },
-    Refused(Refusal),
-}
-
-// A number and the place behind it, where it is known to stand there.
+// A number that was read at a place, and the place behind it.
 #[derive(Clone, Copy)]
 pub struct Taken {
     pub value: u32,
     pub next: usize,
 }
 
-// How far a look at bytes gets: the place behind what it looked at.
+// What the deck reader finds: n, how many places of each table it filled, and T.
 #[derive(Clone, Copy)]
-pub enum Looked {
-    At(usize),
-    Refused(Refusal),
+pub struct DeckCounts {
+    pub nodes: u32,
+    pub edges: usize,
+    pub listed: usize,
+    pub paths: usize,
+    pub marked: usize,
+    pub allowed: u32,
 }
 
-// What a writer answers: the place behind the last byte that it wrote.
+// How large a true graph is: what a removal, the call that tells its size and the reader of a packed one answer.
 #[derive(Clone, Copy)]
-pub enum Written {
-    End(usize),
-    Refused(Refusal),
+pub struct GraphCounts {
+    pub copies: usize,
+    pub edges: usize,
 }
 
-// What the deck reader answers: n, how many places of each table it filled, and T.
+// The three times of a node, and its earliest arrival.
 #[derive(Clone, Copy)]
-pub enum DeckRead {
-    Deck {
-        nodes: u32,
-        edges: usize,
-        listed: usize,
-        paths: usize,
-        marked: usize,
-        allowed: u32,
-    },
-    Refused(Refusal),
-}
-
-// What a removal, the call that tells its size and the reader of a packed true graph answer.
-#[derive(Clone, Copy)]
-pub enum GraphMade {
-    Counts { copies: usize, edges: usize },
-    Refused(Refusal),
+pub struct NodeTimes {
+    pub arrival: i64,
+    pub required: i64,
+    pub slack: i64,
+    pub earliest: i64,
 }
 
 // "Either its three times or the answer none", and with the times the earliest arrival.
 #[derive(Clone, Copy)]
-pub enum NodeTimes {
-    Times {
-        arrival: i64,
-        required: i64,
-        slack: i64,
-        earliest: i64,
-    },
-    None,
-}
-
-#[derive(Clone, Copy)]
 pub struct NodeRecord {
     pub node: u32,
-    pub times: NodeTimes,
-}
-
-// What the call for a node's record answers.
-#[derive(Clone, Copy)]
-pub enum NodeAnswer {
-    Record(NodeRecord),
-    Refused(Refusal),
-}
-
-// Whether a path takes longer than T: the lowest copy where paths end with an arrival above T, or that nothing is late.
-#[derive(Clone, Copy)]
-pub enum Lateness {
-    Late { copy: usize },
-    OnTime,
-    Refused(Refusal),
+    pub times: Option<NodeTimes>,
 }

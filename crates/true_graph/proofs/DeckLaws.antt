@@ -4,14 +4,13 @@ use native.Mathlib.Omega.{arith}
 use mathlib.Core.Path.{◌≡◌, refl, sym, ap, ◌∙◌, subst}
 use mathlib.Core.Bool.{Bool, true, false, ◌&&◌}
 use mathlib.Core.List.{List, map}
+use Rattle.std.specs.Prelude.{Result, Err}
+use Rattle.timing.specs.Answers.{Verdict, Passed}
+use Rattle.timing.specs.declared.GraphCounts.{GraphCounts}
 use lib.Dec.{T, leb, le→leb}
 use lib.ListN.{length, take, drop, replicate, length-append, length-map, length-take, length-replicate}
 use borrow.Author.Tests.{le-leb}
 use Rattle.timing.specs.declared.Refusal.{Refusal}
-use Rattle.timing.specs.declared.Verdict.{Verdict}
-use Rattle.timing.specs.declared.Verdict.TheVariants.{Passed, Refused}
-use Rattle.timing.specs.declared.Written.{Written}
-use Rattle.timing.specs.declared.GraphMade.{GraphMade}
 use Rattle.timing.specs.Lists.{placed}
 use Rattle.timing.specs.Graphs.{Design, Graph, Edge, design_graph}
 use Rattle.timing.specs.Marks.{PathList, paths_of}
@@ -42,7 +41,7 @@ module _ (D : Design) (L : PathList) (t : ℕ) where
   abbrev r : Removal
   r = removal L program_room 16384
 
-  pub deck_refused : (x : Refusal) → test_deck D L t ≡ Refused x → program_removal (deck_of D L t) ≡ refused x
+  pub deck_refused : (x : Refusal) → test_deck D L t ≡ Err x → program_removal (deck_of D L t) ≡ refused x
   unfolding program_removal
   deck_refused x e = ap (λ (v : Verdict). outcome (v then removal_tests D (design_graph D) r) H) e
 
@@ -89,7 +88,7 @@ Ended (refused x) = Unit {0}
 ended_outcome : (v : Verdict) (G : Graph) (L : List (List ℕ)) → Ended (outcome v (true_graph G L))
 ended_outcome Passed G L =
     (true_sizes G L, all_of_intro (λ x. leb x 1) (true_graph G L).endpoints (λ x m. le→leb x 1 (flag_small G L x m)))
-ended_outcome (Refused x) G L = tt
+ended_outcome (Err x) G L = tt
 
 pub ended_design : (D : Design) (r : Removal) → Ended (remove_from_design D r)
 unfolding remove_from_design
@@ -134,15 +133,15 @@ after_room (made G) e S room s =
 after_room (refused x) e S room s = refl
 
 -- the same of what a removal answers and leaves behind
-module _ (o : Outcome Graph) (ended : Ended o) (r : GraphMade) (S S' : GraphSlices)
+module _ (o : Outcome Graph) (ended : Ended o) (r : Result GraphCounts Refusal) (S S' : GraphSlices)
     (a : Answered o r S.nodes S.endpoints S.starts S.ends S.names S'.nodes S'.endpoints S'.starts S'.ends S'.names) where
   after : S' ≡ rooms_after o S
   after = λ i. graph_slices (a.nodes i) (a.endpoints i) (a.starts i) (a.ends i) (a.names i)
 
   pub made_fits : MadeFits r S'
-  made_fits = subst (λ (x : GraphMade). MadeFits x S') (sym a.answer) (subst (MadeFits (graph_answer o)) (sym after) (after_fits o ended S))
+  made_fits = subst (λ (x : Result GraphCounts Refusal). MadeFits x S') (sym a.answer) (subst (MadeFits (graph_answer o)) (sym after) (after_fits o ended S))
 
-  pub made_written_lem : (o' : Outcome Graph) → o ≡ o' → SmallGraph (graph_answer o) → (room : List ℕ) (w : Written) → w ≡ made_written r S' room → w ≡ c_written o' room
+  pub made_written_lem : (o' : Outcome Graph) → o ≡ o' → SmallGraph (graph_answer o) → (room : List ℕ) (w : Result ℕ Refusal) → w ≡ made_written r S' room → w ≡ c_written o' room
   made_written_lem o' p s room w e = e ∙ (λ i. made_written (a.answer i) (after i) room) ∙ after_written o ended S room s ∙ ap (λ (x : Outcome Graph). c_written x room) p
 
   pub made_room_lem : (o' : Outcome Graph) → o ≡ o' → SmallGraph (graph_answer o) → (room room' : List ℕ) → room' ≡ made_room r S' room → room' ≡ room_after_c o' room

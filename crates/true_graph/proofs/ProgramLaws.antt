@@ -2,11 +2,13 @@
 use Prim.Native.Nat.{ℕ, ◌≤◌, ◌<◌}
 use mathlib.Core.Path.{◌≡◌, refl, sym, ap, ◌∙◌, subst}
 use mathlib.Core.List.{List}
+use Rattle.std.specs.Prelude.{Result}
+use Rattle.timing.specs.declared.DeckCounts.{DeckCounts}
+use Rattle.timing.specs.declared.Refusal.{Refusal}
 use lib.IntN.{ℤ, pos}
 use lib.ListN.{length, take, drop, replicate, length-replicate}
 use lib.Seq.{take-append_seam}
 use borrow.Author.Tests.{le-leb, lt-leb}
-use Rattle.timing.specs.declared.DeckRead.{DeckRead}
 use Rattle.timing.specs.Lists.{placed}
 use Rattle.timing.specs.Graphs.{design, Graph}
 use Rattle.timing.specs.Marks.{path_list}
@@ -54,10 +56,10 @@ program_tables_lem : (s : List ℕ) → tables_read s ≡ parsed (read_deck s pr
 unfolding deck_read
 program_tables_lem s = rw (length-replicate {A = ℕ} 1024 0, length-replicate 1024 (pos 0), length-replicate {A = ℕ} 256 0)
 
-abbrev LentFits : DeckRead → Lent → Type 0
+abbrev LentFits : Result DeckCounts Refusal → Lent → Type 0
 LentFits r K = ReadFits r K.starts K.ends K.early K.late K.marked K.listed K.lengths
 
-abbrev lent_removal : DeckRead → Lent → Outcome Graph
+abbrev lent_removal : Result DeckCounts Refusal → Lent → Outcome Graph
 lent_removal r K = read_removal r K.starts K.ends K.early K.late K.marked K.listed K.lengths
 
 after_fits : (o : Outcome Deck) → EvenRead o → (K : Lent) → LentFits (deck_answer o) (lent_after o K)
@@ -81,7 +83,7 @@ after_removal (made d) e K =
 after_removal (refused x) e K = refl
 
 -- the same of what the reader answers and leaves behind
-module _ (s : List ℕ) (r : DeckRead) (K : Lent) (e : r ≡ deck_answer (tables_read s)) (q : K ≡ lent_after (tables_read s) tables) where
+module _ (s : List ℕ) (r : Result DeckCounts Refusal) (K : Lent) (e : r ≡ deck_answer (tables_read s)) (q : K ≡ lent_after (tables_read s) tables) where
   abbrev o : Outcome Deck
   o = parsed (read_deck s program_tables)
 
@@ -92,7 +94,7 @@ module _ (s : List ℕ) (r : DeckRead) (K : Lent) (e : r ≡ deck_answer (tables
   after = q ∙ ap (λ (x : Outcome Deck). lent_after x tables) (program_tables_lem s)
 
   pub read_fits : LentFits r K
-  read_fits = subst (λ (x : DeckRead). LentFits x K) (sym answer) (subst (LentFits (deck_answer o)) (sym after) (after_fits o (even_read s program_tables) tables))
+  read_fits = subst (λ (x : Result DeckCounts Refusal). LentFits x K) (sym answer) (subst (LentFits (deck_answer o)) (sym after) (after_fits o (even_read s program_tables) tables))
 
   pub read_program : length s ≤ 65536 → lent_removal r K ≡ program s
   read_program h = (λ i. lent_removal (answer i) (after i)) ∙ after_removal o (even_read s program_tables) tables ∙ sym (program_short s h)

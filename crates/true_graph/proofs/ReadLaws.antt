@@ -4,13 +4,14 @@ use native.Mathlib.Omega.{arith}
 use mathlib.Core.Path.{◌≡◌, refl, sym, subst}
 use mathlib.Core.Bool.{Bool, true, false, cond}
 use mathlib.Core.List.{List, ◌∷◌}
+use Rattle.std.specs.Prelude.{Result, Err}
+use Rattle.timing.specs.Answers.{Verdict, Passed, Number}
+use Rattle.timing.specs.declared.Groups.{Groups}
+use Rattle.timing.specs.declared.NoNumber.{NoNumber}
+use Rattle.timing.specs.declared.NoNumber.TheVariants.{Ended, Unfit}
 use lib.Dec.{leb}
 use lib.ListN.{length, drop, length-drop, length-map}
 use borrow.Author.Tests.{leb-true}
-use Rattle.timing.specs.declared.Verdict.{Verdict}
-use Rattle.timing.specs.declared.Verdict.TheVariants.{Passed, Refused}
-use Rattle.timing.specs.declared.Groups.{Groups}
-use Rattle.timing.specs.declared.Groups.TheVariants.{Number, Ended, Unfit}
 use Rattle.timing.specs.Refusals.{refusal, unless, ◌then◌}
 use Rattle.timing.specs.Numbers.{groups_in, number_answer, read_number}
 use Rattle.timing.specs.Delays.{delay_of}
@@ -39,15 +40,15 @@ module _ (s : List ℕ) (few : length s ≤ 65536) where
   unfolding read_number
   within_number at h = go (groups_in 15 4 (drop at s)) (number_inside 15 4 (drop at s))
     where
-      go : (g : Groups) → Inside (drop at s) g → Within (parsed_number (number_answer (length s) at g))
+      go : (g : Result Groups NoNumber) → Inside (drop at s) g → Within (parsed_number (number_answer (length s) at g))
       go (Number v n) i = omega (arith, i.1, length-drop at s)
-      go Ended i = (omega arith, omega arith)
-      go Unfit i = (omega arith, omega arith)
+      go (Err Ended) i = (omega arith, omega arith)
+      go (Err Unfit) i = (omega arith, omega arith)
 
   -- what comes after a test, where it passes
   within_tested : {B : Type 0} (v : Verdict) (at : ℕ) (f : Unit {0} → Reader B) → Small v → (v ≡ Passed → Within (f tt at)) → Within (onward (tested v at) f)
   within_tested Passed at f a k = k refl
-  within_tested (Refused r) at f a k = a
+  within_tested (Err r) at f a k = a
 
   within_count : {B : Type 0} (k n limit table at : ℕ) (f : Unit {0} → Reader B) → k ≤ 36 → Within (f tt at)
       → Within (onward (tested (unless k (leb n limit) then unless 36 (leb n table)) at) f)
@@ -90,7 +91,7 @@ module _ (s : List ℕ) (few : length s ≤ 65536) where
       within_tested (marked_count n k then unless 36 (leb k table)) at f
       (small_then (marked_count n k) (unless 36 (leb k table)) (go (leb k n)) (λ q. small_unless 36 (omega arith) (leb k table))) (λ q. w)
     where
-      go : (b : Bool) → Small (cond b Passed (Refused (refusal 16 n)))
+      go : (b : Bool) → Small (cond b Passed (Err (refusal 16 n)))
       go true = tt
       go false = (omega arith, omega (arith, leb-true n 4096 (unless_passed 10 (leb n 4096) e)))
 

@@ -5,11 +5,11 @@ use native.Mathlib.Omega.{arith}
 use mathlib.Core.Path.{◌≡◌, refl, subst}
 use mathlib.Core.Bool.{Bool, true, false, ◌&&◌}
 use mathlib.Core.List.{List, [], ◌∷◌, Memᴰ}
+use Rattle.std.specs.Prelude.{Err}
+use Rattle.timing.specs.Answers.{Verdict, Passed}
 use lib.Dec.{eqb, leb, leb→le}
 use lib.IntN.{pos}
 use lib.ListN.{length}
-use Rattle.timing.specs.declared.Verdict.{Verdict}
-use Rattle.timing.specs.declared.Verdict.TheVariants.{Passed, Refused}
 use Rattle.timing.specs.Lists.{keep, upto, sum}
 use Rattle.timing.specs.Graphs.{Design, edge_late, Graph, design_graph}
 use Rattle.timing.specs.Marks.{PathList, paths_of}
@@ -60,7 +60,7 @@ small_scratch D G L words = small_unless 31 (omega arith) (leb (scratch_words (c
 -- what is made has passed 33 and 34
 small_made : (R : Room) (H : Graph) (v : Verdict) → Small v → SmallGraph (graph_answer (outcome (v then room_tests R H) H))
 unfolding room_tests
-small_made R H (Refused x) s = s
+small_made R H (Err x) s = s
 small_made R H Passed s = go (leb (length H.nodes) (min R.nodes 16384)) (leb (length H.edges) (min R.starts 65536)) refl refl
   where
     go : (a b : Bool) → leb (length H.nodes) (min R.nodes 16384) ≡ a → leb (length H.edges) (min R.starts 65536) ≡ b
@@ -81,17 +81,17 @@ graph_early D S r =
     design_sizes D then (list_sizes r.list then (graph_sizes S then (room_sizes r.room then (design_tests D then (list_tests D r.list then (graph_test D (graph_of S) then scratch_test D (graph_of S) r.list r.scratch))))))
 
 early_six : (d l o t u s w : Verdict) → ((d then (l then (o then (t then (u then s))))) then w) ≡ (d then (l then (o then (t then (u then (s then w))))))
-early_six (Refused x) l o t u s w = refl
-early_six Passed (Refused x) o t u s w = refl
-early_six Passed Passed (Refused x) t u s w = refl
-early_six Passed Passed Passed (Refused x) u s w = refl
-early_six Passed Passed Passed Passed (Refused x) s w = refl
+early_six (Err x) l o t u s w = refl
+early_six Passed (Err x) o t u s w = refl
+early_six Passed Passed (Err x) t u s w = refl
+early_six Passed Passed Passed (Err x) u s w = refl
+early_six Passed Passed Passed Passed (Err x) s w = refl
 early_six Passed Passed Passed Passed Passed s w = refl
 
 early_eight : (d l g o t u f s w : Verdict)
     → ((d then (l then (g then (o then (t then (u then (f then s))))))) then w) ≡ (d then (l then (g then (o then (t then (u then (f then (s then w))))))))
-early_eight (Refused x) l g o t u f s w = refl
-early_eight Passed (Refused x) g o t u f s w = refl
+early_eight (Err x) l g o t u f s w = refl
+early_eight Passed (Err x) g o t u f s w = refl
 early_eight Passed Passed g o t u f s w = early_six g o t u f s w
 
 pub small_list_sizes : (L : PathList) → Small (list_sizes L)
@@ -165,7 +165,7 @@ small_late D S T a =
 
     go : (v : Verdict) → timing_tests D S T (same_sizes (length S.nodes) (length S.nodes) a) ≡ v → Small v
         → SmallLateness (lowest_late v (late_copies (edge_late D) (pos T) (graph_of S)))
-    go (Refused x) e s = s
+    go (Err x) e s = s
     go Passed e s =
         let w = (timing_passed D S T (same_sizes (length S.nodes) (length S.nodes) a) e).well in
         few (late_at (edge_late D) (pos T) (graph_of S)) (late_copies (edge_late D) (pos T) (graph_of S)) (length S.nodes) refl

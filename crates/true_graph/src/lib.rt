@@ -13,20 +13,20 @@ use deck_reader::read_deck;
 use graph_writer::write_graph;
 use removal::remove_from_design;
 use sizes::scratch_test;
-use timing::{DeckRead, GraphMade, MAX_DECK_BYTES, Verdict, Written};
+use timing::{DeckCounts, GraphCounts, MAX_DECK_BYTES, Refusal};
 use unfit::test_deck;
 use verdicts::refuse;
 
 // Packs the graph that was made, which stands in front of its five slices, into the room.
 fn write_made(
-    made: GraphMade,
+    made: Result<GraphCounts, Refusal>,
     nodes: &[u32],
     endpoint: &[u32],
     from: &[u32],
     to: &[u32],
     via: &[u32],
     room: &mut [u8],
-) -> Written
+) -> Result<usize, Refusal>
     requires { MadeFits made (graph_slices nodes.now endpoint.now from.now to.now via.now) }
     ensures { let S = graph_slices nodes.now endpoint.now
         from.now to.now via.now in
@@ -34,8 +34,8 @@ fn write_made(
         × (room.new ≡ made_room made S room.old) }
 {
     match made {
-        GraphMade::Refused(r) => Written::Refused(r),
-        GraphMade::Counts { copies, edges } => write_graph(
+        Err(r) => Err(r),
+        Ok(GraphCounts { copies, edges }) => write_graph(
             &nodes[..copies],
             &endpoint[..copies],
             &from[..edges],
@@ -61,7 +61,7 @@ fn remove_in_whole(
     room_from: &mut [u32],
     room_to: &mut [u32],
     room_via: &mut [u32],
-) -> GraphMade
+) -> Result<GraphCounts, Refusal>
     ensures { let D = design n starts.now ends.now early.now late.now
         marked.now in
         let L = path_list listed.now lengths.now in
@@ -107,7 +107,7 @@ fn remove_in_half(
     room_from: &mut [u32],
     room_to: &mut [u32],
     room_via: &mut [u32],
-) -> GraphMade
+) -> Result<GraphCounts, Refusal>
     ensures { let D = design n starts.now ends.now early.now late.now
         marked.now in
         let L = path_list listed.now lengths.now in
@@ -154,7 +154,7 @@ fn remove_tested(
     room_from: &mut [u32],
     room_to: &mut [u32],
     room_via: &mut [u32],
-) -> GraphMade
+) -> Result<GraphCounts, Refusal>
     requires { Tested (design n starts.now ends.now early.now late.now marked.now)
         (path_list listed.now lengths.now) }
     ensures { let D = design n starts.now ends.now early.now late.now
@@ -171,7 +171,7 @@ fn remove_tested(
     let candidates = n as usize + listed.len() - lengths.len();
     let half = scratch_test(8192, candidates, listed.len(), starts.len());
     match half {
-        Verdict::Passed => remove_in_half(
+        Ok(()) => remove_in_half(
             n,
             starts,
             ends,
@@ -186,7 +186,7 @@ fn remove_tested(
             room_to,
             room_via,
         ),
-        Verdict::Refused(_) => remove_in_whole(
+        Err(_) => remove_in_whole(
             n,
             starts,
             ends,
@@ -215,7 +215,7 @@ fn pack_graph(
     listed: &[u32],
     lengths: &[u32],
     room: &mut [u8],
-) -> Written
+) -> Result<usize, Refusal>
     requires { Tested (design n starts.now ends.now early.now late.now marked.now)
         (path_list listed.now lengths.now) }
     ensures { let D = design n starts.now ends.now early.now late.now
@@ -268,7 +268,7 @@ fn pack_tested(
     lengths: &[u32],
     allowed: u32,
     room: &mut [u8],
-) -> Written
+) -> Result<usize, Refusal>
     ensures { let D = design n starts.now ends.now early.now late.now
         marked.now in
         let L = path_list listed.now lengths.now in
@@ -279,15 +279,15 @@ fn pack_tested(
     let verdict = test_deck(
         n, starts, ends, early, late, marked, listed, lengths, allowed,
     );
-    if let Verdict::Refused(r) = verdict {
-        return Written::Refused(r);
+    if let Err(r) = verdict {
+        return Err(r);
     }
     pack_graph(n, starts, ends, early, late, marked, listed, lengths, room)
 }
 
 // The same for a deck that was read into tables: it stands in front of them.
 fn pack_read(
-    read: DeckRead,
+    read: Result<DeckCounts, Refusal>,
     starts: &[u32],
     ends: &[u32],
     early: &[i32],
@@ -296,7 +296,7 @@ fn pack_read(
     listed: &[u32],
     lengths: &[u32],
     room: &mut [u8],
-) -> Written
+) -> Result<usize, Refusal>
     requires { ReadFits read starts.now ends.now early.now late.now marked.now listed.now lengths.now }
     ensures { let o = read_removal read starts.now ends.now
         early.now late.now marked.now listed.now lengths.now in
@@ -304,15 +304,15 @@ fn pack_read(
         × (room.new ≡ room_after_c o room.old) }
 {
     match read {
-        DeckRead::Refused(r) => Written::Refused(r),
-        DeckRead::Deck {
+        Err(r) => Err(r),
+        Ok(DeckCounts {
             nodes,
             edges,
             listed: count,
             paths,
             marked: marked_nodes,
             allowed,
-        } => pack_tested(
+        }) => pack_tested(
             nodes,
             &starts[..edges],
             &ends[..edges],
@@ -328,13 +328,13 @@ fn pack_read(
 }
 
 // Packs the true graph of a packed deck into the room, in the program's tables. 4 is tested before all.
-pub fn pack(deck: &[u8], room: &mut [u8]) -> Written
+pub fn pack(deck: &[u8], room: &mut [u8]) -> Result<usize, Refusal>
     ensures { let o = program deck.now in
         (result ≡ c_written o room.old)
         × (room.new ≡ room_after_c o room.old) }
 {
     if MAX_DECK_BYTES < deck.len() {
-        return Written::Refused(refuse(4, MAX_DECK_BYTES));
+        return Err(refuse(4, MAX_DECK_BYTES));
     }
     let mut starts = [0; 1024];
     let mut ends = [0; 1024];

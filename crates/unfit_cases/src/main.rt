@@ -18,8 +18,8 @@ const BLOCKS: u32 = 3;
 
 fn say<W: Write>(out: &mut W, v: Verdict) -> Result<()> {
     match v {
-        Verdict::Passed => text(out, b"passed")?,
-        Verdict::Refused(r) => refused(out, r)?,
+        Ok(()) => text(out, b"passed")?,
+        Err(r) => refused(out, r)?,
     }
     text(out, b"\n")
 }

@@ -1,13 +1,14 @@
 // Refusals, and tests one after the other: the first that does not pass is the verdict.
 #![tactic(auto)]
 
-ghost use Rattle.std.specs.Prelude.{◌≡◌};
-ghost use Rattle.timing.specs.Refusals.{refusal, refusal_within, unless_fault, ◌then◌};
+ghost use Rattle.std.specs.Prelude.{◌≡◌, ℕ, ◌<◌, Bool};
+ghost use Rattle.timing.specs.Lists.{upto};
+ghost use Rattle.timing.specs.Refusals.{refusal, refusal_within, unless_fault, first_bad, ◌then◌};
 ghost use Rattle.timing.specs.Refusals.{unless as passed_if};
 ghost use Rattle.timing.specs.WellFormed.{zero_or_one};
 ghost use Rattle.timing.specs.Tests.{same_sizes, marked_count, room_sizes};
 
-use timing::{Fault, Refusal, Verdict};
+use timing::{Refusal, Verdict};
 
 // Every refusal is made here.
 pub fn refuse_within(number: u32, place: usize, index: usize) -> Refusal
@@ -31,30 +32,24 @@ pub fn refuse(number: u32, place: usize) -> Refusal
 pub fn unless(number: u32, fit: bool) -> Verdict
     ensures { result ≡ passed_if number fit }
 {
-    if fit {
-        Verdict::Passed
-    } else {
-        Verdict::Refused(refuse(number, 0))
-    }
+    if fit { Ok(()) } else { Err(refuse(number, 0)) }
 }
 
 // A further test whose place is 0, after those that gave the verdict.
 pub fn and_unless(before: Verdict, number: u32, fit: bool) -> Verdict
     ensures { result ≡ (before then passed_if number fit) }
 {
-    let Verdict::Passed = before else {
-        return before;
-    };
+    before?;
     unless(number, fit)
 }
 
 // A test of one path, from where its first fault is; `place` says which path.
-pub fn unless_fault(number: u32, place: usize, fault: Fault) -> Verdict
+pub fn unless_fault(number: u32, place: usize, fault: Option<usize>) -> Verdict
     ensures { result ≡ unless_fault number place fault }
 {
     match fault {
-        Fault::At(index) => Verdict::Refused(refuse_within(number, place, index)),
-        Fault::None => Verdict::Passed,
+        Some(index) => Err(refuse_within(number, place, index)),
+        None => Ok(()),
     }
 }
 
@@ -62,20 +57,14 @@ pub fn unless_fault(number: u32, place: usize, fault: Fault) -> Verdict
 pub fn then(first: Verdict, next: Verdict) -> Verdict
     ensures { result ≡ (first then next) }
 {
-    match first {
-        Verdict::Passed => next,
-        Verdict::Refused(r) => Verdict::Refused(r),
-    }
+    first.and(next)
 }
 
 // 30 for three lent slices that belong together, by their lengths.
 pub fn same_sizes(a: usize, b: usize, c: usize) -> Verdict
     ensures { result ≡ same_sizes a b c }
 {
-    if a == b {
-        return unless(30, a == c);
-    }
-    unless(30, false)
+    unless(30, a == b && a == c)
 }
 
 // 30 for the five slices of a graph, or of a room for one, by their lengths.
@@ -93,9 +82,9 @@ pub fn marked_count(n: u32, count: usize) -> Verdict
 {
     let n = n as usize;
     if count <= n {
-        Verdict::Passed
+        Ok(())
     } else {
-        Verdict::Refused(refuse(16, n))
+        Err(refuse(16, n))
     }
 }
 
@@ -104,10 +93,22 @@ pub fn zero_or_one(endpoint: &[u32]) -> bool
     ensures { result ≡ zero_or_one endpoint.now }
 {
     let mut pass = true;
-    let mut c = 0;
-    while c < endpoint.len() {
-        pass = pass & (endpoint[c] <= 1);
-        c += 1;
+    for e in endpoint {
+        pass &= *e <= 1;
     }
     pass
+}
+
+// A test over everything: the place is that of the first that is bad.
+pub fn first_bad<F: Fn(usize) -> bool>(number: u32, count: usize, bad: F) -> Verdict
+    requires { F.IsAlwaysCallable bad }
+    ensures { (b : ℕ → Bool) → ((k : ℕ) (r : Bool) → k < count → F.post bad k r → r ≡ b k)
+        → result ≡ first_bad number b 0 (upto count 0) }
+{
+    for k in 0..count {
+        if bad(k) {
+            return Err(refuse(number, k));
+        }
+    }
+    Ok(())
 }

@@ -1,6 +1,6 @@
 use mathlib.Core.Path.{refl, ◌∙◌, ap}
+use Rattle.timing.specs.Answers.{Verdict}
 use lib.ListN.{length}
-use Rattle.timing.specs.declared.Verdict.{Verdict}
 use Rattle.timing.specs.Lists.{upto}
 use Rattle.timing.specs.Refusals.{◌then◌, first_bad}
 use Rattle.timing.specs.Graphs.{design}

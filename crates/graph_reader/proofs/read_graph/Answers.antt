@@ -1,8 +1,8 @@
 -- The room's slices differ; or the look refuses; or it passes and the fill puts the graph into the room.
 -- the room, and that its slices are as long as they should be
 use mathlib.Core.Path.{◌≡◌, sym, ◌∙◌}
+use Rattle.timing.specs.Answers.{Passed}
 use lib.ListN.{length}
-use Rattle.timing.specs.declared.Verdict.TheVariants.{Passed}
 use Rattle.timing.specs.Tests.{room_sizes}
 use Rattle.timing.specs.Calls.{graph_slices, room_of}
 use Rattle.graph_reader.proofs.Made.{graph_read_lem, rooms_fit, answers_refused, answers_made, sizes_passed, sizes_refused, read_stopped}

@@ -1,8 +1,8 @@
 -- The tests refuse; or the graph is too long; or it is written whole.
 -- the graph that is written, and its tests
 use mathlib.Core.Path.{◌≡◌, sym, ◌∙◌}
+use Rattle.timing.specs.Answers.{Passed}
 use borrow.Author.Tests.{leb-true, leb-false}
-use Rattle.timing.specs.declared.Verdict.TheVariants.{Passed}
 use Rattle.timing.specs.Calls.{graph_slices, graph_of, graph_write_tests}
 use Rattle.graph_writer.specs.Writing.{Fits}
 use Rattle.graph_writer.proofs.Writing.{tests_are, tests_fit, write_done}

@@ -1,6 +1,6 @@
 -- The tests, and what follows from their answer.
 use mathlib.Core.Path.{◌∙◌, ap}
-use Rattle.timing.specs.declared.Verdict.{Verdict}
+use Rattle.timing.specs.Answers.{Verdict}
 use Rattle.timing.specs.Graphs.{design}
 use Rattle.timing.specs.Calls.{graph_slices, timing_tests, test_late, late_answer, late_or_not, arrivals_after_late}
 use Rattle.late.proofs.late_or_not.Goals as goal

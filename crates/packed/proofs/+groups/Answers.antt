@@ -3,12 +3,15 @@ use Prim.Native.Nat.{ℕ, suc, ◌+◌, ◌-◌, ◌*◌, ◌<◌, ◌≤◌}
 use native.Mathlib.Omega.{arith}
 use mathlib.Core.Path.{◌≡◌, refl, sym, ◌∙◌, subst}
 use mathlib.Core.List.{List}
+use Rattle.std.specs.Prelude.{Result, Ok, Err}
+use Rattle.timing.specs.Answers.{Number}
+use Rattle.timing.specs.declared.Groups.{Groups}
+use Rattle.timing.specs.declared.NoNumber.{NoNumber}
+use Rattle.timing.specs.declared.NoNumber.TheVariants.{Ended, Unfit}
 use mir.Syntax.{w8}
 use mir.Val.{Fits}
 use lib.ListN.{get_or, drop}
 use borrow.Author.Tests.{lt-ltb, le-ltb, le-leb, lt-leb, eq-eqb, ne_eqb}
-use Rattle.timing.specs.declared.Groups.{Groups}
-use Rattle.timing.specs.declared.Groups.TheVariants.{Number, Ended, Unfit}
 use Rattle.timing.specs.Numbers.{followed, groups_in}
 use Rattle.packed.proofs.Numbers.{cap, Below, number_below, bytes_drop, cap_le, number_end, number_last, number_step}
 use Rattle.packed.proofs.+groups.Goals as goal
@@ -17,15 +20,15 @@ use Rattle.packed.proofs.+groups.Goals as goal
 range_of : (s : List ℕ) → ((i : ℕ) → Fits w8 (get_or s i 0)) → (at g : ℕ) → 1 ≤ g → g ≤ 4 → (v n : ℕ) → Number v n ≡ groups_in 15 (g - 1) (drop (at + 1) s) → (128 * v + 127 < 4294967296) × (n ≤ 5)
 unfolding cap
 range_of s bytes at g h k v n q =
-    let b : Below (cap 15 (g - 1)) (g - 1) (Number v n) = subst (λ (r : Groups). Below (cap 15 (g - 1)) (g - 1) r) (sym q) (number_below 15 (g - 1) (drop (at + 1) s) (bytes_drop s (at + 1) (λ i. (bytes i).fits))) in
+    let b : Below (cap 15 (g - 1)) (g - 1) (Number v n) = subst (λ (r : Result Groups NoNumber). Below (cap 15 (g - 1)) (g - 1) r) (sym q) (number_below 15 (g - 1) (drop (at + 1) s) (bytes_drop s (at + 1) (λ i. (bytes i).fits))) in
     let l : cap 15 (suc (g - 1)) ≤ 4294967296 = cap_le (suc (g - 1)) (omega arith) in
     (omega (arith, b.0), omega (arith, b.1))
 
 -- what is no number stays what it is
-kept : (b : ℕ) (r : Groups) → ((v n : ℕ) → r ≡ Number v n → ⊥) → r ≡ followed b r
-kept b (Number v n) h = absurd (h v n refl)
-kept b Ended h = refl
-kept b Unfit h = refl
+kept : (b : ℕ) (r : Result Groups NoNumber) → ((v n : ℕ) → r ≡ Number v n → ⊥) → r ≡ followed b r
+kept b (Ok m) h = absurd (h m.value m.size refl)
+kept b (Err Ended) h = refl
+kept b (Err Unfit) h = refl
 
 pub returns-then-s-at : goal.returns-then-s-at
 returns-then-s-at t c = sym (number_end 15 c.args.g c.args.s.now c.args.at c.if-s-at.true)

@@ -1,9 +1,9 @@
 -- The answer follows from what the groups gave, case by case.
 use native.Mathlib.Omega.{arith}
 use mathlib.Core.Path.{sym, ◌∙◌, ap}
+use Rattle.std.specs.Prelude.{Err}
+use Rattle.timing.specs.Answers.{Number}
 use lib.ListN.{length, drop, length-drop}
-use Rattle.timing.specs.declared.Groups.TheVariants.{Number}
-use Rattle.timing.specs.declared.NumberRead.TheVariants.{Refused}
 use Rattle.timing.specs.Numbers.{number_answer, read_number}
 use Rattle.packed.proofs.Numbers.{Inside, number_inside}
 use Rattle.packed.proofs.read_groups.Goals as goal
@@ -23,11 +23,11 @@ returns-in-Number c =
 pub returns-in-Ended : goal.returns-in-Ended
 unfolding read_number
 returns-in-Ended c =
-    ap Refused c.refuse.ensures
+    ap Err c.refuse.ensures
     ∙ ap (number_answer (length c.args.s.now) c.args.at) (sym c.in-Ended.is ∙ c.groups-found.ensures)
 
 pub returns-in-Unfit : goal.returns-in-Unfit
 unfolding read_number
 returns-in-Unfit c =
-    ap Refused c.refuse-in-Unfit.ensures
+    ap Err c.refuse-in-Unfit.ensures
     ∙ ap (number_answer (length c.args.s.now) c.args.at) (sym c.in-Unfit.is ∙ c.groups-found.ensures)

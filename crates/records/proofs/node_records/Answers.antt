@@ -2,9 +2,9 @@
 use mathlib.Core.Path.{◌≡◌}
 use Prim.Native.Nat.{ℕ}
 use mathlib.Core.List.{List}
+use Rattle.timing.specs.Answers.{Verdict}
 use lib.IntN.{ℤ}
 use lib.ListN.{length}
-use Rattle.timing.specs.declared.Verdict.{Verdict}
 use Rattle.timing.specs.Calls.{test_records, has_times, arrival_of, required_of, slack_of, earliest_of, records_after}
 use Rattle.timing.proofs.Verdicts.{after_told}
 use Rattle.records.proofs.node_records.Goals as goal

@@ -4,14 +4,12 @@ use native.Mathlib.Omega.{arith}
 use mathlib.Core.Path.{◌≡◌, refl, sym, ap, ◌∙◌, subst}
 use mathlib.Core.Bool.{Bool, true, false}
 use mathlib.Core.List.{List, [], ◌∷◌, map, flat_map}
+use Rattle.std.specs.Prelude.{Result, Err}
+use Rattle.timing.specs.Answers.{Verdict, Passed, Counts}
+use Rattle.timing.specs.declared.GraphCounts.{GraphCounts}
 use lib.Dec.{leb, leb→le, le→leb}
 use lib.ListN.{length, take, replicate}
 use Rattle.timing.specs.declared.Refusal.{Refusal}
-use Rattle.timing.specs.declared.Verdict.{Verdict}
-use Rattle.timing.specs.declared.Verdict.TheVariants.{Passed, Refused}
-use Rattle.timing.specs.declared.GraphMade.{GraphMade}
-use Rattle.timing.specs.declared.GraphMade.TheVariants.{Counts}
-use Rattle.timing.specs.declared.GraphMade.TheVariants.{Refused as NoGraph}
 use Rattle.timing.specs.Lists.{one_if, keep, upto}
 use Rattle.timing.specs.Graphs.{Design, Graph, graph, edges_in, node_of, starts_at, runs_from, complete_runs, names}
 use Rattle.timing.specs.Marks.{PathList, paths_of, path_list, permitted}
@@ -38,17 +36,17 @@ use Rattle.removal.proofs.Building.CountLaws.{list_countable, copies_countable}
 use Rattle.removal.proofs.Whole.RemoveLaws.{copies_are, edges_are, shown_within}
 
 -- an answer tells whether 33 and 34 passed
-pub answer_refused : (v : Verdict) (copies edges : ℕ) (r : Refusal) → counts_answer v copies edges ≡ NoGraph r → v ≡ Refused r
+pub answer_refused : (v : Verdict) (copies edges : ℕ) (r : Refusal) → counts_answer v copies edges ≡ Err r → v ≡ Err r
 answer_refused Passed copies edges r e = absurd (let z : ◌≡◌ {A = ℕ} 0 1 = cc in omega arith)
-answer_refused (Refused x) copies edges r e = cc
+answer_refused (Err x) copies edges r e = cc
 
 pub answer_passed : (v : Verdict) (copies edges c e : ℕ) → counts_answer v copies edges ≡ Counts c e → v ≡ Passed
 answer_passed Passed copies edges c e q = refl
-answer_passed (Refused x) copies edges c e q = absurd (let z : ◌≡◌ {A = ℕ} 0 1 = cc in omega arith)
+answer_passed (Err x) copies edges c e q = absurd (let z : ◌≡◌ {A = ℕ} 0 1 = cc in omega arith)
 
 answer_of : (v : Verdict) (H : Graph) → counts_answer v (length H.nodes) (length H.edges) ≡ graph_answer (outcome v H)
 answer_of Passed H = refl
-answer_of (Refused r) H = refl
+answer_of (Err r) H = refl
 
 pub counts_fit : (copies edges nodes starts : ℕ) → count_tests copies edges nodes starts ≡ Passed → (copies ≤ nodes) × (edges ≤ starts)
 counts_fit copies edges nodes starts e =
@@ -78,16 +76,16 @@ module _ (l : Layout) (nodes endpoint s t : List ℕ) (copies edges : ℕ) (x : 
     tests = count_tests copies edges (length room-nodes) (length room-from)
 
     -- a refusal changes nothing
-    pub room_refused : (r : Refusal) → counts_answer tests copies edges ≡ NoGraph r
-        → RoomAnswered l nodes endpoint s (NoGraph r) room-nodes room-endpoint room-from room-to room-via room-nodes room-endpoint room-from room-to room-via
+    pub room_refused : (r : Refusal) → counts_answer tests copies edges ≡ Err r
+        → RoomAnswered l nodes endpoint s (Err r) room-nodes room-endpoint room-from room-to room-via room-nodes room-endpoint room-from room-to room-via
     unfolding RoomAnswered
     room_refused r e D L G y q ends into =
-        subst (λ (v : Verdict). Answered (outcome v (true_graph G (paths_of L))) (NoGraph r) room-nodes room-endpoint room-from room-to room-via room-nodes room-endpoint room-from room-to room-via)
+        subst (λ (v : Verdict). Answered (outcome v (true_graph G (paths_of L))) (Err r) room-nodes room-endpoint room-from room-to room-via room-nodes room-endpoint room-from room-to room-via)
         (sym (answer_refused tests copies edges r e) ∙ tests_are R D L G y ends into)
         (record { answer = refl; nodes = refl; endpoints = refl; starts = refl; ends = refl; names = refl })
 
     -- and else the result is in the room
-    pub room_made : tests ≡ Passed → (r : GraphMade) → r ≡ counts_answer tests copies edges → (room-nodes' room-endpoint' room-from' room-to' room-via' u : List ℕ) → take l.slots u ≡ take l.slots s
+    pub room_made : tests ≡ Passed → (r : Result GraphCounts Refusal) → r ≡ counts_answer tests copies edges → (room-nodes' room-endpoint' room-from' room-to' room-via' u : List ℕ) → take l.slots u ≡ take l.slots s
         → ResultFilled l nodes endpoint u room-nodes room-endpoint room-from room-to room-via room-nodes' room-endpoint' room-from' room-to' room-via'
         → RoomAnswered l nodes endpoint s r room-nodes room-endpoint room-from room-to room-via room-nodes' room-endpoint' room-from' room-to' room-via'
     unfolding RoomAnswered ResultFilled
@@ -138,7 +136,7 @@ module _ (starts listed lengths nodes endpoint from to via s t t' : List ℕ) (l
   scratch_zero : (R : Room) → t' ≡ scratch_after (room_outcome L G R) s
   scratch_zero R = z ∙ ap (λ (n : ℕ). replicate n 0) f.size ∙ zeros s ∙ room_scratch R (true_graph G (paths_of L)) s
 
-  pub search_removed : (room-nodes room-endpoint room-from room-to room-via room-nodes' room-endpoint' room-from' room-to' room-via' : List ℕ) (r : GraphMade)
+  pub search_removed : (room-nodes room-endpoint room-from room-to room-via room-nodes' room-endpoint' room-from' room-to' room-via' : List ℕ) (r : Result GraphCounts Refusal)
       → RoomAnswered l nodes endpoint t r room-nodes room-endpoint room-from room-to room-via room-nodes' room-endpoint' room-from' room-to' room-via'
       → Removed (room_outcome L G (room_of (graph_slices room-nodes room-endpoint room-from room-to room-via))) r room-nodes room-endpoint room-from room-to room-via s room-nodes' room-endpoint' room-from' room-to' room-via' t'
   unfolding RoomAnswered
@@ -148,7 +146,7 @@ module _ (starts listed lengths nodes endpoint from to via s t t' : List ℕ) (l
         scratch = scratch_zero (room_of (graph_slices room-nodes room-endpoint room-from room-to room-via));
       }
 
-  pub search_sized : (R : Room) (r : GraphMade) (u : List ℕ) (copies edges : ℕ) → AllShown l t u copies edges → r ≡ counts_answer (count_tests copies edges R.nodes R.starts) copies edges → Sized (room_outcome L G R) r s t'
+  pub search_sized : (R : Room) (r : Result GraphCounts Refusal) (u : List ℕ) (copies edges : ℕ) → AllShown l t u copies edges → r ≡ counts_answer (count_tests copies edges R.nodes R.starts) copies edges → Sized (room_outcome L G R) r s t'
   search_sized R r u copies edges shown e =
       (e ∙ answer_is l nodes endpoint t u copies edges f.all shown R D L G (f.tabled D L G w.given) w.endpoints w.given.into, scratch_zero R)
 
@@ -211,22 +209,22 @@ module _ (starts listed lengths nodes endpoint from to via : List ℕ) where
     words_are v e p = subst (λ (x : Verdict). P (outcome (x then room_tests R (true_graph G (paths_of L))) (true_graph G (paths_of L)))) (sym e ∙ scratch_is s D L G w) p
 
   -- a refusal by 31 leaves the scratch
-  kept : (s : List ℕ) (r : Refusal) → words s ≡ Refused r → s ≡ scratch_after {A = Graph} (refused r) s
+  kept : (s : List ℕ) (r : Refusal) → words s ≡ Err r → s ≡ scratch_after {A = Graph} (refused r) s
   kept s r f = ap (λ (x : Refusal). scratch_after {A = Graph} (refused x) s) (unless_refused 31 (leb (scratch_words count (length listed) (length from)) (length s)) r f)
 
   module _ (s : List ℕ) where
-    pub removed_refused : (r : Refusal) (t : List ℕ) → words s ≡ Refused r → t ≡ s → (room-nodes room-endpoint room-from room-to room-via : List ℕ)
-        → AllRemoved starts listed lengths nodes endpoint from to via (NoGraph r) room-nodes room-endpoint room-from room-to room-via s room-nodes room-endpoint room-from room-to room-via t
+    pub removed_refused : (r : Refusal) (t : List ℕ) → words s ≡ Err r → t ≡ s → (room-nodes room-endpoint room-from room-to room-via : List ℕ)
+        → AllRemoved starts listed lengths nodes endpoint from to via (Err r) room-nodes room-endpoint room-from room-to room-via s room-nodes room-endpoint room-from room-to room-via t
     unfolding AllRemoved
     removed_refused r t f q room-nodes room-endpoint room-from room-to room-via D L G w =
-        words_are (λ o. Removed o (NoGraph r) room-nodes room-endpoint room-from room-to room-via s room-nodes room-endpoint room-from room-to room-via t)
-        (room_of (graph_slices room-nodes room-endpoint room-from room-to room-via)) s D L G w (Refused r) f
+        words_are (λ o. Removed o (Err r) room-nodes room-endpoint room-from room-to room-via s room-nodes room-endpoint room-from room-to room-via t)
+        (room_of (graph_slices room-nodes room-endpoint room-from room-to room-via)) s D L G w (Err r) f
         (record { answered = record { answer = refl; nodes = refl; endpoints = refl; starts = refl; ends = refl; names = refl }; scratch = q ∙ kept s r f })
 
-    pub sized_refused : (r : Refusal) (t : List ℕ) → words s ≡ Refused r → t ≡ s → AllSized starts listed lengths nodes endpoint from to via (NoGraph r) s t
+    pub sized_refused : (r : Refusal) (t : List ℕ) → words s ≡ Err r → t ≡ s → AllSized starts listed lengths nodes endpoint from to via (Err r) s t
     unfolding AllSized
     sized_refused r t f q D L G w =
-        words_are (λ o. Sized o (NoGraph r) s t) largest_room s D L G w (Refused r) f (refl, q ∙ kept s r f)
+        words_are (λ o. Sized o (Err r) s t) largest_room s D L G w (Err r) f (refl, q ∙ kept s r f)
 
     -- without a copy nothing is found, and the result is empty
     module _ (t t' : List ℕ) (enough : words s ≡ Passed) (none : length nodes ≡ 0) (same : t ≡ s) (z : t' ≡ replicate (length t) 0) where
@@ -253,7 +251,7 @@ module _ (starts listed lengths nodes endpoint from to via : List ℕ) where
           (subst (λ (H : Graph). Sized (outcome (count_tests (length H.nodes) (length H.edges) 16384 65536) H) (Counts 0 0) s t') (sym (empty D L G w))
           (subst (λ (v : Verdict). Sized (outcome v (graph [] [] [])) (Counts 0 0) s t') (sym (none_fit 16384 65536)) (refl, cleared)))
 
-    module _ (t t' : List ℕ) (l : Layout) (enough : words s ≡ Passed) (f : Found starts listed lengths nodes endpoint from to via s t l) (z : t' ≡ replicate (length t) 0) (r : GraphMade) where
+    module _ (t t' : List ℕ) (l : Layout) (enough : words s ≡ Passed) (f : Found starts listed lengths nodes endpoint from to via s t l) (z : t' ≡ replicate (length t) 0) (r : Result GraphCounts Refusal) where
       pub removed_made : (room-nodes room-endpoint room-from room-to room-via room-nodes' room-endpoint' room-from' room-to' room-via' : List ℕ)
           → RoomAnswered l nodes endpoint t r room-nodes room-endpoint room-from room-to room-via room-nodes' room-endpoint' room-from' room-to' room-via'
           → AllRemoved starts listed lengths nodes endpoint from to via r room-nodes room-endpoint room-from room-to room-via s room-nodes' room-endpoint' room-from' room-to' room-via' t'

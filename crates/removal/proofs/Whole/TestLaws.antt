@@ -5,15 +5,14 @@ use native.Mathlib.Decide.{dec_lt}
 use mathlib.Core.Path.{◌≡◌, refl, sym, ap, ◌∙◌, subst}
 use mathlib.Core.Bool.{Bool, cond}
 use mathlib.Core.List.{List, [], ◌∷◌, map}
+use Rattle.std.specs.Prelude.{Result, Err}
+use Rattle.timing.specs.Answers.{Verdict, Passed}
+use Rattle.timing.specs.declared.GraphCounts.{GraphCounts}
 use lib.Dec.{leb, leb→le}
 use lib.IntN.{ℤ}
 use lib.ListN.{length, get_or, set, take, replicate, length-map, length-replicate, get_or-replicate}
 use lib.Seq.{get_or-set_same, get_or-set_other}
 use Rattle.timing.specs.declared.Refusal.{Refusal}
-use Rattle.timing.specs.declared.GraphMade.{GraphMade}
-use Rattle.timing.specs.declared.GraphMade.TheVariants.{Refused as NoGraph}
-use Rattle.timing.specs.declared.Verdict.{Verdict}
-use Rattle.timing.specs.declared.Verdict.TheVariants.{Passed, Refused}
 use Rattle.timing.specs.Lists.{one_if, upto}
 use Rattle.timing.specs.Graphs.{Design, design, Graph, is_endpoint, design_graph, edges_of}
 use Rattle.timing.specs.Marks.{PathList, paths_of, path_list}
@@ -35,21 +34,21 @@ use Rattle.removal.proofs.Showing.IntoLaws.{design_into, formed_into, length_edg
 
 -- the tests as they are called, one verdict handed on to the next, are those of the definitions
 pub list_chain : (d l o t u : Verdict) → ((((d then l) then o) then t) then u) ≡ (d then (l then (o then (t then u))))
-list_chain (Refused x) l o t u = refl
-list_chain Passed (Refused x) o t u = refl
-list_chain Passed Passed (Refused x) t u = refl
-list_chain Passed Passed Passed (Refused x) u = refl
+list_chain (Err x) l o t u = refl
+list_chain Passed (Err x) o t u = refl
+list_chain Passed Passed (Err x) t u = refl
+list_chain Passed Passed Passed (Err x) u = refl
 list_chain Passed Passed Passed Passed u = refl
 
 -- 10 passes where 32 is tested
 graph_chain : (d l g o t u c w : Verdict) → (t ≡ Passed → c ≡ Passed)
     → ((d then (l then ((g then o) then (t then u)))) then (c then w)) ≡ (d then (l then (g then (o then (t then (u then w))))))
-graph_chain (Refused x) l g o t u c w f = refl
-graph_chain Passed (Refused x) g o t u c w f = refl
-graph_chain Passed Passed (Refused x) o t u c w f = refl
-graph_chain Passed Passed Passed (Refused x) t u c w f = refl
-graph_chain Passed Passed Passed Passed (Refused x) u c w f = refl
-graph_chain Passed Passed Passed Passed Passed (Refused x) c w f = refl
+graph_chain (Err x) l g o t u c w f = refl
+graph_chain Passed (Err x) g o t u c w f = refl
+graph_chain Passed Passed (Err x) o t u c w f = refl
+graph_chain Passed Passed Passed (Err x) t u c w f = refl
+graph_chain Passed Passed Passed Passed (Err x) u c w f = refl
+graph_chain Passed Passed Passed Passed Passed (Err x) c w f = refl
 graph_chain Passed Passed Passed Passed Passed Passed c w f = ap (λ (v : Verdict). v then w) (f refl)
 
 pub graph_called : (n : ℕ) (starts ends : List ℕ) (early late : List ℤ) (marked : List ℕ) (L : PathList) (g o : Verdict) (G : Graph)
@@ -83,7 +82,7 @@ rooms_alike room-nodes room-endpoint room-from room-to room-via e =
     let z = room_passed (room_of (graph_slices room-nodes room-endpoint room-from room-to room-via)) e in (z.0, (z.1, z.2))
 
 -- an answer, the room and the scratch, as the contracts state them
-abbrev pub Stated : Outcome Graph → GraphMade → List ℕ → List ℕ → List ℕ → List ℕ → List ℕ → List ℕ → List ℕ → List ℕ → List ℕ → List ℕ → List ℕ → List ℕ → Type 0
+abbrev pub Stated : Outcome Graph → Result GraphCounts Refusal → List ℕ → List ℕ → List ℕ → List ℕ → List ℕ → List ℕ → List ℕ → List ℕ → List ℕ → List ℕ → List ℕ → List ℕ → Type 0
 Stated o r room-nodes room-endpoint room-from room-to room-via s room-nodes' room-endpoint' room-from' room-to' room-via' s' =
     (r ≡ graph_answer o)
     × (room-nodes' ≡ nodes_after o room-nodes)
@@ -97,38 +96,38 @@ Stated o r room-nodes room-endpoint room-from room-to room-via s room-nodes' roo
 scratch_kept : (x : Refusal) (s : List ℕ) → keeps x.number → s ≡ scratch_after {A = Graph} (refused x) s
 scratch_kept x s e = ap (λ (b : Bool). cond b (map (λ (w : ℕ). 0) s) s) (sym e)
 
-pub sized_kept : (x : Refusal) (s : List ℕ) → keeps x.number → Sized (refused x) (NoGraph x) s s
+pub sized_kept : (x : Refusal) (s : List ℕ) → keeps x.number → Sized (refused x) (Err x) s s
 sized_kept x s e = (refl, scratch_kept x s e)
 
-pub stated_refused : (x : Refusal) (room-nodes room-endpoint room-from room-to room-via s : List ℕ) → keeps x.number → Stated (refused x) (NoGraph x) room-nodes room-endpoint room-from room-to room-via s room-nodes room-endpoint room-from room-to room-via s
+pub stated_refused : (x : Refusal) (room-nodes room-endpoint room-from room-to room-via s : List ℕ) → keeps x.number → Stated (refused x) (Err x) room-nodes room-endpoint room-from room-to room-via s room-nodes room-endpoint room-from room-to room-via s
 stated_refused x room-nodes room-endpoint room-from room-to room-via s e =
     (refl, refl, refl, refl, refl, refl, scratch_kept x s e)
 
-pub stated_removed : (o : Outcome Graph) (r : GraphMade) (room-nodes room-endpoint room-from room-to room-via s room-nodes' room-endpoint' room-from' room-to' room-via' s' : List ℕ) → Removed o r room-nodes room-endpoint room-from room-to room-via s room-nodes' room-endpoint' room-from' room-to' room-via' s'
+pub stated_removed : (o : Outcome Graph) (r : Result GraphCounts Refusal) (room-nodes room-endpoint room-from room-to room-via s room-nodes' room-endpoint' room-from' room-to' room-via' s' : List ℕ) → Removed o r room-nodes room-endpoint room-from room-to room-via s room-nodes' room-endpoint' room-from' room-to' room-via' s'
     → Stated o r room-nodes room-endpoint room-from room-to room-via s room-nodes' room-endpoint' room-from' room-to' room-via' s'
 stated_removed o r room-nodes room-endpoint room-from room-to room-via s room-nodes' room-endpoint' room-from' room-to' room-via' s' x =
     (x.answered.answer, x.answered.nodes, x.answered.endpoints, x.answered.starts, x.answered.ends, x.answered.names, x.scratch)
 
 -- a test after the first five
 chain_on : (d l o t u w : Verdict) → ((d then (l then (o then (t then u)))) then w) ≡ (d then (l then (o then (t then (u then w)))))
-chain_on (Refused x) l o t u w = refl
-chain_on Passed (Refused x) o t u w = refl
-chain_on Passed Passed (Refused x) t u w = refl
-chain_on Passed Passed Passed (Refused x) u w = refl
+chain_on (Err x) l o t u w = refl
+chain_on Passed (Err x) o t u w = refl
+chain_on Passed Passed (Err x) t u w = refl
+chain_on Passed Passed Passed (Err x) u w = refl
 chain_on Passed Passed Passed Passed u w = refl
 
 chain_on_two : (d l g o t u w v : Verdict)
     → ((d then (l then (g then (o then (t then (u then w)))))) then v) ≡ (d then (l then (g then (o then (t then (u then (w then v)))))))
-chain_on_two (Refused x) l g o t u w v = refl
-chain_on_two Passed (Refused x) g o t u w v = refl
+chain_on_two (Err x) l g o t u w v = refl
+chain_on_two Passed (Err x) g o t u w v = refl
 chain_on_two Passed Passed g o t u w v = chain_on g o t u w v
 
 join_two : (d l g o t u w : Verdict) → (d then (l then (g then (o then (t then (u then w)))))) ≡ ((d then (l then ((g then o) then (t then u)))) then w)
-join_two (Refused x) l g o t u w = refl
-join_two Passed (Refused x) g o t u w = refl
-join_two Passed Passed (Refused x) o t u w = refl
-join_two Passed Passed Passed (Refused x) t u w = refl
-join_two Passed Passed Passed Passed (Refused x) u w = refl
+join_two (Err x) l g o t u w = refl
+join_two Passed (Err x) g o t u w = refl
+join_two Passed Passed (Err x) o t u w = refl
+join_two Passed Passed Passed (Err x) t u w = refl
+join_two Passed Passed Passed Passed (Err x) u w = refl
 join_two Passed Passed Passed Passed Passed u w = refl
 
 -- one test further
@@ -163,14 +162,14 @@ module _ (n : ℕ) (starts ends : List ℕ) (early late : List ℤ) (marked list
     pub design_numberable : Numberable starts ends marked listed lengths n
     design_numberable = record { early = early; late = late; design_fits = design_fit; list_fits = list_fit }
 
-    pub design_removed : (r : GraphMade) (room-nodes room-endpoint room-from room-to room-via s room-nodes' room-endpoint' room-from' room-to' room-via' s' : List ℕ)
+    pub design_removed : (r : Result GraphCounts Refusal) (room-nodes room-endpoint room-from room-to room-via s room-nodes' room-endpoint' room-from' room-to' room-via' s' : List ℕ)
         → DesignRemoved starts ends marked listed lengths n r room-nodes room-endpoint room-from room-to room-via s room-nodes' room-endpoint' room-from' room-to' room-via' s'
         → Removed (removal_outcome D L (design_graph D) (room_of (graph_slices room-nodes room-endpoint room-from room-to room-via)) (length s)) r room-nodes room-endpoint room-from room-to room-via s room-nodes' room-endpoint' room-from' room-to' room-via' s'
     unfolding DesignRemoved
     design_removed r room-nodes room-endpoint room-from room-to room-via s room-nodes' room-endpoint' room-from' room-to' room-via' s' x =
         x early late design_fit list_fit
 
-    pub design_sized : (r : GraphMade) (s s' : List ℕ) → DesignSized starts ends marked listed lengths n r s s' → Sized (removal_outcome D L (design_graph D) largest_room (length s)) r s s'
+    pub design_sized : (r : Result GraphCounts Refusal) (s s' : List ℕ) → DesignSized starts ends marked listed lengths n r s s' → Sized (removal_outcome D L (design_graph D) largest_room (length s)) r s s'
     unfolding DesignSized
     design_sized r s s' x = x early late design_fit list_fit
 
@@ -187,9 +186,9 @@ module _ (n : ℕ) (starts ends : List ℕ) (early late : List ℤ) (marked list
         ∙ ap (λ (o : Verdict). design_sizes D then (list_sizes L then (o then (design_tests D then (list_tests D L then rest))))) alike)
         p
 
-    pub design_refused : (x : Refusal) → design_before ≡ Refused x → (keeps x.number → P (refused x)) → P (remove_from_design D (removal L R words))
+    pub design_refused : (x : Refusal) → design_before ≡ Err x → (keeps x.number → P (refused x)) → P (remove_from_design D (removal L R words))
     design_refused x e p =
-        design_is (Refused x) e (p (early_refused design_before x (chain_early D L room (subst Early (sym alike) (room_sizes_early R))) e))
+        design_is (Err x) e (p (early_refused design_before x (chain_early D L room (subst Early (sym alike) (room_sizes_early R))) e))
 
     pub design_passed : design_before ≡ Passed → P (removal_outcome D L (design_graph D) R words) → P (remove_from_design D (removal L R words))
     design_passed e p = design_is Passed e p
@@ -248,13 +247,13 @@ module _ (n : ℕ) (starts ends : List ℕ) (early late : List ℤ) (marked list
       pub graph_workable : Workable starts listed lengths nodes endpoint from to via
       graph_workable = record { design = D; list = L; graph = graph_of S; worked = worked }
 
-      pub graph_removed : (r : GraphMade) (room-nodes room-endpoint room-from room-to room-via s room-nodes' room-endpoint' room-from' room-to' room-via' s' : List ℕ)
+      pub graph_removed : (r : Result GraphCounts Refusal) (room-nodes room-endpoint room-from room-to room-via s room-nodes' room-endpoint' room-from' room-to' room-via' s' : List ℕ)
           → AllRemoved starts listed lengths nodes endpoint from to via r room-nodes room-endpoint room-from room-to room-via s room-nodes' room-endpoint' room-from' room-to' room-via' s'
           → Removed (removal_outcome D L (graph_of S) (room_of (graph_slices room-nodes room-endpoint room-from room-to room-via)) (length s)) r room-nodes room-endpoint room-from room-to room-via s room-nodes' room-endpoint' room-from' room-to' room-via' s'
       unfolding AllRemoved
       graph_removed r room-nodes room-endpoint room-from room-to room-via s room-nodes' room-endpoint' room-from' room-to' room-via' s' x = x D L (graph_of S) worked
 
-      pub graph_sized : (r : GraphMade) (s s' : List ℕ) → AllSized starts listed lengths nodes endpoint from to via r s s' → Sized (removal_outcome D L (graph_of S) largest_room (length s)) r s s'
+      pub graph_sized : (r : Result GraphCounts Refusal) (s s' : List ℕ) → AllSized starts listed lengths nodes endpoint from to via r s s' → Sized (removal_outcome D L (graph_of S) largest_room (length s)) r s s'
       unfolding AllSized
       graph_sized r s s' x = x D L (graph_of S) worked
 
@@ -278,8 +277,8 @@ module _ (n : ℕ) (starts ends : List ℕ) (early late : List ℤ) (marked list
           (early_then (graph_sizes S) room (room_sizes_early (room_of S)) (subst Early (sym alike) (room_sizes_early R))))
           (early_unless 32 refl (well_formed D (graph_of S))))
 
-      pub graph_refused : (x : Refusal) → graph_before ≡ Refused x → (keeps x.number → P (refused x)) → P (remove_from_graph D S (removal L R words))
-      graph_refused x e p = graph_is (Refused x) e (p (early_refused graph_before x graph_early e))
+      pub graph_refused : (x : Refusal) → graph_before ≡ Err x → (keeps x.number → P (refused x)) → P (remove_from_graph D S (removal L R words))
+      graph_refused x e p = graph_is (Err x) e (p (early_refused graph_before x graph_early e))
 
       pub graph_passed : graph_before ≡ Passed → P (removal_outcome D L (graph_of S) R words) → P (remove_from_graph D S (removal L R words))
       graph_passed e p = graph_is Passed e p
@@ -352,14 +351,14 @@ module _ (starts ends marked listed lengths : List ℕ) (n : ℕ) (numbers endpo
         worked = numbered_worked x.early x.late x.design_fits x.list_fits;
       }
 
-  pub numbered_removed : (r : GraphMade) (room-nodes room-endpoint room-from room-to room-via s room-nodes' room-endpoint' room-from' room-to' room-via' s' : List ℕ)
+  pub numbered_removed : (r : Result GraphCounts Refusal) (room-nodes room-endpoint room-from room-to room-via s room-nodes' room-endpoint' room-from' room-to' room-via' s' : List ℕ)
       → AllRemoved starts listed lengths (take n numbers) (take n endpoint) starts ends (take (length starts) names) r room-nodes room-endpoint room-from room-to room-via s room-nodes' room-endpoint' room-from' room-to' room-via' s'
       → DesignRemoved starts ends marked listed lengths n r room-nodes room-endpoint room-from room-to room-via s room-nodes' room-endpoint' room-from' room-to' room-via' s'
   unfolding AllRemoved DesignRemoved
   numbered_removed r room-nodes room-endpoint room-from room-to room-via s room-nodes' room-endpoint' room-from' room-to' room-via' s' x early late f g =
       x (design n starts ends early late marked) (path_list listed lengths) (design_graph (design n starts ends early late marked)) (numbered_worked early late f g)
 
-  pub numbered_sized : (r : GraphMade) (s s' : List ℕ) → AllSized starts listed lengths (take n numbers) (take n endpoint) starts ends (take (length starts) names) r s s'
+  pub numbered_sized : (r : Result GraphCounts Refusal) (s s' : List ℕ) → AllSized starts listed lengths (take n numbers) (take n endpoint) starts ends (take (length starts) names) r s s'
       → DesignSized starts ends marked listed lengths n r s s'
   unfolding AllSized DesignSized
   numbered_sized r s s' x early late f g =

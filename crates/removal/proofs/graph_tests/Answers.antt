@@ -1,7 +1,7 @@
 -- Each verdict is handed on to the next test; 10 has passed where 32 is tested.
 use mathlib.Core.Path.{ap, ◌∙◌}
 use mathlib.Core.List.{[]}
-use Rattle.timing.specs.declared.Verdict.{Verdict}
+use Rattle.timing.specs.Answers.{Verdict}
 use Rattle.timing.specs.Graphs.{design}
 use Rattle.timing.specs.Marks.{path_list}
 use Rattle.timing.specs.Refusals.{◌then◌}

@@ -1,6 +1,6 @@
 -- Each verdict is handed on to the next test.
 use mathlib.Core.Path.{ap, ◌∙◌}
-use Rattle.timing.specs.declared.Verdict.{Verdict}
+use Rattle.timing.specs.Answers.{Verdict}
 use Rattle.timing.specs.Graphs.{design}
 use Rattle.timing.specs.Marks.{path_list}
 use Rattle.timing.specs.Refusals.{◌then◌}

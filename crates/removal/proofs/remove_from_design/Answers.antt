@@ -1,7 +1,7 @@
 -- The tests refuse, and nothing has changed; or they pass, and the passes are asked about the design as a graph.
 use mathlib.Core.Path.{sym, ◌∙◌}
+use Rattle.std.specs.Prelude.{Err}
 use lib.ListN.{length}
-use Rattle.timing.specs.declared.GraphMade.TheVariants.{Refused as NoGraph}
 use Rattle.timing.specs.Graphs.{design, design_graph, Graph}
 use Rattle.timing.specs.Marks.{path_list}
 use Rattle.timing.specs.Calls.{Outcome, graph_slices, room_of}
@@ -12,7 +12,7 @@ use Rattle.removal.proofs.remove_from_design.Goals as goal
 pub returns-in-Refused : goal.returns-in-Refused
 returns-in-Refused c =
     let a = c.args in
-    design_refused a.n a.starts.now a.ends.now a.early.now a.late.now a.marked.now a.listed.now a.lengths.now c.graph_sizes-room.result (room_of (graph_slices a.room_nodes.now a.room_endpoint.now a.room_from.now a.room_to.now a.room_via.now)) c.graph_sizes-room.ensures (length a.scratch.now) (λ (o : Outcome Graph). Stated o (NoGraph c.in-Refused.r) a.room_nodes.now a.room_endpoint.now a.room_from.now a.room_to.now a.room_via.now a.scratch.now a.room_nodes.now a.room_endpoint.now a.room_from.now a.room_to.now a.room_via.now a.scratch.now) c.in-Refused.r (sym c.list_tests-verdict.ensures ∙ c.in-Refused.is) (stated_refused c.in-Refused.r a.room_nodes.now a.room_endpoint.now a.room_from.now a.room_to.now a.room_via.now a.scratch.now)
+    design_refused a.n a.starts.now a.ends.now a.early.now a.late.now a.marked.now a.listed.now a.lengths.now c.graph_sizes-room.result (room_of (graph_slices a.room_nodes.now a.room_endpoint.now a.room_from.now a.room_to.now a.room_via.now)) c.graph_sizes-room.ensures (length a.scratch.now) (λ (o : Outcome Graph). Stated o (Err c.in-Refused.r) a.room_nodes.now a.room_endpoint.now a.room_from.now a.room_to.now a.room_via.now a.scratch.now a.room_nodes.now a.room_endpoint.now a.room_from.now a.room_to.now a.room_via.now a.scratch.now) c.in-Refused.r (sym c.list_tests-verdict.ensures ∙ c.in-Refused.is) (stated_refused c.in-Refused.r a.room_nodes.now a.room_endpoint.now a.room_from.now a.room_to.now a.room_via.now a.scratch.now)
 
 pub remove_tested-requires : goal.remove_tested-requires
 remove_tested-requires c =

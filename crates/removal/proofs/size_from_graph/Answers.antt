@@ -1,8 +1,8 @@
 -- As of the removal in the largest room; there is none for 30 to test.
 use mathlib.Core.Path.{sym, ◌∙◌}
+use Rattle.std.specs.Prelude.{Err}
+use Rattle.timing.specs.Answers.{Passed}
 use lib.ListN.{length}
-use Rattle.timing.specs.declared.Verdict.TheVariants.{Passed}
-use Rattle.timing.specs.declared.GraphMade.TheVariants.{Refused as NoGraph}
 use Rattle.timing.specs.Graphs.{design, Graph}
 use Rattle.timing.specs.Marks.{path_list}
 use Rattle.timing.specs.Calls.{Outcome, graph_slices, largest_room}
@@ -13,8 +13,8 @@ use Rattle.removal.proofs.size_from_graph.Goals as goal
 pub returns-in-Refused : goal.returns-in-Refused
 returns-in-Refused c =
     let a = c.args in
-    size_graph (λ (o : Outcome Graph). Sized o (NoGraph c.in-Refused.r) a.scratch.now a.scratch.now) (design a.n a.starts.now a.ends.now a.early.now a.late.now a.marked.now) (path_list a.listed.now a.lengths.now) (length a.scratch.now) (graph_slices a.nodes.now a.endpoint.now a.from.now a.to.now a.via.now)
-    (graph_refused a.n a.starts.now a.ends.now a.early.now a.late.now a.marked.now a.listed.now a.lengths.now Passed a.nodes.now a.endpoint.now a.from.now a.to.now a.via.now largest_room no_room (length a.scratch.now) (λ (o : Outcome Graph). Sized o (NoGraph c.in-Refused.r) a.scratch.now a.scratch.now) c.in-Refused.r (sym c.graph_tests-verdict.ensures ∙ c.in-Refused.is) (sized_kept c.in-Refused.r a.scratch.now))
+    size_graph (λ (o : Outcome Graph). Sized o (Err c.in-Refused.r) a.scratch.now a.scratch.now) (design a.n a.starts.now a.ends.now a.early.now a.late.now a.marked.now) (path_list a.listed.now a.lengths.now) (length a.scratch.now) (graph_slices a.nodes.now a.endpoint.now a.from.now a.to.now a.via.now)
+    (graph_refused a.n a.starts.now a.ends.now a.early.now a.late.now a.marked.now a.listed.now a.lengths.now Passed a.nodes.now a.endpoint.now a.from.now a.to.now a.via.now largest_room no_room (length a.scratch.now) (λ (o : Outcome Graph). Sized o (Err c.in-Refused.r) a.scratch.now a.scratch.now) c.in-Refused.r (sym c.graph_tests-verdict.ensures ∙ c.in-Refused.is) (sized_kept c.in-Refused.r a.scratch.now))
 
 pub size-requires : goal.size-requires
 size-requires c =

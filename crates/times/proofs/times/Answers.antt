@@ -1,10 +1,10 @@
 -- The tests, and what follows from their answer.
 use mathlib.Core.Path.{◌≡◌}
 use mathlib.Core.List.{List}
+use Rattle.timing.specs.Answers.{Verdict}
 use lib.IntN.{ℤ}
 use lib.ListN.{length}
 use Rattle.timing.proofs.Verdicts.{after_told}
-use Rattle.timing.specs.declared.Verdict.{Verdict}
 use Rattle.timing.specs.Graphs.{design}
 use Rattle.timing.specs.Calls.{graph_slices, test_times, arrivals_after, requireds_after, slacks_after, earliests_after}
 use Rattle.times.proofs.times.Goals as goal

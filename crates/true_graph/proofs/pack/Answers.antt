@@ -2,9 +2,9 @@
 use Prim.Native.Nat.{ℕ}
 use native.Mathlib.Omega.{arith}
 use mathlib.Core.Path.{◌≡◌, sym, ap, ◌∙◌}
+use Rattle.std.specs.Prelude.{Err}
 use lib.IntN.{pos}
 use lib.ListN.{length-replicate}
-use Rattle.timing.specs.declared.Written.TheVariants.{Refused as NotWritten}
 use Rattle.timing.specs.Graphs.{Graph}
 use Rattle.timing.specs.Calls.{Outcome, c_written, room_after_c}
 use Rattle.true_graph.proofs.ProgramLaws.{program_long, lent, lent_after, tables, tables_read, read_fits, read_program}
@@ -14,7 +14,7 @@ pub returns-then-deck-gt-MAX_DECK_BYTES : goal.returns-then-deck-gt-MAX_DECK_BYT
 returns-then-deck-gt-MAX_DECK_BYTES c =
     let a = c.args in
     let e = program_long a.deck.now (omega (arith, c.if-deck-gt-MAX_DECK_BYTES.true)) in
-    (ap NotWritten c.refuse.ensures ∙ ap (λ (o : Outcome Graph). c_written o a.room.now) (sym e), ap (λ (o : Outcome Graph). room_after_c o a.room.now) (sym e))
+    (ap Err c.refuse.ensures ∙ ap (λ (o : Outcome Graph). c_written o a.room.now) (sym e), ap (λ (o : Outcome Graph). room_after_c o a.room.now) (sym e))
 
 pub slice_bounds-read_deck-end : goal.slice_bounds-read_deck-end
 slice_bounds-read_deck-end c = sym (length-replicate {A = ℕ} 1024 0)

@@ -1,7 +1,9 @@
 -- A refusal is handed on; or the front of the five slices is packed.
 use mathlib.Core.Path.{sym, ap, ◌∙◌, subst}
-use Rattle.timing.specs.declared.GraphMade.{GraphMade}
-use Rattle.timing.specs.declared.GraphMade.TheVariants.{Counts}
+use Rattle.std.specs.Prelude.{Result}
+use Rattle.timing.specs.Answers.{Counts}
+use Rattle.timing.specs.declared.GraphCounts.{GraphCounts}
+use Rattle.timing.specs.declared.Refusal.{Refusal}
 use Rattle.timing.specs.Calls.{graph_slices}
 use Rattle.true_graph.specs.Deck.{MadeFits, made_written, made_room}
 use Rattle.true_graph.proofs.DeckLaws.{length_front}
@@ -9,23 +11,23 @@ use Rattle.true_graph.proofs.write_made.Goals as goal
 
 pub slice_bounds-write_graph-end : goal.slice_bounds-write_graph-end
 slice_bounds-write_graph-end c =
-    length_front c.in-Counts.copies c.args.nodes.now ((let by : MadeFits (Counts c.in-Counts.copies c.in-Counts.edges) ((graph_slices c.args.nodes.now c.args.endpoint.now c.args.from.now c.args.to.now c.args.via.now)) = subst (λ (x : GraphMade). MadeFits x ((graph_slices c.args.nodes.now c.args.endpoint.now c.args.from.now c.args.to.now c.args.via.now))) c.in-Counts.is c.requires in by)).0
+    length_front c.in-Counts.copies c.args.nodes.now ((let by : MadeFits (Counts c.in-Counts.copies c.in-Counts.edges) ((graph_slices c.args.nodes.now c.args.endpoint.now c.args.from.now c.args.to.now c.args.via.now)) = subst (λ (x : Result GraphCounts Refusal). MadeFits x ((graph_slices c.args.nodes.now c.args.endpoint.now c.args.from.now c.args.to.now c.args.via.now))) c.in-Counts.is c.requires in by)).0
 
 pub slice_bounds-write_graph-end-in-Counts : goal.slice_bounds-write_graph-end-in-Counts
 slice_bounds-write_graph-end-in-Counts c =
-    length_front c.in-Counts.copies c.args.endpoint.now ((let by : MadeFits (Counts c.in-Counts.copies c.in-Counts.edges) ((graph_slices c.args.nodes.now c.args.endpoint.now c.args.from.now c.args.to.now c.args.via.now)) = subst (λ (x : GraphMade). MadeFits x ((graph_slices c.args.nodes.now c.args.endpoint.now c.args.from.now c.args.to.now c.args.via.now))) c.in-Counts.is c.requires in by)).1
+    length_front c.in-Counts.copies c.args.endpoint.now ((let by : MadeFits (Counts c.in-Counts.copies c.in-Counts.edges) ((graph_slices c.args.nodes.now c.args.endpoint.now c.args.from.now c.args.to.now c.args.via.now)) = subst (λ (x : Result GraphCounts Refusal). MadeFits x ((graph_slices c.args.nodes.now c.args.endpoint.now c.args.from.now c.args.to.now c.args.via.now))) c.in-Counts.is c.requires in by)).1
 
 pub slice_bounds-write_graph-end-in-Counts-2 : goal.slice_bounds-write_graph-end-in-Counts-2
 slice_bounds-write_graph-end-in-Counts-2 c =
-    length_front c.in-Counts.edges c.args.from.now ((let by : MadeFits (Counts c.in-Counts.copies c.in-Counts.edges) ((graph_slices c.args.nodes.now c.args.endpoint.now c.args.from.now c.args.to.now c.args.via.now)) = subst (λ (x : GraphMade). MadeFits x ((graph_slices c.args.nodes.now c.args.endpoint.now c.args.from.now c.args.to.now c.args.via.now))) c.in-Counts.is c.requires in by)).2
+    length_front c.in-Counts.edges c.args.from.now ((let by : MadeFits (Counts c.in-Counts.copies c.in-Counts.edges) ((graph_slices c.args.nodes.now c.args.endpoint.now c.args.from.now c.args.to.now c.args.via.now)) = subst (λ (x : Result GraphCounts Refusal). MadeFits x ((graph_slices c.args.nodes.now c.args.endpoint.now c.args.from.now c.args.to.now c.args.via.now))) c.in-Counts.is c.requires in by)).2
 
 pub slice_bounds-write_graph-end-in-Counts-3 : goal.slice_bounds-write_graph-end-in-Counts-3
 slice_bounds-write_graph-end-in-Counts-3 c =
-    length_front c.in-Counts.edges c.args.to.now ((let by : MadeFits (Counts c.in-Counts.copies c.in-Counts.edges) ((graph_slices c.args.nodes.now c.args.endpoint.now c.args.from.now c.args.to.now c.args.via.now)) = subst (λ (x : GraphMade). MadeFits x ((graph_slices c.args.nodes.now c.args.endpoint.now c.args.from.now c.args.to.now c.args.via.now))) c.in-Counts.is c.requires in by)).3
+    length_front c.in-Counts.edges c.args.to.now ((let by : MadeFits (Counts c.in-Counts.copies c.in-Counts.edges) ((graph_slices c.args.nodes.now c.args.endpoint.now c.args.from.now c.args.to.now c.args.via.now)) = subst (λ (x : Result GraphCounts Refusal). MadeFits x ((graph_slices c.args.nodes.now c.args.endpoint.now c.args.from.now c.args.to.now c.args.via.now))) c.in-Counts.is c.requires in by)).3
 
 pub slice_bounds-write_graph-end-in-Counts-4 : goal.slice_bounds-write_graph-end-in-Counts-4
 slice_bounds-write_graph-end-in-Counts-4 c =
-    length_front c.in-Counts.edges c.args.via.now ((let by : MadeFits (Counts c.in-Counts.copies c.in-Counts.edges) ((graph_slices c.args.nodes.now c.args.endpoint.now c.args.from.now c.args.to.now c.args.via.now)) = subst (λ (x : GraphMade). MadeFits x ((graph_slices c.args.nodes.now c.args.endpoint.now c.args.from.now c.args.to.now c.args.via.now))) c.in-Counts.is c.requires in by)).4
+    length_front c.in-Counts.edges c.args.via.now ((let by : MadeFits (Counts c.in-Counts.copies c.in-Counts.edges) ((graph_slices c.args.nodes.now c.args.endpoint.now c.args.from.now c.args.to.now c.args.via.now)) = subst (λ (x : Result GraphCounts Refusal). MadeFits x ((graph_slices c.args.nodes.now c.args.endpoint.now c.args.from.now c.args.to.now c.args.via.now))) c.in-Counts.is c.requires in by)).4
 
 pub write_graph-requires : goal.write_graph-requires
 write_graph-requires c = tt
@@ -33,9 +35,9 @@ write_graph-requires c = tt
 pub returns-in-Refused : goal.returns-in-Refused
 returns-in-Refused c =
     let e = sym c.in-Refused.is in
-    (ap (λ (x : GraphMade). made_written x ((graph_slices c.args.nodes.now c.args.endpoint.now c.args.from.now c.args.to.now c.args.via.now)) c.args.room.now) e, ap (λ (x : GraphMade). made_room x ((graph_slices c.args.nodes.now c.args.endpoint.now c.args.from.now c.args.to.now c.args.via.now)) c.args.room.now) e)
+    (ap (λ (x : Result GraphCounts Refusal). made_written x ((graph_slices c.args.nodes.now c.args.endpoint.now c.args.from.now c.args.to.now c.args.via.now)) c.args.room.now) e, ap (λ (x : Result GraphCounts Refusal). made_room x ((graph_slices c.args.nodes.now c.args.endpoint.now c.args.from.now c.args.to.now c.args.via.now)) c.args.room.now) e)
 
 pub returns-in-Counts : goal.returns-in-Counts
 returns-in-Counts c =
     let e = sym c.in-Counts.is in
-    (c.write_graph.ensures.0 ∙ ap (λ (x : GraphMade). made_written x ((graph_slices c.args.nodes.now c.args.endpoint.now c.args.from.now c.args.to.now c.args.via.now)) c.args.room.now) e, c.write_graph.ensures.1 ∙ ap (λ (x : GraphMade). made_room x ((graph_slices c.args.nodes.now c.args.endpoint.now c.args.from.now c.args.to.now c.args.via.now)) c.args.room.now) e)
+    (c.write_graph.ensures.0 ∙ ap (λ (x : Result GraphCounts Refusal). made_written x ((graph_slices c.args.nodes.now c.args.endpoint.now c.args.from.now c.args.to.now c.args.via.now)) c.args.room.now) e, c.write_graph.ensures.1 ∙ ap (λ (x : Result GraphCounts Refusal). made_room x ((graph_slices c.args.nodes.now c.args.endpoint.now c.args.from.now c.args.to.now c.args.via.now)) c.args.room.now) e)

@@ -1,13 +1,9 @@
--- The numbers before c pass, and those from c on do, where all of them do.
-use Prim.Native.Nat.{◌-◌, ◌≤◌}
+-- The numbers before e pass, and those from e on do, where all of them do.
 use mathlib.Core.Path.{◌≡◌}
 use mathlib.Core.Bool.{◌&&◌}
-use lib.ListN.{length, drop}
+use lib.ListN.{drop}
 use Rattle.timing.specs.WellFormed.{zero_or_one}
 use Rattle.verdicts.proofs.zero_or_one.Given as goal
 
-abbrev pub invariant-loop-c : goal.invariant-loop-c
-invariant-loop-c l = (l.c ≤ length l.endpoint) × ((l.pass && zero_or_one (drop l.c l.endpoint)) ≡ zero_or_one l.endpoint)
-
-abbrev pub decreases-loop-c : goal.decreases-loop-c
-decreases-loop-c l = length l.endpoint - l.c
+abbrev pub invariant-loop-e : goal.invariant-loop-e
+invariant-loop-e l = (l.pass && zero_or_one (drop l.e-index l.endpoint)) ≡ zero_or_one l.endpoint

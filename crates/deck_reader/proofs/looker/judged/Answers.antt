@@ -1,6 +1,6 @@
 -- By the verdict.
 use mathlib.Core.Path.{sym, ap}
-use Rattle.timing.specs.declared.Verdict.{Verdict}
+use Rattle.timing.specs.Answers.{Verdict}
 use Rattle.timing.specs.Parsing.{onward, return, tested}
 use Rattle.timing.specs.Looks.{number_of}
 use Rattle.deck_reader.proofs.looker.judged.Goals as goal

@@ -1,6 +1,7 @@
 -- By what the look at the design answered.
 use mathlib.Core.Path.{sym, ◌∙◌, ap}
-use Rattle.timing.specs.declared.Looked.{Looked}
+use Rattle.std.specs.Prelude.{Result}
+use Rattle.timing.specs.declared.Refusal.{Refusal}
 use Rattle.timing.specs.Looks.{looked, value_at}
 use Rattle.deck_reader.specs.Reading.{lists_in, behind}
 use Rattle.deck_reader.proofs.looker.lists_behind.Goals as goal
@@ -8,9 +9,9 @@ use Rattle.deck_reader.proofs.looker.lists_behind.Goals as goal
 pub returns-in-At : goal.returns-in-At
 returns-in-At c =
     let a = c.args in
-    c.look_lists.ensures ∙ sym (ap (λ (d : Looked). behind d (looked (lists_in a.s.now (value_at a.s.now 0) a.listed a.paths a.marked a.at))) c.in-At.is)
+    c.look_lists.ensures ∙ sym (ap (λ (d : Result ℕ Refusal). behind d (looked (lists_in a.s.now (value_at a.s.now 0) a.listed a.paths a.marked a.at))) c.in-At.is)
 
 pub returns-in-Refused : goal.returns-in-Refused
 returns-in-Refused c =
     let a = c.args in
-    sym (ap (λ (d : Looked). behind d (looked (lists_in a.s.now (value_at a.s.now 0) a.listed a.paths a.marked a.at))) c.in-Refused.is)
+    sym (ap (λ (d : Result ℕ Refusal). behind d (looked (lists_in a.s.now (value_at a.s.now 0) a.listed a.paths a.marked a.at))) c.in-Refused.is)

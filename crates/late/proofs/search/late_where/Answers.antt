@@ -1,8 +1,9 @@
 -- Where the tests passed, the search has what it asks (`passed_ready`); a refusal stores nothing.
 use mathlib.Core.Path.{sym, ◌∙◌, ap}
+use Rattle.std.specs.Prelude.{Option, Result}
+use Rattle.timing.specs.Answers.{Verdict}
+use Rattle.timing.specs.declared.Refusal.{Refusal}
 use lib.ListN.{length}
-use Rattle.timing.specs.declared.Lateness.{Lateness}
-use Rattle.timing.specs.declared.Verdict.{Verdict}
 use Rattle.timing.specs.Graphs.{design}
 use Rattle.timing.specs.Tests.{same_sizes}
 use Rattle.timing.specs.Calls.{graph_slices, test_late, late_answer, arrivals_after_late}
@@ -26,7 +27,7 @@ returns-in-Passed c =
     let D = design a.n a.starts.now a.ends.now a.early.now a.late.now a.marked.now in
     let S = graph_slices a.nodes.now a.endpoint.now a.from.now a.to.now a.via.now in
     let answer = c.find_late.ensures.0 ∙ ap (λ (v : Verdict). late_answer D S a.allowed v) (sym c.in-Passed.is) in
-    (answer, c.find_late.ensures.1 ∙ ap (λ (x : Lateness). arrivals_after_late D S a.allowed x a.arrivals.now) answer)
+    (answer, c.find_late.ensures.1 ∙ ap (λ (x : Result (Option ℕ) Refusal). arrivals_after_late D S a.allowed x a.arrivals.now) answer)
 
 pub returns-in-Refused : goal.returns-in-Refused
 unfolding arrivals_after_late

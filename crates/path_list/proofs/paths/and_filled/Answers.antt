@@ -1,6 +1,6 @@
 use native.Mathlib.Omega.{arith}
 use mathlib.Core.Path.{refl, sym, ◌∙◌}
-use Rattle.timing.specs.declared.Fault.TheVariants.{At, None}
+use Rattle.std.specs.Prelude.{Some, None}
 use Rattle.timing.specs.Tests.{empty_at}
 use Rattle.path_list.proofs.Laws.{part_empty, part_filled, no_path_left, fault_path, sound_path}
 use Rattle.path_list.proofs.paths.and_filled.Goals as goal
@@ -23,7 +23,7 @@ returns-then-to-from c =
     rw c.in-Passed.is
     (c.unless_fault.ensures
     ∙ sym (fault_path 22 empty_at a.listed.now a.lengths.now c.loop-p.p c.loop-p.from c.path_end-to.result c.loop-p-test.true c.loop-p.invariant.1 c.path_end-to.ensures
-    (At 0) (sym (part_empty a.listed.now c.loop-p.from c.path_end-to.result (omega arith))) refl)
+    (Some 0) (sym (part_empty a.listed.now c.loop-p.from c.path_end-to.result (omega arith))) refl)
     ∙ c.loop-p.invariant.2)
 
 pub overflow_add-p : goal.overflow_add-p

@@ -2,10 +2,9 @@ use Prim.Native.Nat.{ℕ, ◌+◌, ◌-◌}
 use native.Mathlib.Omega.{arith}
 use mathlib.Core.Path.{◌≡◌, refl, sym, ◌∙◌, ap}
 use mathlib.Core.List.{List}
+use Rattle.std.specs.Prelude.{Option, None}
 use lib.ListN.{length, take, drop}
 use lib.Seq.{take_all}
-use Rattle.timing.specs.declared.Fault.{Fault}
-use Rattle.timing.specs.declared.Fault.TheVariants.{None}
 use Rattle.timing.specs.Refusals.{unless_fault}
 use Rattle.timing.specs.Tests.{first_break}
 use Rattle.path_list.proofs.Loops.{first_edge, break_of_front}
@@ -81,13 +80,13 @@ returns c =
     (c.unless_fault.ensures
     ∙ elim c.paths-test.branch [
       | else-paths-test w ↦
-          ap (λ (f : Fault). unless_fault 24 c.paths.p f) (w.found-is ∙ c.paths.invariant.2)
+          ap (λ (f : Option ℕ). unless_fault 24 c.paths.p f) (w.found-is ∙ c.paths.invariant.2)
           ∙ sym (no_path_left 24 (first_break m 0) a.listed.now a.lengths.now c.paths.p c.paths.from w.paths-test.false)
       | then-paths-test+then-loop-i-test+in_default-found w ↦
           -- where the search stops, what was found is the verdict on all that is left
           let path = take (w.path_end-to.result - c.paths.from) (drop c.paths.from a.listed.now) in
           let d = w.in_default-found in
-          ap (λ (f : Fault). unless_fault 24 c.paths.p f) w.found-is
+          ap (λ (f : Option ℕ). unless_fault 24 c.paths.p f) w.found-is
           ∙ sym (
           fault_path 24 (first_break m 0) a.listed.now a.lengths.now c.paths.p c.paths.from w.path_end-to.result w.paths-test.true c.paths.invariant.1 w.path_end-to.ensures
           w.join_test-found.result

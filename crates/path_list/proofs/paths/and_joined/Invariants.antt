@@ -5,8 +5,8 @@ use Prim.Native.Nat.{ℕ, ◌-◌, ◌≤◌, ◌<◌}
 use mathlib.Core.Path.{◌≡◌}
 use mathlib.Core.Bool.{Bool}
 use mathlib.Core.List.{List, []}
+use Rattle.std.specs.Prelude.{None}
 use lib.ListN.{length, take, drop}
-use Rattle.timing.specs.declared.Fault.TheVariants.{None}
 use Rattle.timing.specs.Refusals.{first_fault}
 use Rattle.timing.specs.Graphs.{design}
 use Rattle.timing.specs.Marks.{cut}

@@ -3,8 +3,8 @@
 use Prim.Native.Nat.{ℕ, ◌-◌, ◌≤◌, ◌<◌}
 use mathlib.Core.Path.{◌≡◌}
 use mathlib.Core.List.{List, []}
+use Rattle.std.specs.Prelude.{None}
 use lib.ListN.{length, get_or, take, drop}
-use Rattle.timing.specs.declared.Fault.TheVariants.{None}
 use Rattle.timing.specs.Graphs.{design}
 use Rattle.timing.specs.Tests.{meets, first_break}
 use Rattle.path_list.proofs.Laws.{offset}

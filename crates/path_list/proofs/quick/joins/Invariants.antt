@@ -2,8 +2,8 @@
 use Prim.Native.Nat.{◌-◌, ◌<◌}
 use mathlib.Core.Path.{◌≡◌}
 use mathlib.Core.List.{[]}
+use Rattle.std.specs.Prelude.{None}
 use lib.ListN.{length, take}
-use Rattle.timing.specs.declared.Fault.TheVariants.{None}
 use Rattle.timing.specs.Graphs.{design}
 use Rattle.timing.specs.Tests.{meets, first_break}
 use Rattle.path_list.proofs.quick.joins.Given as goal

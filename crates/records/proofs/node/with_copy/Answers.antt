@@ -1,10 +1,11 @@
 -- Case by case; a variant's numbers fit.
 use mathlib.Core.Path.{sym, ap, ap₂, ◌∙◌}
+use Rattle.std.specs.Prelude.{Option}
+use Rattle.timing.specs.declared.NodeTimes.{NodeTimes}
 use Rattle.timing.specs.Times.{larger, smaller}
 use Rattle.timing.proofs.Ints.{read_back}
 use Rattle.records.proofs.Records.{four}
 use mir.Facts.{to_z-of_z}
-use Rattle.timing.specs.declared.NodeTimes.{NodeTimes}
 use Rattle.records.specs.Records.{with_copy}
 use borrow.Author.Rules.{rules}
 use Rattle.records.proofs.node.with_copy.Goals as goal
@@ -13,7 +14,7 @@ pub returns-in-None : goal.returns-in-None
 returns-in-None c =
     let a = c.args in
     rw (to_z-of_z c.ranges.arrival, to_z-of_z c.ranges.required, to_z-of_z c.ranges.slack, to_z-of_z c.ranges.earliest)
-    (ap (λ (t : NodeTimes). with_copy t a.arrival a.required a.slack a.earliest) (sym c.in-None.is))
+    (ap (λ (t : Option NodeTimes). with_copy t a.arrival a.required a.slack a.earliest) (sym c.in-None.is))
 
 pub returns-in-Times : goal.returns-in-Times
 returns-in-Times c =
@@ -22,4 +23,4 @@ returns-in-Times c =
     (read_back c.smaller.result c.smaller.type_inv ∙ c.smaller.ensures ∙ ap₂ smaller (read_back c.in-Times.r (search rules)) (to_z-of_z c.ranges.required))
     (read_back c.smaller-in-Times.result c.smaller-in-Times.type_inv ∙ c.smaller-in-Times.ensures ∙ ap₂ smaller (read_back c.in-Times.s (search rules)) (to_z-of_z c.ranges.slack))
     (read_back c.smaller-in-Times-2.result c.smaller-in-Times-2.type_inv ∙ c.smaller-in-Times-2.ensures ∙ ap₂ smaller (read_back c.in-Times.e (search rules)) (to_z-of_z c.ranges.earliest))
-    ∙ ap (λ (t : NodeTimes). with_copy t a.arrival a.required a.slack a.earliest) (sym c.in-Times.is)
+    ∙ ap (λ (t : Option NodeTimes). with_copy t a.arrival a.required a.slack a.earliest) (sym c.in-Times.is)

@@ -1,7 +1,7 @@
 -- A refusal changes nothing but the scratch; or there is room, the flags are as before the count, and the result is written.
 use mathlib.Core.Path.{◌≡◌, sym, ◌∙◌}
+use Rattle.timing.specs.Answers.{Passed}
 use lib.ListN.{length}
-use Rattle.timing.specs.declared.Verdict.TheVariants.{Passed}
 use Rattle.timing.specs.Tests.{count_tests}
 use Rattle.removal.proofs.Reaching.RowLaws.{ready_same}
 use Rattle.removal.proofs.Whole.RemoveLaws.{fillable, rows_still}

@@ -1,7 +1,7 @@
 -- Where there is room for what is reached, the result is written at once; and else it is counted first.
 use mathlib.Core.Path.{◌≡◌, sym, ◌∙◌}
+use Rattle.timing.specs.Answers.{Passed}
 use lib.ListN.{length}
-use Rattle.timing.specs.declared.Verdict.TheVariants.{Passed}
 use Rattle.timing.specs.Tests.{count_tests}
 use Rattle.removal.proofs.Whole.RemoveLaws.{fillable_now}
 use Rattle.removal.proofs.Whole.AnswerLaws.{answer_passed, counts_fit, room_direct}

@@ -1,9 +1,8 @@
 -- Where the tests passed, the passes have what they ask (`passed_ready`); a refusal stores nothing.
 use mathlib.Core.Path.{sym, ◌∙◌, ap}
 use mathlib.Core.List.{List}
+use Rattle.timing.specs.Answers.{Verdict, Passed}
 use lib.IntN.{ℤ}
-use Rattle.timing.specs.declared.Verdict.{Verdict}
-use Rattle.timing.specs.declared.Verdict.TheVariants.{Passed}
 use Rattle.timing.specs.Graphs.{design}
 use Rattle.timing.specs.Calls.{graph_slices, test_times, arrivals_after, requireds_after, slacks_after, earliests_after}
 use Rattle.timing.proofs.Verdicts.{times_passed, after_told}

@@ -1,5 +1,0 @@
-use mathlib.Core.Path.{sym}
-use Rattle.design.proofs.and_edge_tests.Goals as goal
-
-pub returns-then-all_pass : goal.returns-then-all_pass
-returns-then-all_pass c = rw c.in-Passed.is (sym (c.all_pass.ensures c.if-all_pass.true))

@@ -1,9 +1,0 @@
-use borrow.Author.Tests.{lt-ltb, le-ltb}
-use Rattle.design.proofs.edges.known.Goals as goal
-
-pub returns-then-number_at-n : goal.returns-then-number_at-n
-returns-then-number_at-n c =
-    rw (← c.number_at.ensures, ← c.number_at-end.ensures, lt-ltb _ _ c.if-number_at-n.true)
-
-pub returns : goal.returns
-returns c = rw (← c.number_at.ensures, le-ltb _ _ c.if-number_at-n.false)
