@@ -261,6 +261,6 @@ unfolding read_number
 written_read s at h = by (groups_in 15 4 (drop at s)) (packed_read 15 4 (drop at s) (bytes_drop s at h))
   where
     by : (r : Result Groups NoNumber) → Back 4 (drop at s) r → SameBytes s at (number_answer (length s) at r)
-    by (Number v n) k = let d : at + n - at ≡ n = omega arith in rw d k
+    by (Ok m) k = let d : at + m.size - at ≡ m.size = omega arith in rw d k
     by (Err Ended) k = tt
     by (Err Unfit) k = tt

@@ -6,6 +6,7 @@ ghost use mathlib.Core.List.{[], ◌∷◌, flat_map};
 ghost use Rattle.timing.specs.Numbers.{packed, groups_in, read_number, write_answer, written_room};
 
 use timing::{Groups, NoNumber, Refusal, Taken};
+use verdicts::refuse;
 
 // The number at a place, with at most `g` groups after its first. The highest group comes back
 // first, so that each turn adds one group below what is known.
@@ -26,33 +27,27 @@ fn groups(s: &[u8], at: usize, g: usize) -> Result<Groups, NoNumber>
     if b < 128 {
         return Ok(Groups { value: b, size: 1 });
     }
-    let higher = groups(s, at + 1, g - 1);
-    match higher {
-        Ok(Groups { value, size }) => {
-            if value == 0 {
-                return Err(NoNumber::Unfit);
-            }
-            Ok(Groups {
-                value: b - 128 + 128 * value,
-                size: size + 1,
-            })
-        }
-        _ => higher,
+    let higher = groups(s, at + 1, g - 1)?;
+    if higher.value == 0 {
+        return Err(NoNumber::Unfit);
     }
+    Ok(Groups {
+        value: b - 128 + 128 * higher.value,
+        size: higher.size + 1,
+    })
 }
 
 // Reads the number at a place of the bytes, however many groups it has.
 fn read_groups(s: &[u8], at: usize) -> Result<Taken, Refusal>
     ensures { result ≡ read_number s.now at }
 {
-    let found = groups(s, at, 4);
-    match found {
-        Ok(Groups { value, size }) => Ok(Taken {
-            value,
-            next: at + size,
+    match groups(s, at, 4) {
+        Ok(found) => Ok(Taken {
+            value: found.value,
+            next: at + found.size,
         }),
-        Err(NoNumber::Ended) => Err(verdicts::refuse(1, s.len())),
-        Err(NoNumber::Unfit) => Err(verdicts::refuse(2, at)),
+        Err(NoNumber::Ended) => Err(refuse(1, s.len())),
+        Err(NoNumber::Unfit) => Err(refuse(2, at)),
     }
 }
 
@@ -147,7 +142,7 @@ pub fn write_number(room: &mut [u8], at: usize, x: u32) -> Result<usize, Refusal
     if holds(room.len(), at, x) {
         Ok(put_number(room, at, x))
     } else {
-        Err(verdicts::refuse(35, 0))
+        Err(refuse(35, 0))
     }
 }
 
@@ -180,7 +175,7 @@ pub fn write_row(room: &mut [u8], at: usize, a: u32, b: u32, c: u32) -> Result<u
     if holds_row(room.len(), at, a, b, c) {
         Ok(put_row(room, at, a, b, c))
     } else {
-        Err(verdicts::refuse(35, 0))
+        Err(refuse(35, 0))
     }
 }
 

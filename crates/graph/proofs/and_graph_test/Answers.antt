@@ -2,4 +2,4 @@
 use Rattle.graph.proofs.and_graph_test.Goals as goal
 
 pub returns : goal.returns
-returns c = rw c.in-Passed.is c.graph_test.ensures
+returns c = rw c.in_ok-before.was c.graph_test.ensures

@@ -8,23 +8,23 @@ use Rattle.timing.specs.Calls.{graph_slices, room_of}
 use Rattle.graph_reader.proofs.Made.{graph_read_lem, rooms_fit, answers_refused, answers_made, sizes_passed, sizes_refused, read_stopped}
 use Rattle.graph_reader.proofs.read_graph.Goals as goal
 
-pub returns-in-Refused : goal.returns-in-Refused
-returns-in-Refused c =
-    answers_refused _ _ ((let a = c.args in graph_slices a.room_nodes.now a.room_endpoint.now a.room_from.now a.room_to.now a.room_via.now)) (sizes_refused c.args.s.now ((let a = c.args in graph_slices a.room_nodes.now a.room_endpoint.now a.room_from.now a.room_to.now a.room_via.now)) _ (sym c.graph_sizes-v.ensures ∙ c.in-Refused.is))
+pub returns-in-Err : goal.returns-in-Err
+returns-in-Err c =
+    answers_refused _ _ ((let a = c.args in graph_slices a.room_nodes.now a.room_endpoint.now a.room_from.now a.room_to.now a.room_via.now)) (sizes_refused c.args.s.now ((let a = c.args in graph_slices a.room_nodes.now a.room_endpoint.now a.room_from.now a.room_to.now a.room_via.now)) _ (sym c.graph_sizes-v.ensures ∙ c.in-Err.is))
 
 pub fill-requires : goal.fill-requires
 fill-requires c =
     let S = (let a = c.args in graph_slices a.room_nodes.now a.room_endpoint.now a.room_from.now a.room_to.now a.room_via.now) in
-    let g = graph_read_lem c.args.s.now (length S.nodes) (length S.starts) _ _ (sym c.look-g.ensures ∙ c.in-Counts.is) in
-    rooms_fit S _ _ ((let by : room_sizes (room_of ((let a = c.args in graph_slices a.room_nodes.now a.room_endpoint.now a.room_from.now a.room_to.now a.room_via.now))) ≡ Passed = sym c.graph_sizes-v.ensures ∙ c.in-Passed.is in by)) g.few g.few_edges
+    let g = graph_read_lem c.args.s.now (length S.nodes) (length S.starts) _ _ (sym c.look-g.ensures ∙ c.in-Ok.is) in
+    rooms_fit S _ _ ((let by : room_sizes (room_of ((let a = c.args in graph_slices a.room_nodes.now a.room_endpoint.now a.room_from.now a.room_to.now a.room_via.now))) ≡ Passed = sym c.graph_sizes-v.ensures ∙ c.in_ok-before.was in by)) g.few g.few_edges
 
-pub returns-in-Counts : goal.returns-in-Counts
-returns-in-Counts c =
+pub returns-in-Ok : goal.returns-in-Ok
+returns-in-Ok c =
     let S = (let a = c.args in graph_slices a.room_nodes.now a.room_endpoint.now a.room_from.now a.room_to.now a.room_via.now) in
     let s = c.args.s.now in
-    let g = graph_read_lem s (length S.nodes) (length S.starts) _ _ (sym c.look-g.ensures ∙ c.in-Counts.is) in
-    answers_made s _ _ _ S (graph_slices _ _ _ _ _) (sizes_passed s S ((let by : room_sizes (room_of ((let a = c.args in graph_slices a.room_nodes.now a.room_endpoint.now a.room_from.now a.room_to.now a.room_via.now))) ≡ Passed = sym c.graph_sizes-v.ensures ∙ c.in-Passed.is in by)) ∙ g.is) ((let by : room_sizes (room_of ((let a = c.args in graph_slices a.room_nodes.now a.room_endpoint.now a.room_from.now a.room_to.now a.room_via.now))) ≡ Passed = sym c.graph_sizes-v.ensures ∙ c.in-Passed.is in by)) g.few g.few_edges c.fill.ensures
+    let g = graph_read_lem s (length S.nodes) (length S.starts) _ _ (sym c.look-g.ensures ∙ c.in-Ok.is) in
+    answers_made s _ _ _ S (graph_slices _ _ _ _ _) (sizes_passed s S ((let by : room_sizes (room_of ((let a = c.args in graph_slices a.room_nodes.now a.room_endpoint.now a.room_from.now a.room_to.now a.room_via.now))) ≡ Passed = sym c.graph_sizes-v.ensures ∙ c.in_ok-before.was in by)) ∙ g.is) ((let by : room_sizes (room_of ((let a = c.args in graph_slices a.room_nodes.now a.room_endpoint.now a.room_from.now a.room_to.now a.room_via.now))) ≡ Passed = sym c.graph_sizes-v.ensures ∙ c.in_ok-before.was in by)) g.few g.few_edges c.fill.ensures
 
-pub returns-in-Refused-g : goal.returns-in-Refused-g
-returns-in-Refused-g c =
-    answers_refused _ _ ((let a = c.args in graph_slices a.room_nodes.now a.room_endpoint.now a.room_from.now a.room_to.now a.room_via.now)) (sizes_passed c.args.s.now ((let a = c.args in graph_slices a.room_nodes.now a.room_endpoint.now a.room_from.now a.room_to.now a.room_via.now)) ((let by : room_sizes (room_of ((let a = c.args in graph_slices a.room_nodes.now a.room_endpoint.now a.room_from.now a.room_to.now a.room_via.now))) ≡ Passed = sym c.graph_sizes-v.ensures ∙ c.in-Passed.is in by)) ∙ read_stopped _ _ (sym c.look-g.ensures ∙ c.in-Refused-g.is))
+pub returns-in-Err-g : goal.returns-in-Err-g
+returns-in-Err-g c =
+    answers_refused _ _ ((let a = c.args in graph_slices a.room_nodes.now a.room_endpoint.now a.room_from.now a.room_to.now a.room_via.now)) (sizes_passed c.args.s.now ((let a = c.args in graph_slices a.room_nodes.now a.room_endpoint.now a.room_from.now a.room_to.now a.room_via.now)) ((let by : room_sizes (room_of ((let a = c.args in graph_slices a.room_nodes.now a.room_endpoint.now a.room_from.now a.room_to.now a.room_via.now))) ≡ Passed = sym c.graph_sizes-v.ensures ∙ c.in_ok-before.was in by)) ∙ read_stopped _ _ (sym c.look-g.ensures ∙ c.in-Err-g.is))

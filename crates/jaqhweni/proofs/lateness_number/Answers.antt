@@ -8,19 +8,19 @@ use Rattle.true_graph.specs.Small.{SmallLateness}
 use Rattle.jaqhweni.proofs.lateness_number.Goals as goal
 
 pub overflow_add-copy : goal.overflow_add-copy
-overflow_add-copy c = omega (arith, (let by : c.in-Late.copy < 16384 = subst SmallLateness c.in-Late.is c.requires in by))
+overflow_add-copy c = omega (arith, (let by : c.in-Ok-Some.copy < 16384 = subst SmallLateness c.in-Ok-Some.is c.requires in by))
 
 pub positive-requires : goal.positive-requires
-positive-requires c = omega (arith, (let by : c.in-Late.copy < 16384 = subst SmallLateness c.in-Late.is c.requires in by))
+positive-requires c = omega (arith, (let by : c.in-Ok-Some.copy < 16384 = subst SmallLateness c.in-Ok-Some.is c.requires in by))
 
 pub refusal_number-requires : goal.refusal_number-requires
-refusal_number-requires c = subst SmallLateness c.in-Refused.is c.requires
+refusal_number-requires c = subst SmallLateness c.in-Err.is c.requires
 
-pub returns-in-Late : goal.returns-in-Late
-returns-in-Late c = read_back c.positive.result c.positive.type_inv ∙ c.positive.ensures ∙ ap lateness_number (sym c.in-Late.is)
+pub returns-in-Ok-Some : goal.returns-in-Ok-Some
+returns-in-Ok-Some c = read_back c.positive.result c.positive.type_inv ∙ c.positive.ensures ∙ ap lateness_number (sym c.in-Ok-Some.is)
 
-pub returns-in-OnTime : goal.returns-in-OnTime
-returns-in-OnTime c = ap lateness_number (sym c.in-OnTime.is)
+pub returns-in-Ok-None : goal.returns-in-Ok-None
+returns-in-Ok-None c = ap lateness_number (sym c.in-Ok-None.is)
 
-pub returns-in-Refused : goal.returns-in-Refused
-returns-in-Refused c = read_back c.refusal_number.result c.refusal_number.type_inv ∙ c.refusal_number.ensures ∙ ap lateness_number (sym c.in-Refused.is)
+pub returns-in-Err : goal.returns-in-Err
+returns-in-Err c = read_back c.refusal_number.result c.refusal_number.type_inv ∙ c.refusal_number.ensures ∙ ap lateness_number (sym c.in-Err.is)

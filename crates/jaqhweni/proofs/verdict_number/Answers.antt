@@ -6,10 +6,10 @@ use Rattle.true_graph.specs.Small.{Small}
 use Rattle.jaqhweni.proofs.verdict_number.Goals as goal
 
 pub refusal_number-requires : goal.refusal_number-requires
-refusal_number-requires c = subst Small c.in-Refused.is c.requires
+refusal_number-requires c = subst Small c.in-Err.is c.requires
 
-pub returns-in-Passed : goal.returns-in-Passed
-returns-in-Passed c = ap verdict_number (sym c.in-Passed.is)
+pub returns-in_ok-before : goal.returns-in_ok-before
+returns-in_ok-before c = ap verdict_number (sym c.in_ok-before.was)
 
-pub returns-in-Refused : goal.returns-in-Refused
-returns-in-Refused c = read_back c.refusal_number.result c.refusal_number.type_inv ∙ c.refusal_number.ensures ∙ ap verdict_number (sym c.in-Refused.is)
+pub returns-in-Err : goal.returns-in-Err
+returns-in-Err c = read_back c.refusal_number.result c.refusal_number.type_inv ∙ c.refusal_number.ensures ∙ ap verdict_number (sym c.in-Err.is)

@@ -20,13 +20,13 @@ loop-n-smaller c = omega arith
 pub loop-n-preserved : goal.loop-n-preserved
 loop-n-preserved c =
     let a = c.args in
-    let f = number_found a.s.now c.loop-n.here _ _ (sym c.read_number-r.ensures ∙ c.in-Value.is) in
+    let f = number_found a.s.now c.loop-n.here _ _ (sym c.read_number-r.ensures ∙ c.in-Ok.is) in
     (omega arith, looks_turn (number a.s.now) a.k c.loop-n.n c.loop-n.here _ c.loop-n-test.true f ∙ c.loop-n.invariant.1)
 
-pub returns-in-Refused : goal.returns-in-Refused
-returns-in-Refused c =
+pub returns-in-Err : goal.returns-in-Err
+returns-in-Err c =
     let a = c.args in
-    let f = number_stopped a.s.now c.loop-n.here _ (sym c.read_number-r.ensures ∙ c.in-Refused.is) in
+    let f = number_stopped a.s.now c.loop-n.here _ (sym c.read_number-r.ensures ∙ c.in-Err.is) in
     looks_stop (number a.s.now) a.k c.loop-n.n c.loop-n.here _ c.loop-n-test.true f ∙ c.loop-n.invariant.1
 
 pub returns : goal.returns

@@ -3,14 +3,14 @@ use mathlib.Core.Path.{refl, sym, ◌∙◌}
 use Rattle.timing.specs.Looks.{value_at, next_at}
 use Rattle.packed_lists.proofs.take_number.Goals as goal
 
-pub returns-in-Value : goal.returns-in-Value
+pub returns-in-Ok : goal.returns-in-Ok
 unfolding value_at next_at
-returns-in-Value c =
-    let e = sym c.read_number-r.ensures ∙ c.in-Value.is in
+returns-in-Ok c =
+    let e = sym c.read_number-r.ensures ∙ c.in-Ok.is in
     rw e (refl, refl)
 
-pub returns-in-Refused : goal.returns-in-Refused
+pub returns-in-Err : goal.returns-in-Err
 unfolding value_at next_at
-returns-in-Refused c =
-    let e = sym c.read_number-r.ensures ∙ c.in-Refused.is in
+returns-in-Err c =
+    let e = sym c.read_number-r.ensures ∙ c.in-Err.is in
     rw e (refl, refl)

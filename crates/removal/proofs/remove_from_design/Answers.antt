@@ -9,10 +9,10 @@ use Rattle.removal.specs.Remove.{removal_outcome}
 use Rattle.removal.proofs.Whole.TestLaws.{design_refused, design_passed, design_numberable, design_removed, rooms_alike, design_room, Stated, stated_refused, stated_removed}
 use Rattle.removal.proofs.remove_from_design.Goals as goal
 
-pub returns-in-Refused : goal.returns-in-Refused
-returns-in-Refused c =
+pub returns-in-Err : goal.returns-in-Err
+returns-in-Err c =
     let a = c.args in
-    design_refused a.n a.starts.now a.ends.now a.early.now a.late.now a.marked.now a.listed.now a.lengths.now c.graph_sizes-room.result (room_of (graph_slices a.room_nodes.now a.room_endpoint.now a.room_from.now a.room_to.now a.room_via.now)) c.graph_sizes-room.ensures (length a.scratch.now) (λ (o : Outcome Graph). Stated o (Err c.in-Refused.r) a.room_nodes.now a.room_endpoint.now a.room_from.now a.room_to.now a.room_via.now a.scratch.now a.room_nodes.now a.room_endpoint.now a.room_from.now a.room_to.now a.room_via.now a.scratch.now) c.in-Refused.r (sym c.list_tests-verdict.ensures ∙ c.in-Refused.is) (stated_refused c.in-Refused.r a.room_nodes.now a.room_endpoint.now a.room_from.now a.room_to.now a.room_via.now a.scratch.now)
+    design_refused a.n a.starts.now a.ends.now a.early.now a.late.now a.marked.now a.listed.now a.lengths.now c.graph_sizes-room.result (room_of (graph_slices a.room_nodes.now a.room_endpoint.now a.room_from.now a.room_to.now a.room_via.now)) c.graph_sizes-room.ensures (length a.scratch.now) (λ (o : Outcome Graph). Stated o (Err c.in-Err.r) a.room_nodes.now a.room_endpoint.now a.room_from.now a.room_to.now a.room_via.now a.scratch.now a.room_nodes.now a.room_endpoint.now a.room_from.now a.room_to.now a.room_via.now a.scratch.now) c.in-Err.r (sym c.list_tests-verdict.ensures ∙ c.in-Err.is) (stated_refused c.in-Err.r a.room_nodes.now a.room_endpoint.now a.room_from.now a.room_to.now a.room_via.now a.scratch.now)
 
 pub remove_tested-requires : goal.remove_tested-requires
 remove_tested-requires c =

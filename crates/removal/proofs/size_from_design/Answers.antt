@@ -10,11 +10,11 @@ use Rattle.removal.specs.Remove.{Sized}
 use Rattle.removal.proofs.Whole.TestLaws.{design_refused, design_passed, design_numberable, design_sized, no_room, size_design, sized_kept}
 use Rattle.removal.proofs.size_from_design.Goals as goal
 
-pub returns-in-Refused : goal.returns-in-Refused
-returns-in-Refused c =
+pub returns-in-Err : goal.returns-in-Err
+returns-in-Err c =
     let a = c.args in
-    size_design (λ (o : Outcome Graph). Sized o (Err c.in-Refused.r) a.scratch.now a.scratch.now) (design a.n a.starts.now a.ends.now a.early.now a.late.now a.marked.now) (path_list a.listed.now a.lengths.now) (length a.scratch.now)
-    (design_refused a.n a.starts.now a.ends.now a.early.now a.late.now a.marked.now a.listed.now a.lengths.now Passed largest_room no_room (length a.scratch.now) (λ (o : Outcome Graph). Sized o (Err c.in-Refused.r) a.scratch.now a.scratch.now) c.in-Refused.r (sym c.list_tests-verdict.ensures ∙ c.in-Refused.is) (sized_kept c.in-Refused.r a.scratch.now))
+    size_design (λ (o : Outcome Graph). Sized o (Err c.in-Err.r) a.scratch.now a.scratch.now) (design a.n a.starts.now a.ends.now a.early.now a.late.now a.marked.now) (path_list a.listed.now a.lengths.now) (length a.scratch.now)
+    (design_refused a.n a.starts.now a.ends.now a.early.now a.late.now a.marked.now a.listed.now a.lengths.now Passed largest_room no_room (length a.scratch.now) (λ (o : Outcome Graph). Sized o (Err c.in-Err.r) a.scratch.now a.scratch.now) c.in-Err.r (sym c.list_tests-verdict.ensures ∙ c.in-Err.is) (sized_kept c.in-Err.r a.scratch.now))
 
 pub size_tested-requires : goal.size_tested-requires
 size_tested-requires c =

@@ -9,9 +9,9 @@ use Rattle.true_graph.proofs.pack_tested.Goals as goal
 pub test_deck-verdict-requires : goal.test_deck-verdict-requires
 test_deck-verdict-requires c = tt
 
-pub returns-in-Refused : goal.returns-in-Refused
-returns-in-Refused c =
-    let e = deck_refused ((let a = c.args in design a.n a.starts.now a.ends.now a.early.now a.late.now a.marked.now)) ((path_list c.args.listed.now c.args.lengths.now)) c.args.allowed c.in-Refused.r (sym c.test_deck-verdict.ensures ∙ c.in-Refused.is) in
+pub returns-in-Err : goal.returns-in-Err
+returns-in-Err c =
+    let e = deck_refused ((let a = c.args in design a.n a.starts.now a.ends.now a.early.now a.late.now a.marked.now)) ((path_list c.args.listed.now c.args.lengths.now)) c.args.allowed c.in-Err.r (sym c.test_deck-verdict.ensures ∙ c.in-Err.is) in
     (ap (λ (o : Outcome Graph). c_written o c.args.room.now) (sym e), ap (λ (o : Outcome Graph). room_after_c o c.args.room.now) (sym e))
 
 pub pack_graph-requires : goal.pack_graph-requires

@@ -11,33 +11,33 @@ use Rattle.true_graph.proofs.write_made.Goals as goal
 
 pub slice_bounds-write_graph-end : goal.slice_bounds-write_graph-end
 slice_bounds-write_graph-end c =
-    length_front c.in-Counts.copies c.args.nodes.now ((let by : MadeFits (Counts c.in-Counts.copies c.in-Counts.edges) ((graph_slices c.args.nodes.now c.args.endpoint.now c.args.from.now c.args.to.now c.args.via.now)) = subst (λ (x : Result GraphCounts Refusal). MadeFits x ((graph_slices c.args.nodes.now c.args.endpoint.now c.args.from.now c.args.to.now c.args.via.now))) c.in-Counts.is c.requires in by)).0
+    length_front c.in-Ok.copies c.args.nodes.now ((let by : MadeFits (Counts c.in-Ok.copies c.in-Ok.edges) ((graph_slices c.args.nodes.now c.args.endpoint.now c.args.from.now c.args.to.now c.args.via.now)) = subst (λ (x : Result GraphCounts Refusal). MadeFits x ((graph_slices c.args.nodes.now c.args.endpoint.now c.args.from.now c.args.to.now c.args.via.now))) c.in-Ok.is c.requires in by)).0
 
-pub slice_bounds-write_graph-end-in-Counts : goal.slice_bounds-write_graph-end-in-Counts
-slice_bounds-write_graph-end-in-Counts c =
-    length_front c.in-Counts.copies c.args.endpoint.now ((let by : MadeFits (Counts c.in-Counts.copies c.in-Counts.edges) ((graph_slices c.args.nodes.now c.args.endpoint.now c.args.from.now c.args.to.now c.args.via.now)) = subst (λ (x : Result GraphCounts Refusal). MadeFits x ((graph_slices c.args.nodes.now c.args.endpoint.now c.args.from.now c.args.to.now c.args.via.now))) c.in-Counts.is c.requires in by)).1
+pub slice_bounds-write_graph-end-in-Ok : goal.slice_bounds-write_graph-end-in-Ok
+slice_bounds-write_graph-end-in-Ok c =
+    length_front c.in-Ok.copies c.args.endpoint.now ((let by : MadeFits (Counts c.in-Ok.copies c.in-Ok.edges) ((graph_slices c.args.nodes.now c.args.endpoint.now c.args.from.now c.args.to.now c.args.via.now)) = subst (λ (x : Result GraphCounts Refusal). MadeFits x ((graph_slices c.args.nodes.now c.args.endpoint.now c.args.from.now c.args.to.now c.args.via.now))) c.in-Ok.is c.requires in by)).1
 
-pub slice_bounds-write_graph-end-in-Counts-2 : goal.slice_bounds-write_graph-end-in-Counts-2
-slice_bounds-write_graph-end-in-Counts-2 c =
-    length_front c.in-Counts.edges c.args.from.now ((let by : MadeFits (Counts c.in-Counts.copies c.in-Counts.edges) ((graph_slices c.args.nodes.now c.args.endpoint.now c.args.from.now c.args.to.now c.args.via.now)) = subst (λ (x : Result GraphCounts Refusal). MadeFits x ((graph_slices c.args.nodes.now c.args.endpoint.now c.args.from.now c.args.to.now c.args.via.now))) c.in-Counts.is c.requires in by)).2
+pub slice_bounds-write_graph-end-in-Ok-2 : goal.slice_bounds-write_graph-end-in-Ok-2
+slice_bounds-write_graph-end-in-Ok-2 c =
+    length_front c.in-Ok.edges c.args.from.now ((let by : MadeFits (Counts c.in-Ok.copies c.in-Ok.edges) ((graph_slices c.args.nodes.now c.args.endpoint.now c.args.from.now c.args.to.now c.args.via.now)) = subst (λ (x : Result GraphCounts Refusal). MadeFits x ((graph_slices c.args.nodes.now c.args.endpoint.now c.args.from.now c.args.to.now c.args.via.now))) c.in-Ok.is c.requires in by)).2
 
-pub slice_bounds-write_graph-end-in-Counts-3 : goal.slice_bounds-write_graph-end-in-Counts-3
-slice_bounds-write_graph-end-in-Counts-3 c =
-    length_front c.in-Counts.edges c.args.to.now ((let by : MadeFits (Counts c.in-Counts.copies c.in-Counts.edges) ((graph_slices c.args.nodes.now c.args.endpoint.now c.args.from.now c.args.to.now c.args.via.now)) = subst (λ (x : Result GraphCounts Refusal). MadeFits x ((graph_slices c.args.nodes.now c.args.endpoint.now c.args.from.now c.args.to.now c.args.via.now))) c.in-Counts.is c.requires in by)).3
+pub slice_bounds-write_graph-end-in-Ok-3 : goal.slice_bounds-write_graph-end-in-Ok-3
+slice_bounds-write_graph-end-in-Ok-3 c =
+    length_front c.in-Ok.edges c.args.to.now ((let by : MadeFits (Counts c.in-Ok.copies c.in-Ok.edges) ((graph_slices c.args.nodes.now c.args.endpoint.now c.args.from.now c.args.to.now c.args.via.now)) = subst (λ (x : Result GraphCounts Refusal). MadeFits x ((graph_slices c.args.nodes.now c.args.endpoint.now c.args.from.now c.args.to.now c.args.via.now))) c.in-Ok.is c.requires in by)).3
 
-pub slice_bounds-write_graph-end-in-Counts-4 : goal.slice_bounds-write_graph-end-in-Counts-4
-slice_bounds-write_graph-end-in-Counts-4 c =
-    length_front c.in-Counts.edges c.args.via.now ((let by : MadeFits (Counts c.in-Counts.copies c.in-Counts.edges) ((graph_slices c.args.nodes.now c.args.endpoint.now c.args.from.now c.args.to.now c.args.via.now)) = subst (λ (x : Result GraphCounts Refusal). MadeFits x ((graph_slices c.args.nodes.now c.args.endpoint.now c.args.from.now c.args.to.now c.args.via.now))) c.in-Counts.is c.requires in by)).4
+pub slice_bounds-write_graph-end-in-Ok-4 : goal.slice_bounds-write_graph-end-in-Ok-4
+slice_bounds-write_graph-end-in-Ok-4 c =
+    length_front c.in-Ok.edges c.args.via.now ((let by : MadeFits (Counts c.in-Ok.copies c.in-Ok.edges) ((graph_slices c.args.nodes.now c.args.endpoint.now c.args.from.now c.args.to.now c.args.via.now)) = subst (λ (x : Result GraphCounts Refusal). MadeFits x ((graph_slices c.args.nodes.now c.args.endpoint.now c.args.from.now c.args.to.now c.args.via.now))) c.in-Ok.is c.requires in by)).4
 
 pub write_graph-requires : goal.write_graph-requires
 write_graph-requires c = tt
 
-pub returns-in-Refused : goal.returns-in-Refused
-returns-in-Refused c =
-    let e = sym c.in-Refused.is in
+pub returns-in-Err : goal.returns-in-Err
+returns-in-Err c =
+    let e = sym c.in-Err.is in
     (ap (λ (x : Result GraphCounts Refusal). made_written x ((graph_slices c.args.nodes.now c.args.endpoint.now c.args.from.now c.args.to.now c.args.via.now)) c.args.room.now) e, ap (λ (x : Result GraphCounts Refusal). made_room x ((graph_slices c.args.nodes.now c.args.endpoint.now c.args.from.now c.args.to.now c.args.via.now)) c.args.room.now) e)
 
-pub returns-in-Counts : goal.returns-in-Counts
-returns-in-Counts c =
-    let e = sym c.in-Counts.is in
+pub returns-in-Ok : goal.returns-in-Ok
+returns-in-Ok c =
+    let e = sym c.in-Ok.is in
     (c.write_graph.ensures.0 ∙ ap (λ (x : Result GraphCounts Refusal). made_written x ((graph_slices c.args.nodes.now c.args.endpoint.now c.args.from.now c.args.to.now c.args.via.now)) c.args.room.now) e, c.write_graph.ensures.1 ∙ ap (λ (x : Result GraphCounts Refusal). made_room x ((graph_slices c.args.nodes.now c.args.endpoint.now c.args.from.now c.args.to.now c.args.via.now)) c.args.room.now) e)

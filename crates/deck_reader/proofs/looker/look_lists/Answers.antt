@@ -6,15 +6,15 @@ use Rattle.deck_reader.specs.Reading.{list_in, marked_in}
 use Rattle.deck_reader.proofs.Looking.{part_at, part_stop}
 use Rattle.deck_reader.proofs.looker.look_lists.Goals as goal
 
-pub returns-in-At : goal.returns-in-At
-returns-in-At c =
+pub returns-in-Ok : goal.returns-in-Ok
+returns-in-Ok c =
     let a = c.args in
     let s = a.s.now in
-    part_at (list_in s a.listed a.paths a.at) (marked_in s (value_at s 0) a.marked) _ _ (sym c.look_list-l.ensures ∙ c.in-At.is)
-    (c.look_marked.ensures ∙ ap (λ (k : ℕ). looked (marked_in s k a.marked c.in-At.after)) c.take_number-n.ensures.0)
+    part_at (list_in s a.listed a.paths a.at) (marked_in s (value_at s 0) a.marked) _ _ (sym c.look_list-l.ensures ∙ c.in-Ok.is)
+    (c.look_marked.ensures ∙ ap (λ (k : ℕ). looked (marked_in s k a.marked c.in-Ok.after)) c.take_number-n.ensures.0)
 
-pub returns-in-Refused : goal.returns-in-Refused
-returns-in-Refused c =
+pub returns-in-Err : goal.returns-in-Err
+returns-in-Err c =
     let a = c.args in
     let s = a.s.now in
-    part_stop (list_in s a.listed a.paths a.at) (marked_in s (value_at s 0) a.marked) _ (sym c.look_list-l.ensures ∙ c.in-Refused.is)
+    part_stop (list_in s a.listed a.paths a.at) (marked_in s (value_at s 0) a.marked) _ (sym c.look_list-l.ensures ∙ c.in-Err.is)

@@ -3,12 +3,12 @@ use mathlib.Core.Path.{sym, ◌∙◌}
 use Rattle.deck_reader.proofs.Looking.{nodes_is, nodes_none}
 use Rattle.deck_reader.proofs.looker.look_nodes.Goals as goal
 
-pub returns-in-Value : goal.returns-in-Value
-returns-in-Value c =
+pub returns-in-Ok : goal.returns-in-Ok
+returns-in-Ok c =
     let a = c.args in
-    c.judged.ensures ∙ nodes_is a.s.now a.at _ _ _ (sym c.read_number-r.ensures ∙ c.in-Value.is) c.unless-v.ensures
+    c.judged.ensures ∙ nodes_is a.s.now a.at _ _ _ (sym c.read_number-r.ensures ∙ c.in-Ok.is) c.unless-v.ensures
 
-pub returns-in-Refused : goal.returns-in-Refused
-returns-in-Refused c =
+pub returns-in-Err : goal.returns-in-Err
+returns-in-Err c =
     let a = c.args in
-    nodes_none a.s.now a.at _ (sym c.read_number-r.ensures ∙ c.in-Refused.is)
+    nodes_none a.s.now a.at _ (sym c.read_number-r.ensures ∙ c.in-Err.is)

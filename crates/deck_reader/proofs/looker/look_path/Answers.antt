@@ -7,19 +7,19 @@ use Rattle.timing.specs.Looks.{looked}
 use Rattle.deck_reader.proofs.Looking.{path_at, path_stop, path_none, path_is}
 use Rattle.deck_reader.proofs.looker.look_path.Goals as goal
 
-pub returns-in-At : goal.returns-in-At
-returns-in-At c =
+pub returns-in-Ok : goal.returns-in-Ok
+returns-in-Ok c =
     let a = c.args in
-    path_at c.in-Value.value _ (repeated c.in-Value.value (number a.s.now) c.in-Value.next) (sym c.in-At.is ∙ (let by : c.look_numbers-q.result ≡ looked (repeated c.in-Value.value (number c.args.s.now) c.in-Value.next) = c.look_numbers-q.ensures ∙ ap (λ (n : ℕ). looked (repeated n (number c.args.s.now) c.in-Value.next)) c.wide.ensures in by))
-    ∙ path_is a.s.now a.table a.sum a.at c.in-Value.value c.in-Value.next (sym c.look_count-r.ensures ∙ c.in-Value.is)
+    path_at c.in-Ok.value _ (repeated c.in-Ok.value (number a.s.now) c.in-Ok.next) (sym c.in-Ok.is ∙ (let by : c.look_numbers-q.result ≡ looked (repeated c.in-Ok.value (number c.args.s.now) c.in-Ok.next) = c.look_numbers-q.ensures ∙ ap (λ (n : ℕ). looked (repeated n (number c.args.s.now) c.in-Ok.next)) c.wide.ensures in by))
+    ∙ path_is a.s.now a.table a.sum a.at c.in-Ok.value c.in-Ok.next (sym c.look_count-r.ensures ∙ c.in-Ok.is)
 
-pub returns-in-Refused-q : goal.returns-in-Refused-q
-returns-in-Refused-q c =
+pub returns-in-Err-q : goal.returns-in-Err-q
+returns-in-Err-q c =
     let a = c.args in
-    path_stop c.in-Value.value _ (repeated c.in-Value.value (number a.s.now) c.in-Value.next) (sym c.in-Refused-q.is ∙ (let by : c.look_numbers-q.result ≡ looked (repeated c.in-Value.value (number c.args.s.now) c.in-Value.next) = c.look_numbers-q.ensures ∙ ap (λ (n : ℕ). looked (repeated n (number c.args.s.now) c.in-Value.next)) c.wide.ensures in by))
-    ∙ path_is a.s.now a.table a.sum a.at c.in-Value.value c.in-Value.next (sym c.look_count-r.ensures ∙ c.in-Value.is)
+    path_stop c.in-Ok.value _ (repeated c.in-Ok.value (number a.s.now) c.in-Ok.next) (sym c.in-Err-q.is ∙ (let by : c.look_numbers-q.result ≡ looked (repeated c.in-Ok.value (number c.args.s.now) c.in-Ok.next) = c.look_numbers-q.ensures ∙ ap (λ (n : ℕ). looked (repeated n (number c.args.s.now) c.in-Ok.next)) c.wide.ensures in by))
+    ∙ path_is a.s.now a.table a.sum a.at c.in-Ok.value c.in-Ok.next (sym c.look_count-r.ensures ∙ c.in-Ok.is)
 
-pub returns-in-Refused : goal.returns-in-Refused
-returns-in-Refused c =
+pub returns-in-Err : goal.returns-in-Err
+returns-in-Err c =
     let a = c.args in
-    path_none a.s.now a.table a.sum a.at _ (sym c.look_count-r.ensures ∙ c.in-Refused.is)
+    path_none a.s.now a.table a.sum a.at _ (sym c.look_count-r.ensures ∙ c.in-Err.is)

@@ -23,14 +23,14 @@ loop-k-smaller c = omega arith
 pub loop-k-preserved : goal.loop-k-preserved
 loop-k-preserved c =
     let a = c.args in
-    let e = sym c.look_path-r.ensures ∙ c.in-Value.is in
+    let e = sym c.look_path-r.ensures ∙ c.in-Ok.is in
     let b = path_small a.s.now a.table c.loop-k.sum c.loop-k.at _ _ e in
     (omega arith, omega (arith, c.added-sum.ensures), rw c.added-sum.ensures (paths_turn a.s.now a.table a.count c.loop-k.k c.loop-k.sum c.loop-k.at _ _ (omega arith) e ∙ c.loop-k.invariant.2))
 
-pub returns-in-Refused : goal.returns-in-Refused
-returns-in-Refused c =
+pub returns-in-Err : goal.returns-in-Err
+returns-in-Err c =
     let a = c.args in
-    paths_stop a.s.now a.table a.count c.loop-k.k c.loop-k.sum c.loop-k.at _ (omega arith) (sym c.look_path-r.ensures ∙ c.in-Refused.is) ∙ c.loop-k.invariant.2
+    paths_stop a.s.now a.table a.count c.loop-k.k c.loop-k.sum c.loop-k.at _ (omega arith) (sym c.look_path-r.ensures ∙ c.in-Err.is) ∙ c.loop-k.invariant.2
 
 pub returns : goal.returns
 returns c =

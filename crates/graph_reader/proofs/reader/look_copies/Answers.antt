@@ -16,12 +16,12 @@ loop-i-smaller c = omega arith
 pub loop-i-preserved : goal.loop-i-preserved
 loop-i-preserved c =
     let a = c.args in
-    (omega arith, looks_turn (copy_row a.s.now) a.n c.loop-i.i c.loop-i.here _ c.loop-i-test.true (sym c.look_copy-r.ensures ∙ c.in-At.is) ∙ c.loop-i.invariant.1)
+    (omega arith, looks_turn (copy_row a.s.now) a.n c.loop-i.i c.loop-i.here _ c.loop-i-test.true (sym c.look_copy-r.ensures ∙ c.in-Ok.is) ∙ c.loop-i.invariant.1)
 
-pub returns-in-Refused : goal.returns-in-Refused
-returns-in-Refused c =
+pub returns-in-Err : goal.returns-in-Err
+returns-in-Err c =
     let a = c.args in
-    looks_stop (copy_row a.s.now) a.n c.loop-i.i c.loop-i.here _ c.loop-i-test.true (sym c.look_copy-r.ensures ∙ c.in-Refused.is) ∙ c.loop-i.invariant.1
+    looks_stop (copy_row a.s.now) a.n c.loop-i.i c.loop-i.here _ c.loop-i-test.true (sym c.look_copy-r.ensures ∙ c.in-Err.is) ∙ c.loop-i.invariant.1
 
 pub returns : goal.returns
 returns c =

@@ -7,23 +7,23 @@ pub returns-then-s-after : goal.returns-then-s-after
 returns-then-s-after c =
     let a = c.args in
     rw (c.wide.ensures, c.wide-then-s-after.ensures)
-    (edges_end a.s.now a.edges a.at _ _ (sym c.look_count-r.ensures ∙ c.in-Value.is) a.copies _
-    (sym c.look_rows-q.ensures ∙ c.in-At.is) c.if-s-after.true)
+    (edges_end a.s.now a.edges a.at _ _ (sym c.look_count-r.ensures ∙ c.in-Ok.is) a.copies _
+    (sym c.look_rows-q.ensures ∙ c.in-Ok.is) c.if-s-after.true)
 
 pub returns-else-s-after : goal.returns-else-s-after
 returns-else-s-after c =
     let a = c.args in
     rw c.refuse.ensures
-    (edges_more a.s.now a.edges a.at _ _ (sym c.look_count-r.ensures ∙ c.in-Value.is) a.copies _
-    (sym c.look_rows-q.ensures ∙ c.in-At.is) c.if-s-after.false)
+    (edges_more a.s.now a.edges a.at _ _ (sym c.look_count-r.ensures ∙ c.in-Ok.is) a.copies _
+    (sym c.look_rows-q.ensures ∙ c.in-Ok.is) c.if-s-after.false)
 
-pub returns-in-Refused-q : goal.returns-in-Refused-q
-returns-in-Refused-q c =
+pub returns-in-Err-q : goal.returns-in-Err-q
+returns-in-Err-q c =
     let a = c.args in
-    edges_stop a.s.now a.edges a.at _ _ (sym c.look_count-r.ensures ∙ c.in-Value.is) a.copies _
-    (sym c.look_rows-q.ensures ∙ c.in-Refused-q.is)
+    edges_stop a.s.now a.edges a.at _ _ (sym c.look_count-r.ensures ∙ c.in-Ok.is) a.copies _
+    (sym c.look_rows-q.ensures ∙ c.in-Err-q.is)
 
-pub returns-in-Refused : goal.returns-in-Refused
-returns-in-Refused c =
+pub returns-in-Err : goal.returns-in-Err
+returns-in-Err c =
     let a = c.args in
-    edges_none a.s.now a.edges a.at a.copies _ (sym c.look_count-r.ensures ∙ c.in-Refused.is)
+    edges_none a.s.now a.edges a.at a.copies _ (sym c.look_count-r.ensures ∙ c.in-Err.is)

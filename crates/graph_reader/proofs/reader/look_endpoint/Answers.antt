@@ -6,14 +6,14 @@ use Rattle.graph_reader.proofs.reader.look_endpoint.Goals as goal
 pub returns-then-value-le1 : goal.returns-then-value-le1
 returns-then-value-le1 c =
     let a = c.args in
-    endpoint_in_lem a.s.now a.at _ _ (sym c.read_number-r.ensures ∙ c.in-Value.is) c.if-value-le1.true
+    endpoint_in_lem a.s.now a.at _ _ (sym c.read_number-r.ensures ∙ c.in-Ok.is) c.if-value-le1.true
 
 pub returns-else-value-le1 : goal.returns-else-value-le1
 returns-else-value-le1 c =
     let a = c.args in
-    rw c.refuse.ensures (endpoint_above a.s.now a.at _ _ (sym c.read_number-r.ensures ∙ c.in-Value.is) c.if-value-le1.false)
+    rw c.refuse.ensures (endpoint_above a.s.now a.at _ _ (sym c.read_number-r.ensures ∙ c.in-Ok.is) c.if-value-le1.false)
 
-pub returns-in-Refused : goal.returns-in-Refused
-returns-in-Refused c =
+pub returns-in-Err : goal.returns-in-Err
+returns-in-Err c =
     let a = c.args in
-    endpoint_none a.s.now a.at _ (sym c.read_number-r.ensures ∙ c.in-Refused.is)
+    endpoint_none a.s.now a.at _ (sym c.read_number-r.ensures ∙ c.in-Err.is)

@@ -17,4 +17,4 @@ returns-in_default c =
 
 pub returns : goal.returns
 returns c =
-    then_next ((let a = c.args in room_sizes (record { nodes = a.copies; endpoints = length a.endpoint.now; starts = a.from; ends = a.to; names = a.via }))) ((let a = c.args in passed_if 32 (leb a.copies 16384 && leb a.from 65536))) ((passed_if 32 (zero_or_one c.args.endpoint.now))) _ ((let by : c.and_unless-v.result ≡ ((let a = c.args in room_sizes (record { nodes = a.copies; endpoints = length a.endpoint.now; starts = a.from; ends = a.to; names = a.via })) then (let a = c.args in passed_if 32 (leb a.copies 16384 && leb a.from 65536))) = c.and_unless-v.ensures ∙ (λ i. c.graph_sizes-v.ensures i then passed_if 32 (c.both-few.ensures i)) in by)) _ c.in-Passed.is (c.unless.ensures ∙ ap (passed_if 32) c.zero_or_one.ensures)
+    then_next ((let a = c.args in room_sizes (record { nodes = a.copies; endpoints = length a.endpoint.now; starts = a.from; ends = a.to; names = a.via }))) ((let a = c.args in passed_if 32 (leb a.copies 16384 && leb a.from 65536))) ((passed_if 32 (zero_or_one c.args.endpoint.now))) _ ((let by : c.and_unless-v.result ≡ ((let a = c.args in room_sizes (record { nodes = a.copies; endpoints = length a.endpoint.now; starts = a.from; ends = a.to; names = a.via })) then (let a = c.args in passed_if 32 (leb a.copies 16384 && leb a.from 65536))) = c.and_unless-v.ensures ∙ (λ i. c.graph_sizes-v.ensures i then passed_if 32 (c.both-few.ensures i)) in by)) _ c.in_ok-before.was (c.unless.ensures ∙ ap (passed_if 32) c.zero_or_one.ensures)

@@ -18,22 +18,22 @@ find_late-requires c =
     let n = length a.nodes.now in
     let D = design a.n a.starts.now a.ends.now a.early.now a.late.now a.marked.now in
     let S = graph_slices a.nodes.now a.endpoint.now a.from.now a.to.now a.via.now in
-    let r = passed_ready D S a.allowed (same_sizes n n (length a.arrivals.now)) (sym c.requires ∙ c.in-Passed.is) in record { fit = r.late; as_long = ((same_passed n n (length a.arrivals.now) r.places).1, r.endpoints) }
+    let r = passed_ready D S a.allowed (same_sizes n n (length a.arrivals.now)) (sym c.requires ∙ c.in_ok-before.was) in record { fit = r.late; as_long = ((same_passed n n (length a.arrivals.now) r.places).1, r.endpoints) }
 
-pub returns-in-Passed : goal.returns-in-Passed
+pub returns-in_ok-before : goal.returns-in_ok-before
 unfolding arrivals_after_late
-returns-in-Passed c =
+returns-in_ok-before c =
     let a = c.args in
     let D = design a.n a.starts.now a.ends.now a.early.now a.late.now a.marked.now in
     let S = graph_slices a.nodes.now a.endpoint.now a.from.now a.to.now a.via.now in
-    let answer = c.find_late.ensures.0 ∙ ap (λ (v : Verdict). late_answer D S a.allowed v) (sym c.in-Passed.is) in
+    let answer = c.find_late.ensures.0 ∙ ap (λ (v : Verdict). late_answer D S a.allowed v) (sym c.in_ok-before.was) in
     (answer, c.find_late.ensures.1 ∙ ap (λ (x : Result (Option ℕ) Refusal). arrivals_after_late D S a.allowed x a.arrivals.now) answer)
 
-pub returns-in-Refused : goal.returns-in-Refused
+pub returns-in-Err : goal.returns-in-Err
 unfolding arrivals_after_late
-returns-in-Refused c =
+returns-in-Err c =
     let a = c.args in
     let D = design a.n a.starts.now a.ends.now a.early.now a.late.now a.marked.now in
     let S = graph_slices a.nodes.now a.endpoint.now a.from.now a.to.now a.via.now in
-    let told = c.in-Refused.is in
+    let told = c.in-Err.is in
     (ap (λ (v : Verdict). late_answer D S a.allowed v) (sym told), ap (λ (v : Verdict). arrivals_after_late D S a.allowed (late_answer D S a.allowed v) a.arrivals.now) (sym told))

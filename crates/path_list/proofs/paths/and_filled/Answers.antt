@@ -20,7 +20,7 @@ path_end-to-requires c = omega arith
 pub returns-then-to-from : goal.returns-then-to-from
 returns-then-to-from c =
     let a = c.args in
-    rw c.in-Passed.is
+    rw c.in_ok-before.was
     (c.unless_fault.ensures
     ∙ sym (fault_path 22 empty_at a.listed.now a.lengths.now c.loop-p.p c.loop-p.from c.path_end-to.result c.loop-p-test.true c.loop-p.invariant.1 c.path_end-to.ensures
     (Some 0) (sym (part_empty a.listed.now c.loop-p.from c.path_end-to.result (omega arith))) refl)
@@ -45,4 +45,4 @@ loop-p-preserved c =
 pub returns : goal.returns
 returns c =
     let a = c.args in
-    rw c.in-Passed.is (sym (no_path_left 22 empty_at a.listed.now a.lengths.now c.loop-p.p c.loop-p.from c.loop-p-test.false) ∙ c.loop-p.invariant.2)
+    rw c.in_ok-before.was (sym (no_path_left 22 empty_at a.listed.now a.lengths.now c.loop-p.p c.loop-p.from c.loop-p-test.false) ∙ c.loop-p.invariant.2)

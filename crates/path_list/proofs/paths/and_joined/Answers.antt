@@ -11,7 +11,7 @@ use Rattle.path_list.proofs.Loops.{first_edge, break_of_front}
 use Rattle.path_list.proofs.Laws.{part_length, no_path_left, fault_path, sound_path}
 use Rattle.path_list.proofs.paths.and_joined.Invariants.{meet}
 use Rattle.path_list.proofs.paths.and_joined.Goals as goal
-use Rattle.path_list.proofs.paths.and_joined.Goals.{else-paths-test, then-paths-test+then-loop-i-test+in_default-found}
+use Rattle.path_list.proofs.paths.and_joined.Goals.{else-paths-test, then-paths-test+then-loop-i-test+in_default}
 
 pub paths-init : goal.paths-init
 paths-init c = (omega arith, omega arith, refl, refl)
@@ -76,16 +76,16 @@ pub returns : goal.returns
 returns c =
     let a = c.args in
     let m = meet a.starts.now a.ends.now in
-    rw c.in-Passed.is
+    rw c.in_ok-before.was
     (c.unless_fault.ensures
     ∙ elim c.paths-test.branch [
       | else-paths-test w ↦
           ap (λ (f : Option ℕ). unless_fault 24 c.paths.p f) (w.found-is ∙ c.paths.invariant.2)
           ∙ sym (no_path_left 24 (first_break m 0) a.listed.now a.lengths.now c.paths.p c.paths.from w.paths-test.false)
-      | then-paths-test+then-loop-i-test+in_default-found w ↦
+      | then-paths-test+then-loop-i-test+in_default w ↦
           -- where the search stops, what was found is the verdict on all that is left
           let path = take (w.path_end-to.result - c.paths.from) (drop c.paths.from a.listed.now) in
-          let d = w.in_default-found in
+          let d = w.in_default in
           ap (λ (f : Option ℕ). unless_fault 24 c.paths.p f) w.found-is
           ∙ sym (
           fault_path 24 (first_break m 0) a.listed.now a.lengths.now c.paths.p c.paths.from w.path_end-to.result w.paths-test.true c.paths.invariant.1 w.path_end-to.ensures

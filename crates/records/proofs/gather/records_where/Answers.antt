@@ -9,13 +9,13 @@ use Rattle.records.proofs.gather.records_where.Goals as goal
 pub fill_records-requires : goal.fill_records-requires
 fill_records-requires c =
     let a = c.args in
-    let n = records_sizes a.nodes.now a.arrivals.now a.requireds.now a.slacks.now a.earliests.now a.n (length a.known.now) (length a.na.now) (length a.nr.now) (length a.ns.now) (length a.ne.now) (sym c.requires ∙ c.in-Passed.is) in
+    let n = records_sizes a.nodes.now a.arrivals.now a.requireds.now a.slacks.now a.earliests.now a.n (length a.known.now) (length a.na.now) (length a.nr.now) (length a.ns.now) (length a.ne.now) (sym c.requires ∙ c.in_ok-before.was) in
     (n.1 ∙ sym n.0, n.2 ∙ sym n.0, n.3 ∙ sym n.0, n.4 ∙ sym n.0)
 
-pub returns-in-Passed : goal.returns-in-Passed
-returns-in-Passed c =
+pub returns-in_ok-before : goal.returns-in_ok-before
+returns-in_ok-before c =
     let a = c.args in
-    let told = c.in-Passed.is in
+    let told = c.in_ok-before.was in
     let n = (records_sizes a.nodes.now a.arrivals.now a.requireds.now a.slacks.now a.earliests.now a.n (length a.known.now) (length a.na.now) (length a.nr.now) (length a.ns.now) (length a.ne.now) (sym c.requires ∙ told)).0 in
     let f = c.fill_records.ensures in (
       sym told,
@@ -26,13 +26,13 @@ returns-in-Passed c =
       records_filled a.nodes.now a.arrivals.now a.requireds.now a.slacks.now a.earliests.now (pos 0) earliest_of a.n a.ne.now (length a.known.now) a.tested c.fill_records.new.ne n told f.4,
     )
 
-pub returns-in-Refused : goal.returns-in-Refused
-returns-in-Refused c =
+pub returns-in-Err : goal.returns-in-Err
+returns-in-Err c =
     let a = c.args in (
-      sym c.in-Refused.is,
-      records_kept a.nodes.now a.arrivals.now a.requireds.now a.slacks.now a.earliests.now 0 has_times a.n a.known.now a.tested c.in-Refused.r c.in-Refused.is,
-      records_kept a.nodes.now a.arrivals.now a.requireds.now a.slacks.now a.earliests.now (pos 0) arrival_of a.n a.na.now a.tested c.in-Refused.r c.in-Refused.is,
-      records_kept a.nodes.now a.arrivals.now a.requireds.now a.slacks.now a.earliests.now (pos 0) required_of a.n a.nr.now a.tested c.in-Refused.r c.in-Refused.is,
-      records_kept a.nodes.now a.arrivals.now a.requireds.now a.slacks.now a.earliests.now (pos 0) slack_of a.n a.ns.now a.tested c.in-Refused.r c.in-Refused.is,
-      records_kept a.nodes.now a.arrivals.now a.requireds.now a.slacks.now a.earliests.now (pos 0) earliest_of a.n a.ne.now a.tested c.in-Refused.r c.in-Refused.is,
+      sym c.in-Err.is,
+      records_kept a.nodes.now a.arrivals.now a.requireds.now a.slacks.now a.earliests.now 0 has_times a.n a.known.now a.tested c.in-Err.r c.in-Err.is,
+      records_kept a.nodes.now a.arrivals.now a.requireds.now a.slacks.now a.earliests.now (pos 0) arrival_of a.n a.na.now a.tested c.in-Err.r c.in-Err.is,
+      records_kept a.nodes.now a.arrivals.now a.requireds.now a.slacks.now a.earliests.now (pos 0) required_of a.n a.nr.now a.tested c.in-Err.r c.in-Err.is,
+      records_kept a.nodes.now a.arrivals.now a.requireds.now a.slacks.now a.earliests.now (pos 0) slack_of a.n a.ns.now a.tested c.in-Err.r c.in-Err.is,
+      records_kept a.nodes.now a.arrivals.now a.requireds.now a.slacks.now a.earliests.now (pos 0) earliest_of a.n a.ne.now a.tested c.in-Err.r c.in-Err.is,
     )

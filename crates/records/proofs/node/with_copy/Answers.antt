@@ -16,11 +16,11 @@ returns-in-None c =
     rw (to_z-of_z c.ranges.arrival, to_z-of_z c.ranges.required, to_z-of_z c.ranges.slack, to_z-of_z c.ranges.earliest)
     (ap (λ (t : Option NodeTimes). with_copy t a.arrival a.required a.slack a.earliest) (sym c.in-None.is))
 
-pub returns-in-Times : goal.returns-in-Times
-returns-in-Times c =
+pub returns-in-Some : goal.returns-in-Some
+returns-in-Some c =
     let a = c.args in
-    four (read_back c.larger.result c.larger.type_inv ∙ c.larger.ensures ∙ ap₂ larger (read_back c.in-Times.a (search rules)) (to_z-of_z c.ranges.arrival))
-    (read_back c.smaller.result c.smaller.type_inv ∙ c.smaller.ensures ∙ ap₂ smaller (read_back c.in-Times.r (search rules)) (to_z-of_z c.ranges.required))
-    (read_back c.smaller-in-Times.result c.smaller-in-Times.type_inv ∙ c.smaller-in-Times.ensures ∙ ap₂ smaller (read_back c.in-Times.s (search rules)) (to_z-of_z c.ranges.slack))
-    (read_back c.smaller-in-Times-2.result c.smaller-in-Times-2.type_inv ∙ c.smaller-in-Times-2.ensures ∙ ap₂ smaller (read_back c.in-Times.e (search rules)) (to_z-of_z c.ranges.earliest))
-    ∙ ap (λ (t : Option NodeTimes). with_copy t a.arrival a.required a.slack a.earliest) (sym c.in-Times.is)
+    four (read_back c.larger.result c.larger.type_inv ∙ c.larger.ensures ∙ ap₂ larger (read_back c.in-Some.a (search rules)) (to_z-of_z c.ranges.arrival))
+    (read_back c.smaller.result c.smaller.type_inv ∙ c.smaller.ensures ∙ ap₂ smaller (read_back c.in-Some.r (search rules)) (to_z-of_z c.ranges.required))
+    (read_back c.smaller-in-Some.result c.smaller-in-Some.type_inv ∙ c.smaller-in-Some.ensures ∙ ap₂ smaller (read_back c.in-Some.s (search rules)) (to_z-of_z c.ranges.slack))
+    (read_back c.smaller-in-Some-2.result c.smaller-in-Some-2.type_inv ∙ c.smaller-in-Some-2.ensures ∙ ap₂ smaller (read_back c.in-Some.e (search rules)) (to_z-of_z c.ranges.earliest))
+    ∙ ap (λ (t : Option NodeTimes). with_copy t a.arrival a.required a.slack a.earliest) (sym c.in-Some.is)

@@ -35,9 +35,9 @@ returns-in-Nothing c =
     let found = subst (λ (r : Searched). AllSearched a.starts.now a.listed.now a.lengths.now a.nodes.now a.endpoint.now a.from.now a.to.now a.via.now a.scratch.now c.search-searched.new.scratch r) c.in-Nothing.is s.ensures.0 in
     removed_none a.starts.now a.listed.now a.lengths.now a.nodes.now a.endpoint.now a.from.now a.to.now a.via.now a.scratch.now c.search-searched.new.scratch c.zero-in-Nothing.new.t found.0 found.1 found.2 z.ensures a.room_nodes.now a.room_endpoint.now a.room_from.now a.room_to.now a.room_via.now
 
-pub returns-in-Refused : goal.returns-in-Refused
-returns-in-Refused c =
+pub returns-in-Err : goal.returns-in-Err
+returns-in-Err c =
     let a = c.args in
     let s = c.search-searched in
-    let found = subst (λ (r : Searched). AllSearched a.starts.now a.listed.now a.lengths.now a.nodes.now a.endpoint.now a.from.now a.to.now a.via.now a.scratch.now c.search-searched.new.scratch r) c.in-Refused.is s.ensures.0 in
-    removed_refused a.starts.now a.listed.now a.lengths.now a.nodes.now a.endpoint.now a.from.now a.to.now a.via.now a.scratch.now c.in-Refused.r c.search-searched.new.scratch found.0 found.1 a.room_nodes.now a.room_endpoint.now a.room_from.now a.room_to.now a.room_via.now
+    let found = subst (λ (r : Searched). AllSearched a.starts.now a.listed.now a.lengths.now a.nodes.now a.endpoint.now a.from.now a.to.now a.via.now a.scratch.now c.search-searched.new.scratch r) c.in-Err.is s.ensures.0 in
+    removed_refused a.starts.now a.listed.now a.lengths.now a.nodes.now a.endpoint.now a.from.now a.to.now a.via.now a.scratch.now c.in-Err.r c.search-searched.new.scratch found.0 found.1 a.room_nodes.now a.room_endpoint.now a.room_from.now a.room_to.now a.room_via.now

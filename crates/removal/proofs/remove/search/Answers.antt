@@ -13,10 +13,10 @@ count_candidates-candidates-requires c =
     let a = c.args in
     work_countable a.starts.now a.listed.now a.lengths.now a.nodes.now a.endpoint.now a.from.now a.to.now a.via.now c.requires.0
 
-pub returns-in-Refused : goal.returns-in-Refused
-returns-in-Refused c =
+pub returns-in-Err : goal.returns-in-Err
+returns-in-Err c =
     let a = c.args in
-    ((sym (ap (λ (k : ℕ). words_test k (length a.listed.now) (length a.from.now) (length a.scratch.now)) c.count_candidates-candidates.ensures) ∙ sym c.scratch_test-verdict.ensures ∙ c.in-Refused.is, refl), refl)
+    ((sym (ap (λ (k : ℕ). words_test k (length a.listed.now) (length a.from.now) (length a.scratch.now)) c.count_candidates-candidates.ensures) ∙ sym c.scratch_test-verdict.ensures ∙ c.in-Err.is, refl), refl)
 
 pub returns-then-nodes-eq0 : goal.returns-then-nodes-eq0
 returns-then-nodes-eq0 c =

@@ -35,9 +35,9 @@ returns-in-Nothing c =
     let found = subst (λ (r : Searched). AllSearched a.starts.now a.listed.now a.lengths.now a.nodes.now a.endpoint.now a.from.now a.to.now a.via.now a.scratch.now c.search-searched.new.scratch r) c.in-Nothing.is s.ensures.0 in
     sized_none a.starts.now a.listed.now a.lengths.now a.nodes.now a.endpoint.now a.from.now a.to.now a.via.now a.scratch.now c.search-searched.new.scratch c.zero-in-Nothing.new.t found.0 found.1 found.2 z.ensures
 
-pub returns-in-Refused : goal.returns-in-Refused
-returns-in-Refused c =
+pub returns-in-Err : goal.returns-in-Err
+returns-in-Err c =
     let a = c.args in
     let s = c.search-searched in
-    let found = subst (λ (r : Searched). AllSearched a.starts.now a.listed.now a.lengths.now a.nodes.now a.endpoint.now a.from.now a.to.now a.via.now a.scratch.now c.search-searched.new.scratch r) c.in-Refused.is s.ensures.0 in
-    sized_refused a.starts.now a.listed.now a.lengths.now a.nodes.now a.endpoint.now a.from.now a.to.now a.via.now a.scratch.now c.in-Refused.r c.search-searched.new.scratch found.0 found.1
+    let found = subst (λ (r : Searched). AllSearched a.starts.now a.listed.now a.lengths.now a.nodes.now a.endpoint.now a.from.now a.to.now a.via.now a.scratch.now c.search-searched.new.scratch r) c.in-Err.is s.ensures.0 in
+    sized_refused a.starts.now a.listed.now a.lengths.now a.nodes.now a.endpoint.now a.from.now a.to.now a.via.now a.scratch.now c.in-Err.r c.search-searched.new.scratch found.0 found.1

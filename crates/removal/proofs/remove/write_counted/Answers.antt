@@ -13,12 +13,12 @@ show_all-counts-requires c =
     let x = c.requires.0 in
     (x.ready, x.idle, c.requires.1)
 
-pub returns-in-Refused : goal.returns-in-Refused
-returns-in-Refused c =
+pub returns-in-Err : goal.returns-in-Err
+returns-in-Err c =
     let a = c.args in
     let w = c.show_all-counts in
     let r = c.room_answer-answer in (
-      room_refused a.l a.nodes.now a.endpoint.now a.scratch.now c.show_all-counts.new.scratch w.result.copies w.result.edges c.requires.0 w.ensures.0 a.room_nodes.now a.room_endpoint.now a.room_from.now a.room_to.now a.room_via.now c.in-Refused.r (sym r.ensures ∙ c.in-Refused.is),
+      room_refused a.l a.nodes.now a.endpoint.now a.scratch.now c.show_all-counts.new.scratch w.result.copies w.result.edges c.requires.0 w.ensures.0 a.room_nodes.now a.room_endpoint.now a.room_from.now a.room_to.now a.room_via.now c.in-Err.r (sym r.ensures ∙ c.in-Err.is),
       w.ensures.0.size,
     )
 

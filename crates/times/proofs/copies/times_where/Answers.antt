@@ -13,15 +13,15 @@ pub fill_times-requires : goal.fill_times-requires
 unfolding test_times
 fill_times-requires c =
     let a = c.args in
-    let r = passed_ready (design a.n a.starts.now a.ends.now a.early.now a.late.now a.marked.now) (graph_slices a.nodes.now a.endpoint.now a.from.now a.to.now a.via.now) a.allowed _ (sym c.requires ∙ c.in-Passed.is) in record { fit = (r.late, r.early, r.onward, r.allowed, r.endpoints); as_long = times_passed _ _ _ _ _ r.places }
+    let r = passed_ready (design a.n a.starts.now a.ends.now a.early.now a.late.now a.marked.now) (graph_slices a.nodes.now a.endpoint.now a.from.now a.to.now a.via.now) a.allowed _ (sym c.requires ∙ c.in_ok-before.was) in record { fit = (r.late, r.early, r.onward, r.allowed, r.endpoints); as_long = times_passed _ _ _ _ _ r.places }
 
-pub returns-in-Passed : goal.returns-in-Passed
+pub returns-in_ok-before : goal.returns-in_ok-before
 unfolding arrivals_after requireds_after slacks_after earliests_after
-returns-in-Passed c =
+returns-in_ok-before c =
     let a = c.args in
     let D = (design a.n a.starts.now a.ends.now a.early.now a.late.now a.marked.now) in
     let S = (graph_slices a.nodes.now a.endpoint.now a.from.now a.to.now a.via.now) in
-    let told = c.in-Passed.is in
+    let told = c.in_ok-before.was in
     let f = c.fill_times.ensures in (
       sym told,
       after_told (List ℤ) c.fill_times.new.arrivals (λ (v : Verdict). arrivals_after D S a.allowed v a.arrivals.now) Passed a.tested (sym told) f.0,
@@ -30,13 +30,13 @@ returns-in-Passed c =
       after_told (List ℤ) c.fill_times.new.earliests (λ (v : Verdict). earliests_after D S v a.earliests.now) Passed a.tested (sym told) f.3,
     )
 
-pub returns-in-Refused : goal.returns-in-Refused
+pub returns-in-Err : goal.returns-in-Err
 unfolding arrivals_after requireds_after slacks_after earliests_after
-returns-in-Refused c =
+returns-in-Err c =
     let a = c.args in
     let D = (design a.n a.starts.now a.ends.now a.early.now a.late.now a.marked.now) in
     let S = (graph_slices a.nodes.now a.endpoint.now a.from.now a.to.now a.via.now) in
-    let told = c.in-Refused.is in (
+    let told = c.in-Err.is in (
       sym told,
       ap (λ (v : Verdict). arrivals_after D S a.allowed v a.arrivals.now) (sym told),
       ap (λ (v : Verdict). requireds_after D S a.allowed v a.requireds.now) (sym told),
