@@ -18,6 +18,7 @@ use Rattle.theorems.proofs.Series.{graph_slices_lem}
 use Rattle.theorems.proofs.Records.{removed_on, removed_demand2}
 use Rattle.theorems.proofs.Records.{series_demand2 as held-demand2}
 use Rattle.theorems.proofs.Called.{front_held, ran_beside}
+use Rattle.theorems.proofs.Told.{copies_in}
 use Rattle.called.specs.Removals.{Call, design_of, earlier_of, called_of, worked_on, paths_in, Follows}
 use Rattle.called.proofs.Series.{meets, ran}
 
@@ -36,10 +37,6 @@ slices_or S (some F) = F
 
 abbrev outcome_of : Call → Outcome Graph
 outcome_of c = remove_on (design_of c) (earlier_of c) (removal_of (called_of c))
-
-abbrev copies_in : Result GraphCounts Refusal → ℕ
-copies_in (Ok g) = g.copies
-copies_in (Err r) = 0
 
 -- what a call made: a graph whose slices are the front of the room
 pub record MadeBy (c : Call) (k e : ℕ) : Type 0 where

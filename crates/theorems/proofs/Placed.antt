@@ -6,7 +6,8 @@ use mathlib.Core.Path.{◌≡◌, refl, sym, ◌∙◌, ap}
 use mathlib.Core.Bool.{Bool, ◌&&◌}
 use mathlib.Core.List.{List}
 use mathlib.Core.Option.{Option, none, some}
-use Rattle.std.specs.Prelude.{Option, Err}
+use Rattle.std.specs.Prelude.{Err}
+use Rattle.std.specs.Prelude.{Option as Maybe}
 use Rattle.timing.specs.Answers.{Verdict, Passed}
 use lib.Dec.{eqb, leb}
 use lib.ListN.{length}
@@ -36,7 +37,7 @@ module _ (n : ℕ) where
   other_unless : (k : ℕ) → (k ≡ n → ⊥) → (fit : Bool) → Other n (unless k fit)
   other_unless k h fit = every_unless (λ x. x.number ≡ n → ⊥) k h fit
 
-  other_fault : (k : ℕ) → (k ≡ n → ⊥) → (fault : List ℕ → Option ℕ) (i : ℕ) (paths : List (List ℕ)) → Other n (first_fault k fault i paths)
+  other_fault : (k : ℕ) → (k ≡ n → ⊥) → (fault : List ℕ → Maybe ℕ) (i : ℕ) (paths : List (List ℕ)) → Other n (first_fault k fault i paths)
   other_fault k h fault i paths = every_fault (λ x. x.number ≡ n → ⊥) k fault i paths (λ j d l. h)
 
   -- a refusal with the number n is by none of these: it is by the rest of the chain

@@ -6,7 +6,8 @@ use mathlib.Core.Path.{◌≡◌, sym, ap, ◌∙◌, subst}
 use mathlib.Core.Bool.{◌&&◌}
 use mathlib.Core.List.{List, map, Memᴰ}
 use mathlib.Core.Option.{Option, none, some}
-use Rattle.std.specs.Prelude.{Option, Ok}
+use Rattle.std.specs.Prelude.{Ok}
+use Rattle.std.specs.Prelude.{Option as Maybe}
 use Rattle.timing.specs.Answers.{Verdict, Passed, Times}
 use Rattle.timing.specs.declared.NodeTimes.{NodeTimes}
 use native.Mathlib.Omega.{arith}
@@ -222,7 +223,7 @@ module _ (D : Design) (H : Graph) (t : ℕ) (ats rts sts ets : List ℤ)
       (times_count D (slices_of H) t (length ats) (length rts) (length sts) (length ets) tested)
 
   -- and what `node_records` leaves at the place of node v tells the same record
-  pub records_after_lem : {A : Type 0} (z : A) (f : Option NodeTimes → A) (room : List A) (v : ℕ) → v < D.nodes
+  pub records_after_lem : {A : Type 0} (z : A) (f : Maybe NodeTimes → A) (room : List A) (v : ℕ) → v < D.nodes
       → get_or
       (records_after f D.nodes H.nodes
       (arrivals_after D (slices_of H) t (test_times D (slices_of H) t (length ats) (length rts) (length sts) (length ets)) ats)

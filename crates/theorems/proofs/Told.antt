@@ -7,7 +7,7 @@ use mathlib.Core.Path.{◌≡◌, refl, sym, ap, ◌∙◌, subst}
 use mathlib.Core.Bool.{Bool, true, false, not, cond, ◌&&◌, ◌||◌}
 use mathlib.Core.List.{List, map}
 use mathlib.Core.Option.{Option, none, some}
-use Rattle.std.specs.Prelude.{Result, Err}
+use Rattle.std.specs.Prelude.{Result, Ok, Err}
 use Rattle.timing.specs.Answers.{Verdict, Passed, Counts}
 use Rattle.timing.specs.declared.GraphCounts.{GraphCounts}
 use Rattle.timing.specs.declared.Refusal.{Refusal}
@@ -74,7 +74,7 @@ module _ (R : Room) (H : Graph) where
 
   -- 33 and 34: x where the room of copies is too short, y where that of edges is
   abbrev short : Bool → Bool → Result GraphCounts Refusal → Result GraphCounts Refusal
-  short x y (Counts c e) = cond x (Err (refusal 33 0)) (cond y (Err (refusal 34 0)) (Counts c e))
+  short x y (Ok g) = cond x (Err (refusal 33 0)) (cond y (Err (refusal 34 0)) (Ok g))
   short x y (Err r) = cond (eqb r.number 34 && x) (Err (refusal 33 0)) (Err r)
 
   told_short : (v : Verdict) → short (ltb R.nodes (length H.nodes)) (ltb R.starts (length H.edges)) (answer v) ≡ told (answer v)
@@ -174,8 +174,17 @@ behind_placed : {A : Type 0} (n : ℕ) (xs room : List A) → length xs ≡ n �
 behind_placed {A} n xs room e =
     subst (λ (k : ℕ). drop k (placed xs room) ≡ drop k room) e (drop-append_seam xs (drop (length xs) room))
 
+-- the counts that an answer has, where it is no refusal
+abbrev pub copies_in : Result GraphCounts Refusal → ℕ
+copies_in (Ok g) = g.copies
+copies_in (Err r) = 0
+
+abbrev pub edges_in : Result GraphCounts Refusal → ℕ
+edges_in (Ok g) = g.edges
+edges_in (Err r) = 0
+
 counted : (v : Verdict) (H : Graph) (k e : ℕ) → graph_answer (outcome v H) ≡ Counts k e → (outcome v H ≡ made H) × (length H.nodes ≡ k) × (length H.edges ≡ e)
-counted Passed H k e q = (refl, cc, cc)
+counted Passed H k e q = (refl, ap copies_in q, ap edges_in q)
 counted (Err r) H k e q = absurd (let z : ◌≡◌ {A = ℕ} 0 1 = cc in omega arith)
 
 fills : (H : Graph) (c : Called) → length H.endpoints ≡ length H.nodes → Meets (made H) c → FillsJust H (length H.nodes) (length H.edges) c.room c.after
