@@ -11,16 +11,16 @@
 // local arrays, each as long as a design or a list can ask:
 // - `build::count_candidates`: a count for each node, 16,384 bytes. A scratch that is too short (31) stays as it
 //   was, so that the candidates are counted without it;
-// - `remove_large`, `size_large`: the numbers of the nodes, their endpoint numbers and the numbers of the edges, by
-//   which a design is lent as a graph, 16,384, 16,384 and 65,536 bytes; `remove_small`, `size_small` for at most 1,024
-//   nodes and edges: 4,096 bytes each;
+// - `remove_within`, `size_within`: the numbers of the nodes, their endpoint numbers and the numbers of the edges, by
+//   which a design is lent as a graph, 16,384, 16,384 and 65,536 bytes; or for at most 1,024
+//   nodes and edges 4,096 bytes each;
 // - `remove::remove`, `remove::size`: where the edge of each name stands among the edges into a copy, 32,768 bytes, or 2,048 for a design of
 //   at most 1,024 edges;
 // - `build::build`: the class of each edge alone, 32,768 bytes, or 2,048 for such a design, and how many marks there are at the nodes below
 //   each, 16,388 bytes;
 // - `classes::list_tables`: 24 bytes for each of 2,048 paths, 49,152 bytes, or 1,536 for at most 64 paths; and while these are sorted two counts for
 //   each of 128 digits, 2,048 bytes.
-// The most at a time is 231,428 bytes: those of `remove_large` or `size_large`, `remove` or `size`, `build` and `list_tables`.
+// The most at a time is 231,428 bytes: those of `remove_within` or `size_within`, `remove` or `size`, `build` and `list_tables`.
 #![tactic(auto)]
 
 ghost use Rattle.std.specs.Prelude.{◌≡◌, ◌≤◌, length};
@@ -40,7 +40,7 @@ use design::and_design_tests;
 use graph::and_graph_test;
 use path_list::and_list_tests;
 use sizes::{and_list_sizes, design_sizes};
-use timing::{GraphCounts, Refusal, Verdict};
+use timing::{GraphCounts, MAX_EDGES, Refusal, Verdict};
 use verdicts::{graph_sizes, then};
 
 mod bounds;
@@ -132,8 +132,8 @@ fn remove_numbered(
     )
 }
 
-// The same of at most 1,024 nodes and edges: to clear room for as many as a design can have takes long beside the passes over so few.
-fn remove_small(
+// The same of at most so many nodes and edges.
+fn remove_within<const NODES: usize, const EDGES: usize>(
     n: usize,
     starts: &[u32],
     ends: &[u32],
@@ -149,16 +149,16 @@ fn remove_small(
 ) -> Result<GraphCounts, Refusal>
     requires { Numberable starts.now ends.now marked.now listed.now lengths.now n
         × RoomsAlike room_nodes.old room_endpoint.old room_from.old room_to.old room_via.old
-        × (n ≤ 1024) × (length starts.now ≤ 1024) }
+        × (n ≤ NODES) × (length starts.now ≤ EDGES) }
     ensures { DesignRemoved starts.now ends.now marked.now listed.now
         lengths.now n result room_nodes.old room_endpoint.old
         room_from.old room_to.old room_via.old scratch.old
         room_nodes.new room_endpoint.new room_from.new
         room_to.new room_via.new scratch.new }
 {
-    let mut numbers = [0u32; 1024];
-    let mut endpoint = [1u32; 1024];
-    let mut names = [0u32; 1024];
+    let mut numbers = [0u32; NODES];
+    let mut endpoint = [1u32; NODES];
+    let mut names = [0u32; EDGES];
     remove_numbered(
         n,
         starts,
@@ -178,52 +178,7 @@ fn remove_small(
     )
 }
 
-// The same of as many as a design can have.
-fn remove_large(
-    n: usize,
-    starts: &[u32],
-    ends: &[u32],
-    marked: &[u32],
-    listed: &[u32],
-    lengths: &[u32],
-    room_nodes: &mut [u32],
-    room_endpoint: &mut [u32],
-    room_from: &mut [u32],
-    room_to: &mut [u32],
-    room_via: &mut [u32],
-    scratch: &mut [u32],
-) -> Result<GraphCounts, Refusal>
-    requires { Numberable starts.now ends.now marked.now listed.now lengths.now n
-        × RoomsAlike room_nodes.old room_endpoint.old room_from.old room_to.old room_via.old }
-    ensures { DesignRemoved starts.now ends.now marked.now listed.now
-        lengths.now n result room_nodes.old room_endpoint.old
-        room_from.old room_to.old room_via.old scratch.old
-        room_nodes.new room_endpoint.new room_from.new
-        room_to.new room_via.new scratch.new }
-{
-    let mut numbers = [0u32; 4096];
-    let mut endpoint = [1u32; 4096];
-    let mut names = [0u32; 16384];
-    remove_numbered(
-        n,
-        starts,
-        ends,
-        marked,
-        listed,
-        lengths,
-        &mut numbers,
-        &mut endpoint,
-        &mut names,
-        room_nodes,
-        room_endpoint,
-        room_from,
-        room_to,
-        room_via,
-        scratch,
-    )
-}
-
-// The same in the room that is enough.
+// The same in the room that is enough: to clear room for as many as a design can have takes long beside the passes over few.
 fn remove_tested(
     n: usize,
     starts: &[u32],
@@ -247,7 +202,7 @@ fn remove_tested(
         room_to.new room_via.new scratch.new }
 {
     if n <= 1024 && starts.len() <= 1024 {
-        return remove_small(
+        return remove_within::<1024, 1024>(
             n,
             starts,
             ends,
@@ -262,7 +217,7 @@ fn remove_tested(
             scratch,
         );
     }
-    remove_large(
+    remove_within::<4096, MAX_EDGES>(
         n,
         starts,
         ends,
@@ -315,10 +270,7 @@ pub fn remove_from_design(
         room_to.len(),
         room_via.len(),
     );
-    let verdict = list_tests(n, starts, ends, early, late, marked, listed, lengths, room);
-    if let Err(r) = verdict {
-        return Err(r);
-    }
+    list_tests(n, starts, ends, early, late, marked, listed, lengths, room)?;
     remove_tested(
         n as usize,
         starts,
@@ -367,8 +319,8 @@ fn size_numbered(
     )
 }
 
-// The same of at most 1,024 nodes and edges.
-fn size_small(
+// The same of at most so many nodes and edges.
+fn size_within<const NODES: usize, const EDGES: usize>(
     n: usize,
     starts: &[u32],
     ends: &[u32],
@@ -378,44 +330,13 @@ fn size_small(
     scratch: &mut [u32],
 ) -> Result<GraphCounts, Refusal>
     requires { Numberable starts.now ends.now marked.now listed.now lengths.now n
-        × (n ≤ 1024) × (length starts.now ≤ 1024) }
+        × (n ≤ NODES) × (length starts.now ≤ EDGES) }
     ensures { DesignSized starts.now ends.now marked.now listed.now
         lengths.now n result scratch.old scratch.new }
 {
-    let mut numbers = [0u32; 1024];
-    let mut endpoint = [1u32; 1024];
-    let mut names = [0u32; 1024];
-    size_numbered(
-        n,
-        starts,
-        ends,
-        marked,
-        listed,
-        lengths,
-        &mut numbers,
-        &mut endpoint,
-        &mut names,
-        scratch,
-    )
-}
-
-// The same of as many as a design can have.
-fn size_large(
-    n: usize,
-    starts: &[u32],
-    ends: &[u32],
-    marked: &[u32],
-    listed: &[u32],
-    lengths: &[u32],
-    scratch: &mut [u32],
-) -> Result<GraphCounts, Refusal>
-    requires { Numberable starts.now ends.now marked.now listed.now lengths.now n }
-    ensures { DesignSized starts.now ends.now marked.now listed.now
-        lengths.now n result scratch.old scratch.new }
-{
-    let mut numbers = [0u32; 4096];
-    let mut endpoint = [1u32; 4096];
-    let mut names = [0u32; 16384];
+    let mut numbers = [0u32; NODES];
+    let mut endpoint = [1u32; NODES];
+    let mut names = [0u32; EDGES];
     size_numbered(
         n,
         starts,
@@ -445,9 +366,9 @@ fn size_tested(
         lengths.now n result scratch.old scratch.new }
 {
     if n <= 1024 && starts.len() <= 1024 {
-        return size_small(n, starts, ends, marked, listed, lengths, scratch);
+        return size_within::<1024, 1024>(n, starts, ends, marked, listed, lengths, scratch);
     }
-    size_large(n, starts, ends, marked, listed, lengths, scratch)
+    size_within::<4096, MAX_EDGES>(n, starts, ends, marked, listed, lengths, scratch)
 }
 
 // How many copies and edges `remove_from_design` makes of the same design and list.
@@ -467,7 +388,7 @@ pub fn size_from_design(
         let o = size_from_design D L (length scratch.old) in
         (result ≡ graph_answer o) × (scratch.new ≡ scratch_after o scratch.old) }
 {
-    let verdict = list_tests(
+    list_tests(
         n,
         starts,
         ends,
@@ -477,10 +398,7 @@ pub fn size_from_design(
         listed,
         lengths,
         Ok(()),
-    );
-    if let Err(r) = verdict {
-        return Err(r);
-    }
+    )?;
     size_tested(n as usize, starts, ends, marked, listed, lengths, scratch)
 }
 
@@ -558,12 +476,9 @@ pub fn remove_from_graph(
         room_to.len(),
         room_via.len(),
     );
-    let verdict = graph_tests(
+    graph_tests(
         n, starts, ends, early, late, marked, listed, lengths, nodes, endpoint, from, to, via, room,
-    );
-    if let Err(r) = verdict {
-        return Err(r);
-    }
+    )?;
     remove(
         starts,
         listed,
@@ -605,7 +520,7 @@ pub fn size_from_graph(
         let o = size_from_graph D S L (length scratch.old) in
         (result ≡ graph_answer o) × (scratch.new ≡ scratch_after o scratch.old) }
 {
-    let verdict = graph_tests(
+    graph_tests(
         n,
         starts,
         ends,
@@ -620,10 +535,7 @@ pub fn size_from_graph(
         to,
         via,
         Ok(()),
-    );
-    if let Err(r) = verdict {
-        return Err(r);
-    }
+    )?;
     size(
         starts, listed, lengths, nodes, endpoint, from, to, via, scratch,
     )

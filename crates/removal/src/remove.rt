@@ -13,15 +13,13 @@ use crate::rows::Layout;
 use crate::show::{reset_flags, show_all};
 use entries::zero;
 use sizes::{largest_answer, room_answer, scratch_test};
-use timing::{GraphCounts, Refusal};
+use timing::{GraphCounts, MAX_EDGES, Refusal};
 
-// What a search answers: where the tables stand, with the slots flagged that are reached; or that there is no copy; or 31.
-#[derive(Clone, Copy)]
-enum Searched {
-    Found(Layout),
-    Nothing,
-    Refused(Refusal),
-}
+// What is left of a graph without a copy.
+const NO_COPIES: GraphCounts = GraphCounts {
+    copies: 0,
+    edges: 0,
+};
 
 // Finds the slots that are reached: the tables, and then what reaches an end.
 fn find(
@@ -53,7 +51,8 @@ fn find(
 
 // 31, and then the tables and the slots that are reached. Of a graph without a copy nothing is left to find, and its tables need not fit: a few of their
 // words are there for no copy. A removal and its size share this function and its frame: the array by which the candidates
-// are counted is gone when those of `build` are made.
+// are counted is gone when those of `build` are made. What it answers: where the tables stand, with the slots flagged that are
+// reached; or that there is no copy; or 31.
 fn search(
     starts: &[u32],
     listed: &[u32],
@@ -65,7 +64,7 @@ fn search(
     via: &[u32],
     scratch: &mut [u32],
     pos: &mut [u16],
-) -> Searched
+) -> Result<Option<Layout>, Refusal>
     requires { Workable starts.now listed.now lengths.now nodes.now endpoint.now from.now to.now via.now
         × (length starts.now ≤ length pos.old) }
     ensures { AllSearched starts.now listed.now lengths.now nodes.now endpoint.now
@@ -73,17 +72,14 @@ fn search(
         × (length pos.new ≡ length pos.old) }
 {
     let candidates = count_candidates(starts, listed, lengths, nodes);
-    let verdict = scratch_test(scratch.len(), candidates, listed.len(), from.len());
-    if let Err(r) = verdict {
-        return Searched::Refused(r);
-    }
-    if nodes.len() == 0 {
-        return Searched::Nothing;
+    scratch_test(scratch.len(), candidates, listed.len(), from.len())?;
+    if nodes.is_empty() {
+        return Ok(None);
     }
     let layout = find(
         starts, listed, lengths, nodes, endpoint, from, to, via, candidates, scratch, pos,
     );
-    Searched::Found(layout)
+    Ok(Some(layout))
 }
 
 // 33 and 34 by a count of the slots that are shown, and then the result to the room. The flags are as before the count when the room is filled.
@@ -114,10 +110,7 @@ fn write_counted(
         counts.edges,
         room_nodes.len(),
         room_from.len(),
-    );
-    if let Err(r) = answer {
-        return Err(r);
-    }
+    )?;
     reset_flags(l, scratch);
     fill_all(
         l,
@@ -131,7 +124,7 @@ fn write_counted(
         room_to,
         room_via,
     );
-    answer
+    Ok(answer)
 }
 
 // 33 and 34, and then the result to the room. What is reached bounds what is shown: where there is room for all of that, nothing is counted first.
@@ -158,7 +151,7 @@ fn write_result(
 {
     let most = bound_all(l, scratch);
     let ample = room_answer(most.copies, most.edges, room_nodes.len(), room_from.len());
-    if let Err(_) = ample {
+    if ample.is_err() {
         return write_counted(
             l,
             nodes,
@@ -217,39 +210,30 @@ fn remove_with(
         room_nodes.new room_endpoint.new room_from.new room_to.new
         room_via.new scratch.new }
 {
-    let searched = search(
+    let found = search(
         starts, listed, lengths, nodes, endpoint, from, to, via, scratch, pos,
-    );
-    match searched {
-        Searched::Found(layout) => {
-            let made = write_result(
-                layout,
-                nodes,
-                endpoint,
-                scratch,
-                pos,
-                room_nodes,
-                room_endpoint,
-                room_from,
-                room_to,
-                room_via,
-            );
-            zero(scratch);
-            made
-        }
-        Searched::Nothing => {
-            zero(scratch);
-            Ok(GraphCounts {
-                copies: 0,
-                edges: 0,
-            })
-        }
-        Searched::Refused(r) => Err(r),
-    }
+    )?;
+    let made = match found {
+        Some(layout) => write_result(
+            layout,
+            nodes,
+            endpoint,
+            scratch,
+            pos,
+            room_nodes,
+            room_endpoint,
+            room_from,
+            room_to,
+            room_via,
+        ),
+        None => Ok(NO_COPIES),
+    };
+    zero(scratch);
+    made
 }
 
-// The same for a design of at most 1,024 edges: to clear places for 16,384 takes longer than all else in a small graph.
-fn remove_few(
+// The same for a design of at most so many edges.
+fn remove_within<const PLACES: usize>(
     starts: &[u32],
     listed: &[u32],
     lengths: &[u32],
@@ -267,59 +251,14 @@ fn remove_few(
 ) -> Result<GraphCounts, Refusal>
     requires { Workable starts.now listed.now lengths.now nodes.now endpoint.now from.now to.now via.now
         × RoomsAlike room_nodes.old room_endpoint.old room_from.old room_to.old room_via.old
-        × (length starts.now ≤ 1024) }
+        × (length starts.now ≤ PLACES) }
     ensures { AllRemoved starts.now listed.now lengths.now nodes.now endpoint.now
         from.now to.now via.now result room_nodes.old room_endpoint.old
         room_from.old room_to.old room_via.old scratch.old
         room_nodes.new room_endpoint.new room_from.new room_to.new
         room_via.new scratch.new }
 {
-    let mut pos = [0u16; 1024];
-    remove_with(
-        starts,
-        listed,
-        lengths,
-        nodes,
-        endpoint,
-        from,
-        to,
-        via,
-        room_nodes,
-        room_endpoint,
-        room_from,
-        room_to,
-        room_via,
-        scratch,
-        &mut pos,
-    )
-}
-
-// The same for as many edges as a design has.
-fn remove_many(
-    starts: &[u32],
-    listed: &[u32],
-    lengths: &[u32],
-    nodes: &[u32],
-    endpoint: &[u32],
-    from: &[u32],
-    to: &[u32],
-    via: &[u32],
-    room_nodes: &mut [u32],
-    room_endpoint: &mut [u32],
-    room_from: &mut [u32],
-    room_to: &mut [u32],
-    room_via: &mut [u32],
-    scratch: &mut [u32],
-) -> Result<GraphCounts, Refusal>
-    requires { Workable starts.now listed.now lengths.now nodes.now endpoint.now from.now to.now via.now
-        × RoomsAlike room_nodes.old room_endpoint.old room_from.old room_to.old room_via.old }
-    ensures { AllRemoved starts.now listed.now lengths.now nodes.now endpoint.now
-        from.now to.now via.now result room_nodes.old room_endpoint.old
-        room_from.old room_to.old room_via.old scratch.old
-        room_nodes.new room_endpoint.new room_from.new room_to.new
-        room_via.new scratch.new }
-{
-    let mut pos = [0u16; 16384];
+    let mut pos = [0u16; PLACES];
     remove_with(
         starts,
         listed,
@@ -340,7 +279,7 @@ fn remove_many(
 }
 
 // A removal of listed paths from a graph. The tests before 31 have passed. With enough scratch, this is all
-// zero afterwards.
+// zero afterwards. A small design has places of its own: to clear 16,384 takes longer than all else in a small graph.
 pub(crate) fn remove(
     starts: &[u32],
     listed: &[u32],
@@ -366,7 +305,7 @@ pub(crate) fn remove(
         room_via.new scratch.new }
 {
     if starts.len() <= 1024 {
-        return remove_few(
+        return remove_within::<1024>(
             starts,
             listed,
             lengths,
@@ -383,7 +322,7 @@ pub(crate) fn remove(
             scratch,
         );
     }
-    remove_many(
+    remove_within::<MAX_EDGES>(
         starts,
         listed,
         lengths,
@@ -419,28 +358,19 @@ fn size_with(
     ensures { AllSized starts.now listed.now lengths.now nodes.now endpoint.now
         from.now to.now via.now result scratch.old scratch.new }
 {
-    let searched = search(
+    let found = search(
         starts, listed, lengths, nodes, endpoint, from, to, via, scratch, pos,
-    );
-    match searched {
-        Searched::Found(layout) => {
-            let counts = show_all(layout, scratch, pos);
-            zero(scratch);
-            largest_answer(counts.copies, counts.edges)
-        }
-        Searched::Nothing => {
-            zero(scratch);
-            Ok(GraphCounts {
-                copies: 0,
-                edges: 0,
-            })
-        }
-        Searched::Refused(r) => Err(r),
-    }
+    )?;
+    let counts = match found {
+        Some(layout) => show_all(layout, scratch, pos),
+        None => NO_COPIES,
+    };
+    zero(scratch);
+    largest_answer(counts.copies, counts.edges)
 }
 
-// The same for a design of at most 1,024 edges.
-fn size_few(
+// The same for a design of at most so many edges.
+fn size_within<const PLACES: usize>(
     starts: &[u32],
     listed: &[u32],
     lengths: &[u32],
@@ -452,33 +382,11 @@ fn size_few(
     scratch: &mut [u32],
 ) -> Result<GraphCounts, Refusal>
     requires { Workable starts.now listed.now lengths.now nodes.now endpoint.now from.now to.now via.now
-        × (length starts.now ≤ 1024) }
+        × (length starts.now ≤ PLACES) }
     ensures { AllSized starts.now listed.now lengths.now nodes.now endpoint.now
         from.now to.now via.now result scratch.old scratch.new }
 {
-    let mut pos = [0u16; 1024];
-    size_with(
-        starts, listed, lengths, nodes, endpoint, from, to, via, scratch, &mut pos,
-    )
-}
-
-// The same for as many edges as a design has.
-fn size_many(
-    starts: &[u32],
-    listed: &[u32],
-    lengths: &[u32],
-    nodes: &[u32],
-    endpoint: &[u32],
-    from: &[u32],
-    to: &[u32],
-    via: &[u32],
-    scratch: &mut [u32],
-) -> Result<GraphCounts, Refusal>
-    requires { Workable starts.now listed.now lengths.now nodes.now endpoint.now from.now to.now via.now }
-    ensures { AllSized starts.now listed.now lengths.now nodes.now endpoint.now
-        from.now to.now via.now result scratch.old scratch.new }
-{
-    let mut pos = [0u16; 16384];
+    let mut pos = [0u16; PLACES];
     size_with(
         starts, listed, lengths, nodes, endpoint, from, to, via, scratch, &mut pos,
     )
@@ -501,11 +409,11 @@ pub(crate) fn size(
         from.now to.now via.now result scratch.old scratch.new }
 {
     if starts.len() <= 1024 {
-        return size_few(
+        return size_within::<1024>(
             starts, listed, lengths, nodes, endpoint, from, to, via, scratch,
         );
     }
-    size_many(
+    size_within::<MAX_EDGES>(
         starts, listed, lengths, nodes, endpoint, from, to, via, scratch,
     )
 }
