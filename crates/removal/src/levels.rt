@@ -103,9 +103,10 @@ pub(crate) fn number_classes(
     let mut d = 1;
     let mut id = 0;
     while 0 < n {
-        level_items(listed, ends, &who[..n], &mut items[..n], d);
-        sort_items(&mut items[..n], &mut spare[..n]);
-        let level = number_level(lengths, &items[..n], who, s, l, d, id);
+        let waiting = &mut items[..n];
+        level_items(listed, ends, &who[..n], waiting, d);
+        sort_items(waiting, &mut spare[..n]);
+        let level = number_level(lengths, waiting, who, s, l, d, id);
         n = level.left;
         id = level.id;
         d += 1;
