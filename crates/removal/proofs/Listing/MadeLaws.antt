@@ -77,7 +77,7 @@ module _ (l : Lists) (starts listed lengths s₀ roots₀ first₀ : List ℕ) (
     pub made_numbered : Numbered L l s₁ count
     made_numbered = record { all = all; held = held s₁ f₁.size; filled = w.list.filled; ones = ones }
 
-    module _ (s₂ : List ℕ) (kids : Kids L (kid_in l s₂) (kids_in l s₂)) (f₂ : Frame s₁ s₂ l.kid (2 * l.edges + 1)) where
+    module _ (s₂ : List ℕ) (kids : Numbered L l s₁ count → Kids L (kid_in l s₂) (kids_in l s₂)) (f₂ : Frame s₁ s₂ l.kid (2 * l.edges + 1)) where
       size₂ : length s₂ ≡ length s₀
       size₂ = f₂.size ∙ f₁.size
 
@@ -95,12 +95,15 @@ module _ (l : Lists) (starts listed lengths s₀ roots₀ first₀ : List ℕ) (
           record {
             numbered = numbered₂;
             whole = subst (λ (x : List ℕ). Whole L x) (sym (f₂.above l.loc (l.edges + 1) (omega (arith, w.laid.loc, w.laid.kid)))) whole;
-            kids = kids;
+            kids = kids made_numbered;
             known = known;
           }
 
-      module _ (s₃ roots live : List ℕ) (linked : Linked starts L l s₃ roots live) (roots_size : length roots ≡ length roots₀) (live-size : length live ≡ length first₀)
+      module _ (s₃ roots live : List ℕ) (link : Linkable L l s₂ count (length starts) → Linked starts L l s₃ roots live) (roots_size : length roots ≡ length roots₀) (live-size : length live ≡ length first₀)
           (f₃ : Frame s₂ s₃ l.fail (2 * l.edges + 2)) where
+        linked : Linked starts L l s₃ roots live
+        linked = link made_linkable
+
         marks_sum : (v : ℕ) → v ≤ length live → sum (take v live) ≡ marks_below starts L v
         marks_sum v h = sum_first (marks_for starts L) 0 live v (λ i k. linked.lives i k ∙ ap (marks_for starts L) (omega arith)) h
 
@@ -138,7 +141,7 @@ module _ (l : Lists) (starts listed lengths s₀ roots₀ first₀ : List ℕ) (
                 firsts = firsts;
               }
 
-          pub made_all : (s₄ : List ℕ) → ClassesOf starts L (marks_in l s₄) → Frame s₃ s₄ (l.marks + 1) l.edges → Made l starts listed lengths s₀ roots₀ first₀ s₄ roots first
+          pub made_all : (s₄ : List ℕ) → (Placeable starts L l s₃ first count → ClassesOf starts L (marks_in l s₄)) → Frame s₃ s₄ (l.marks + 1) l.edges → Made l starts listed lengths s₀ roots₀ first₀ s₄ roots first
           made_all s₄ classes f₄ =
               record {
                 frame = frame_trans s₀ s₃ s₄ 0 n
@@ -152,11 +155,11 @@ module _ (l : Lists) (starts listed lengths s₀ roots₀ first₀ : List ℕ) (
                     held = held s₄ (f₄.size ∙ size₃);
                     filled = w.list.filled;
                     kids = subst (λ (x : List ℕ). Kids L x (kids_in l s₄)) (sym (kept₂ l.kid (l.edges + 1) (omega (arith, w.laid.kid, w.laid.fail))))
-                        (subst (λ (x : List ℕ). Kids L (kid_in l s₂) x) (sym (kept₂ l.kids l.edges (omega (arith, w.laid.kids, w.laid.fail)))) kids);
+                        (subst (λ (x : List ℕ). Kids L (kid_in l s₂) x) (sym (kept₂ l.kids l.edges (omega (arith, w.laid.kids, w.laid.fail)))) (kids made_numbered));
                   };
                   fails = subst (λ (x : List ℕ). FailsBelow L x (suc (class_count L))) (sym (kept₃ l.fail (l.edges + 1) (omega (arith, w.laid.fail, w.laid.marks)))) linked.fails;
                   locs = subst (λ (x : List ℕ). Locs starts L x) (sym (kept₃ l.loc (l.edges + 1) (omega (arith, w.laid.loc, w.laid.marks)))) linked.locs;
-                  classes = classes;
+                  classes = classes made_placeable;
                 };
                 roots_size = roots_size;
                 first_size = first_size ∙ live-size;
