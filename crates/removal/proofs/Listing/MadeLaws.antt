@@ -3,13 +3,13 @@ use Prim.Native.Nat.{ℕ, zero, suc, ◌+◌, ◌*◌, ◌≤◌, ◌<◌}
 use native.Mathlib.Omega.{arith}
 use mathlib.Core.Path.{◌≡◌, refl, sym, ◌∙◌, ap, subst}
 use mathlib.Core.List.{List, [], ◌∷◌, map}
-use lib.ListN.{length, get_or, take, replicate, get_or-replicate}
+use lib.ListN.{length, get_or, take}
 use Rattle.timing.specs.Lists.{sum, upto}
 use Rattle.timing.specs.Marks.{path_list, paths_of}
 use Rattle.removal.specs.declared.classes.Lists.{Lists}
 use Rattle.removal.specs.Table.{table, Frame}
 use Rattle.removal.specs.Classes.{class_count, class_at}
-use Rattle.removal.specs.Tables.{list_words, kid_in, kids_in, loc_in, one_in, marks_in, Ones, Whole, Kids, Held, Numbered, Linkable, Linked, Placeable, ClassesOf, Startable, Started, FailsBelow, Locs, marks_for, marks_below, Makeable, Made}
+use Rattle.removal.specs.Tables.{list_words, kid_in, kids_in, loc_in, one_in, marks_in, Ones, Whole, Kids, Held, Numbered, Linkable, Linked, Placeable, ClassesOf, Started, FailsBelow, Locs, marks_for, marks_below, Makeable, Made}
 use Rattle.removal.proofs.Listing.ClassLaws.{classes_few}
 use Rattle.removal.proofs.Listing.FlatLaws.{class_edge}
 use Rattle.removal.proofs.Listing.PlaceLaws.{marks_total}
@@ -49,17 +49,6 @@ module _ (l : Lists) (starts listed lengths s₀ roots₀ first₀ : List ℕ) (
   known t e k h q =
       let r = class_edge (path_list listed lengths) t e k h q in
       omega (arith, w.known r.0 r.1, r.2)
-
-  -- the places are cleared, and then the classes are numbered
-  pub made_startable : (s : List ℕ) → table s l.loc (l.edges + 1) ≡ replicate (l.edges + 1) 0 → Frame s₀ s l.loc (l.edges + 1) → Startable l listed lengths s
-  made_startable s z f =
-      record {
-        list = w.list;
-        laid = w.laid;
-        size = w.size;
-        room = omega (arith, w.room, f.size);
-        none = λ t h. ap (λ (x : List ℕ). get_or x t 0) z ∙ get_or-replicate (l.edges + 1) t 0 0 (omega arith);
-      }
 
   module _ (count : ℕ) (s s₁ : List ℕ) (f : Frame s₀ s l.loc (l.edges + 1)) (x : Started l listed lengths s s₁ count) where
     all : count ≡ class_count L

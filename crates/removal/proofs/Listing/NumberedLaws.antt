@@ -15,7 +15,7 @@ use Rattle.theorems.proofs.Sorting.{Sorted}
 use Rattle.removal.specs.declared.classes.Lists.{Lists}
 use Rattle.removal.specs.Table.{Frame}
 use Rattle.removal.specs.Classes.{class_before, classes_of, class_count, class_at, all_suffixes}
-use Rattle.removal.specs.Tables.{Listable, Laid, Startable, list_words, packed, one_in, loc_in, Ones, Whole}
+use Rattle.removal.specs.Tables.{Startable, packed, one_in, loc_in, Ones, Whole}
 use Rattle.removal.specs.Items.{InOrder}
 use Rattle.removal.specs.Levels.{end_of, path_of, key_of, Begun, Edged, item_of, Numberable, Passed}
 use Rattle.removal.proofs.Listing.Region.{frame_refl, frame_trans, table_at}

@@ -1,7 +1,7 @@
 -- Each pass finds what it asks, and what they leave is what is to be made.
 use native.Mathlib.Omega.{arith}
 use Rattle.timing.specs.Marks.{path_list, paths_of}
-use Rattle.removal.proofs.Listing.MadeLaws.{made_startable, made_numbered, made_linkable, made_few, made_placeable, made_all}
+use Rattle.removal.proofs.Listing.MadeLaws.{made_numbered, made_linkable, made_few, made_placeable, made_all}
 use Rattle.removal.proofs.classes.list_tables.Goals as goal
 
 pub make_kids-requires : goal.make_kids-requires

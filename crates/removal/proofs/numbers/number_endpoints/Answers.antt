@@ -1,8 +1,5 @@
 -- The stores at the starts of edges, and then those at the marked nodes.
-use native.Mathlib.Omega.{arith}
-use mathlib.Core.Path.{ap, ◌∙◌}
-use lib.ListN.{length}
-use Rattle.removal.proofs.Whole.EndpointLaws.{stored_length, endpoints_made}
+use Rattle.removal.proofs.Whole.EndpointLaws.{endpoints_made}
 use Rattle.removal.proofs.numbers.number_endpoints.Goals as goal
 
 pub returns : goal.returns
