@@ -22,13 +22,11 @@ fn path_ends(lengths: &[u32], ends: &mut [u32], who: &mut [u32])
         × (length lengths.now ≤ length who.old) }
     ensures { Begun lengths.now ends.new who.new }
 {
-    let mut k = 0;
     let mut at: u32 = 0;
-    while k < lengths.len() {
-        at += lengths[k];
+    for (k, edges) in lengths.iter().enumerate() {
+        at += *edges;
         ends[k] = at;
         who[k] = k as u32;
-        k += 1;
     }
 }
 
@@ -38,18 +36,16 @@ fn level_items(listed: &[u32], ends: &[u32], who: &[u32], items: &mut [u64], d: 
     ensures { (i : ℕ) → i < length who.now
         → get_or items.new i 0 ≡ item_of listed.now ends.now d (get_or who.now i 0) }
 {
-    let mut i = 0;
-    while i < who.len() {
-        let w = who[i];
-        let k = (w % 2048) as usize;
+    for (i, w) in who.iter().enumerate() {
+        let k = (*w % 2048) as usize;
         let e = listed[ends[k] as usize - d];
-        items[i] = e as u64 * 67108864 + w as u64;
-        i += 1;
+        items[i] = e as u64 * 67108864 + *w as u64;
     }
 }
 
 // Numbers the classes of a level, whose items are in order: a new one where the edge and the class after it are not those of the item
 // before. A path that ends here makes its class dead; the others go on to the next level.
+#[tactic(auto, using(crate::proofs::Listing::NumberLaws::id_most))]
 fn number_level(
     lengths: &[u32],
     items: &[u64],
@@ -63,26 +59,23 @@ fn number_level(
     ensures { let n = length items.now in
         Passed lengths.now items.now s.old s.new who.new l d from n result.left result.id }
 {
-    let mut i = 0;
     let mut left = 0;
     let mut id = from;
     let mut last: u64 = 18446744073709551615;
-    while i < items.len() {
-        let x = items[i];
-        let key = x / 2048;
+    for x in items {
+        let key = *x / 2048;
         if key != last {
             id += 1;
             s[l.one + id] = key as u32;
             last = key;
         }
-        let k = (x % 2048) as usize;
+        let k = (*x % 2048) as usize;
         if lengths[k] as usize == d {
             s[l.loc + id] = 32767;
         } else {
             who[left] = (id * 2048 + k) as u32;
             left += 1;
         }
-        i += 1;
     }
     Level { left, id }
 }
@@ -110,9 +103,10 @@ pub(crate) fn number_classes(
     let mut d = 1;
     let mut id = 0;
     while 0 < n {
-        level_items(listed, ends, &who[..n], &mut items[..n], d);
-        sort_items(&mut items[..n], &mut spare[..n]);
-        let level = number_level(lengths, &items[..n], who, s, l, d, id);
+        let waiting = &mut items[..n];
+        level_items(listed, ends, &who[..n], waiting, d);
+        sort_items(waiting, &mut spare[..n]);
+        let level = number_level(lengths, waiting, who, s, l, d, id);
         n = level.left;
         id = level.id;
         d += 1;

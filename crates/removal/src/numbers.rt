@@ -9,10 +9,8 @@ pub(crate) fn number_places(t: &mut [u32], n: usize)
     requires { (n ≤ length t.old) × (n ≤ 16384) }
     ensures { take n t.new ≡ upto n 0 }
 {
-    let mut i = 0;
-    while i < n {
+    for i in 0..n {
         t[i] = i as u32;
-        i += 1;
     }
 }
 
@@ -21,11 +19,8 @@ fn store_at(t: &mut [u32], places: &[u32], v: u32)
     requires { NodesBelow (length t.old) places.now }
     ensures { t.new ≡ stored_at places.now v t.old }
 {
-    let mut i = 0;
-    while i < places.len() {
-        let at = places[i] as usize;
-        t[at] = v;
-        i += 1;
+    for at in places {
+        t[*at as usize] = v;
     }
 }
 

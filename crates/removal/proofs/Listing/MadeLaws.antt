@@ -3,13 +3,13 @@ use Prim.Native.Nat.{ℕ, zero, suc, ◌+◌, ◌*◌, ◌≤◌, ◌<◌}
 use native.Mathlib.Omega.{arith}
 use mathlib.Core.Path.{◌≡◌, refl, sym, ◌∙◌, ap, subst}
 use mathlib.Core.List.{List, [], ◌∷◌, map}
-use lib.ListN.{length, get_or, take, replicate, get_or-replicate}
+use lib.ListN.{length, get_or, take}
 use Rattle.timing.specs.Lists.{sum, upto}
 use Rattle.timing.specs.Marks.{path_list, paths_of}
 use Rattle.removal.specs.declared.classes.Lists.{Lists}
 use Rattle.removal.specs.Table.{table, Frame}
 use Rattle.removal.specs.Classes.{class_count, class_at}
-use Rattle.removal.specs.Tables.{list_words, kid_in, kids_in, loc_in, one_in, marks_in, Ones, Whole, Kids, Held, Numbered, Linkable, Linked, Placeable, ClassesOf, Startable, Started, FailsBelow, Locs, marks_for, marks_below, Makeable, Made}
+use Rattle.removal.specs.Tables.{list_words, kid_in, kids_in, loc_in, one_in, marks_in, Ones, Whole, Kids, Held, Numbered, Linkable, Linked, Placeable, ClassesOf, Started, FailsBelow, Locs, marks_for, marks_below, Makeable, Made}
 use Rattle.removal.proofs.Listing.ClassLaws.{classes_few}
 use Rattle.removal.proofs.Listing.FlatLaws.{class_edge}
 use Rattle.removal.proofs.Listing.PlaceLaws.{marks_total}
@@ -50,17 +50,6 @@ module _ (l : Lists) (starts listed lengths s₀ roots₀ first₀ : List ℕ) (
       let r = class_edge (path_list listed lengths) t e k h q in
       omega (arith, w.known r.0 r.1, r.2)
 
-  -- the places are cleared, and then the classes are numbered
-  pub made_startable : (s : List ℕ) → table s l.loc (l.edges + 1) ≡ replicate (l.edges + 1) 0 → Frame s₀ s l.loc (l.edges + 1) → Startable l listed lengths s
-  made_startable s z f =
-      record {
-        list = w.list;
-        laid = w.laid;
-        size = w.size;
-        room = omega (arith, w.room, f.size);
-        none = λ t h. ap (λ (x : List ℕ). get_or x t 0) z ∙ get_or-replicate (l.edges + 1) t 0 0 (omega arith);
-      }
-
   module _ (count : ℕ) (s s₁ : List ℕ) (f : Frame s₀ s l.loc (l.edges + 1)) (x : Started l listed lengths s s₁ count) where
     all : count ≡ class_count L
     all = x.all
@@ -77,7 +66,7 @@ module _ (l : Lists) (starts listed lengths s₀ roots₀ first₀ : List ℕ) (
     pub made_numbered : Numbered L l s₁ count
     made_numbered = record { all = all; held = held s₁ f₁.size; filled = w.list.filled; ones = ones }
 
-    module _ (s₂ : List ℕ) (kids : Kids L (kid_in l s₂) (kids_in l s₂)) (f₂ : Frame s₁ s₂ l.kid (2 * l.edges + 1)) where
+    module _ (s₂ : List ℕ) (kids : Numbered L l s₁ count → Kids L (kid_in l s₂) (kids_in l s₂)) (f₂ : Frame s₁ s₂ l.kid (2 * l.edges + 1)) where
       size₂ : length s₂ ≡ length s₀
       size₂ = f₂.size ∙ f₁.size
 
@@ -95,12 +84,15 @@ module _ (l : Lists) (starts listed lengths s₀ roots₀ first₀ : List ℕ) (
           record {
             numbered = numbered₂;
             whole = subst (λ (x : List ℕ). Whole L x) (sym (f₂.above l.loc (l.edges + 1) (omega (arith, w.laid.loc, w.laid.kid)))) whole;
-            kids = kids;
+            kids = kids made_numbered;
             known = known;
           }
 
-      module _ (s₃ roots live : List ℕ) (linked : Linked starts L l s₃ roots live) (roots_size : length roots ≡ length roots₀) (live-size : length live ≡ length first₀)
+      module _ (s₃ roots live : List ℕ) (link : Linkable L l s₂ count (length starts) → Linked starts L l s₃ roots live) (roots_size : length roots ≡ length roots₀) (live-size : length live ≡ length first₀)
           (f₃ : Frame s₂ s₃ l.fail (2 * l.edges + 2)) where
+        linked : Linked starts L l s₃ roots live
+        linked = link made_linkable
+
         marks_sum : (v : ℕ) → v ≤ length live → sum (take v live) ≡ marks_below starts L v
         marks_sum v h = sum_first (marks_for starts L) 0 live v (λ i k. linked.lives i k ∙ ap (marks_for starts L) (omega arith)) h
 
@@ -138,7 +130,7 @@ module _ (l : Lists) (starts listed lengths s₀ roots₀ first₀ : List ℕ) (
                 firsts = firsts;
               }
 
-          pub made_all : (s₄ : List ℕ) → ClassesOf starts L (marks_in l s₄) → Frame s₃ s₄ (l.marks + 1) l.edges → Made l starts listed lengths s₀ roots₀ first₀ s₄ roots first
+          pub made_all : (s₄ : List ℕ) → (Placeable starts L l s₃ first count → ClassesOf starts L (marks_in l s₄)) → Frame s₃ s₄ (l.marks + 1) l.edges → Made l starts listed lengths s₀ roots₀ first₀ s₄ roots first
           made_all s₄ classes f₄ =
               record {
                 frame = frame_trans s₀ s₃ s₄ 0 n
@@ -152,11 +144,11 @@ module _ (l : Lists) (starts listed lengths s₀ roots₀ first₀ : List ℕ) (
                     held = held s₄ (f₄.size ∙ size₃);
                     filled = w.list.filled;
                     kids = subst (λ (x : List ℕ). Kids L x (kids_in l s₄)) (sym (kept₂ l.kid (l.edges + 1) (omega (arith, w.laid.kid, w.laid.fail))))
-                        (subst (λ (x : List ℕ). Kids L (kid_in l s₂) x) (sym (kept₂ l.kids l.edges (omega (arith, w.laid.kids, w.laid.fail)))) kids);
+                        (subst (λ (x : List ℕ). Kids L (kid_in l s₂) x) (sym (kept₂ l.kids l.edges (omega (arith, w.laid.kids, w.laid.fail)))) (kids made_numbered));
                   };
                   fails = subst (λ (x : List ℕ). FailsBelow L x (suc (class_count L))) (sym (kept₃ l.fail (l.edges + 1) (omega (arith, w.laid.fail, w.laid.marks)))) linked.fails;
                   locs = subst (λ (x : List ℕ). Locs starts L x) (sym (kept₃ l.loc (l.edges + 1) (omega (arith, w.laid.loc, w.laid.marks)))) linked.locs;
-                  classes = classes;
+                  classes = classes made_placeable;
                 };
                 roots_size = roots_size;
                 first_size = first_size ∙ live-size;

@@ -329,6 +329,3 @@ module _ (lengths items who s : List ℕ) (l : Lists) (d start : ℕ) (N : Numbe
           (wait_on v i left more f (omega (arith, z, N.fits, p.fewer)) p.waiting);
       frame = p.frame;
     }
-
-    pub opened_few : Opened t v i left id → id ≤ l.edges
-    opened_few p = omega (arith, p.count, N.few, id_most start items (suc i))

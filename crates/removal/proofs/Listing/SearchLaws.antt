@@ -63,6 +63,9 @@ module _ (L : List (List ℕ)) (l : Lists) (s : List ℕ) (u : ℕ) (some : 1 �
   pub kids_within : end ≤ class_count L
   kids_within = omega (arith, g.kids.within u inside, to_is)
 
+  pub kid_inside : (i : ℕ) → i < end → l.kids + i < length s
+  kid_inside i h = omega (arith, kid_place.1, kids_within)
+
   pub word_is : (i : ℕ) → i < end → get_or (kids_in l s) i 0 ≡ word i
   word_is i h = table_at s l.kids l.edges i (omega (arith, kids_within, g.held.few))
 

@@ -1,7 +1,7 @@
 -- The invariant: `at` is where the paths before k end, and these have their words.
-use Prim.Native.Nat.{ℕ, ◌-◌, ◌≤◌}
+use Prim.Native.Nat.{ℕ}
 use mathlib.Core.Path.{◌≡◌}
-use lib.ListN.{length, take}
+use lib.ListN.{take}
 use Rattle.timing.specs.Lists.{sum}
 use Rattle.theorems.proofs.Elements.{Done}
 use Rattle.removal.specs.Levels.{end_of}
@@ -9,10 +9,6 @@ use Rattle.removal.proofs.levels.path_ends.Given as goal
 
 abbrev pub invariant-loop-k : goal.invariant-loop-k
 invariant-loop-k l =
-    (l.k ≤ length l.lengths)
-    × (l.at ≡ sum (take l.k l.lengths))
+    (l.at ≡ sum (take l.k l.lengths))
     × Done 0 (end_of l.lengths) l.k l.initial.ends l.ends
     × Done 0 (λ (j : ℕ). j) l.k l.initial.who l.who
-
-abbrev pub decreases-loop-k : goal.decreases-loop-k
-decreases-loop-k l = length l.lengths - l.k
