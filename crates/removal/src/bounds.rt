@@ -15,12 +15,10 @@ fn count_reached(l: Layout, scratch: &[u32], c: usize) -> usize
     let at = scratch[l.base + c] as usize;
     let slots = scratch[l.base + c + 1] as usize - at;
     let mut count = 0;
-    let mut j = 0;
-    while j < slots {
+    for j in 0..slots {
         if scratch[at + j] != 0 {
             count += 1;
         }
-        j += 1;
     }
     count
 }
@@ -33,14 +31,12 @@ pub(crate) fn bound_all(l: Layout, scratch: &[u32]) -> Counts
     let mut copies = 0;
     let mut edges = 0;
     let mut from = 0;
-    let mut c = 0;
-    while c < l.copies {
+    for c in 0..l.copies {
         let to = scratch[l.into + c] as usize;
         let reached = count_reached(l, scratch, c);
         copies += reached;
         edges += reached * (to - from);
         from = to;
-        c += 1;
     }
     Counts { copies, edges }
 }

@@ -1,5 +1,5 @@
 -- The invariant: of the first j slots, which stand from `at` on, so many are reached.
-use Prim.Native.Nat.{ℕ, ◌+◌, ◌-◌, ◌≤◌}
+use Prim.Native.Nat.{ℕ, ◌+◌, ◌≤◌}
 use mathlib.Core.Path.{◌≡◌}
 use mathlib.Core.List.{List}
 use lib.Dec.{ltb}
@@ -11,7 +11,4 @@ abbrev pub reachedFrom : List ℕ → ℕ → ℕ → ℕ
 reachedFrom s at j = count_of (λ i. ltb 0 (get_or s (at + i) 0)) (upto j 0)
 
 abbrev pub invariant-loop-j : goal.invariant-loop-j
-invariant-loop-j l = (l.j ≤ l.slots) × (l.count ≤ l.j) × (l.count ≡ reachedFrom l.scratch l.at l.j)
-
-abbrev pub decreases-loop-j : goal.decreases-loop-j
-decreases-loop-j l = l.slots - l.j
+invariant-loop-j l = (l.count ≤ l.j) × (l.count ≡ reachedFrom l.scratch l.at l.j)
