@@ -12,11 +12,12 @@ fn count_reached(l: Layout, scratch: &[u32], c: usize) -> usize
     requires { Ready l scratch.now × (c < l.copies) }
     ensures { result ≡ reached_to l scratch.now c (slots_in l (take l.slots scratch.now) c) }
 {
-    let at = scratch[l.base + c] as usize;
-    let slots = scratch[l.base + c + 1] as usize - at;
+    let from = scratch[l.base + c] as usize;
+    let to = scratch[l.base + c + 1] as usize;
+    // The chain `filter(..).count()` is slower: it is not compiled to vector code.
     let mut count = 0;
-    for j in 0..slots {
-        if scratch[at + j] != 0 {
+    for flag in &scratch[from..to] {
+        if *flag != 0 {
             count += 1;
         }
     }

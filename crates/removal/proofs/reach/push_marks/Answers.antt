@@ -1,11 +1,9 @@
-use Prim.Native.Nat.{suc, ◌+◌}
+use Prim.Native.Nat.{ℕ, suc, ◌+◌}
 use native.Mathlib.Omega.{arith}
 use mathlib.Core.Path.{◌≡◌, refl, sym, ◌∙◌, subst}
 use mathlib.Core.List.{List}
-use lib.ListN.{get_or}
-use Prim.Native.Nat.{ℕ}
+use lib.ListN.{get_or, take}
 use Rattle.removal.specs.Push.{MarkPushed, MarksPushed}
-use lib.ListN.{take}
 use Rattle.removal.proofs.Reaching.CopyLaws.{slot_first, slot_low}
 use Rattle.removal.proofs.Reaching.CoverLaws.{marks_start, marks_skip, marks_turn, marks_rowed, reached_fits, marks_fits, marks_read}
 use Rattle.removal.proofs.reach.push_marks.Goals as goal
