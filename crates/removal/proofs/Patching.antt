@@ -1,5 +1,4 @@
 -- The patches of a row.
-pub mod PlaceLaws
 pub mod ChainLaws
 pub mod NoteLaws
 pub mod KidLaws

@@ -12,15 +12,14 @@ fn count_reached(l: Layout, scratch: &[u32], c: usize) -> usize
     requires { Ready l scratch.now × (c < l.copies) }
     ensures { result ≡ reached_to l scratch.now c (slots_in l (take l.slots scratch.now) c) }
 {
-    let at = scratch[l.base + c] as usize;
-    let slots = scratch[l.base + c + 1] as usize - at;
+    let from = scratch[l.base + c] as usize;
+    let to = scratch[l.base + c + 1] as usize;
+    // The chain `filter(..).count()` is slower: it is not compiled to vector code.
     let mut count = 0;
-    let mut j = 0;
-    while j < slots {
-        if scratch[at + j] != 0 {
+    for flag in &scratch[from..to] {
+        if *flag != 0 {
             count += 1;
         }
-        j += 1;
     }
     count
 }
@@ -33,14 +32,12 @@ pub(crate) fn bound_all(l: Layout, scratch: &[u32]) -> Counts
     let mut copies = 0;
     let mut edges = 0;
     let mut from = 0;
-    let mut c = 0;
-    while c < l.copies {
+    for c in 0..l.copies {
         let to = scratch[l.into + c] as usize;
         let reached = count_reached(l, scratch, c);
         copies += reached;
         edges += reached * (to - from);
         from = to;
-        c += 1;
     }
     Counts { copies, edges }
 }

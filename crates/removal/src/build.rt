@@ -53,17 +53,15 @@ fn fill_bases(l: Layout, nodes: &[u32], scratch: &mut [u32], firsts: &[u32])
     ensures { Based l nodes.now firsts.now scratch.old scratch.new }
 {
     let mut total = l.slots as u32;
-    let mut c = 0;
-    while c < nodes.len() {
-        let v = nodes[c] as usize;
+    for (c, node) in nodes.iter().enumerate() {
+        let v = *node as usize;
         let first = firsts[v];
         let marks = firsts[v + 1] - first;
         scratch[l.first + c] = first;
         scratch[l.base + c] = total;
-        total = total + (marks + 1);
-        c += 1;
+        total += marks + 1;
     }
-    scratch[l.base + c] = total;
+    scratch[l.base + nodes.len()] = total;
 }
 
 // Fills all tables, and clears the slots and what says which edges are seen and covered. `roots` is for the class of each edge of the design alone.
@@ -189,11 +187,9 @@ fn count_path(starts: &[u32], listed: &[u32], first: usize, end: usize, counts: 
     requires { Counting starts.now listed.now counts.old first end }
     ensures { Counted starts.now listed.now counts.old counts.new first end }
 {
-    let mut i = first;
-    while i < end {
+    for i in first..end {
         let v = start_at(starts, listed, i) as usize;
-        counts[v] = counts[v] + 1;
-        i += 1;
+        counts[v] += 1;
     }
 }
 
@@ -205,12 +201,10 @@ fn count_inner(starts: &[u32], listed: &[u32], lengths: &[u32], counts: &mut [u3
     ensures { Tallied starts.now listed.now lengths.now counts.new }
 {
     let mut at = 0;
-    let mut k = 0;
-    while k < lengths.len() {
-        let end = at + lengths[k] as usize;
+    for length in lengths {
+        let end = at + *length as usize;
         count_path(starts, listed, at + 1, end, counts);
         at = end;
-        k += 1;
     }
 }
 
@@ -222,11 +216,8 @@ fn count_copies(nodes: &[u32], counts: &[u32]) -> usize
     ensures { result ≡ shares counts.now nodes.now }
 {
     let mut total: usize = 0;
-    let mut c = 0;
-    while c < nodes.len() {
-        let v = nodes[c] as usize;
-        total = total + 1 + counts[v] as usize;
-        c += 1;
+    for v in nodes {
+        total += 1 + counts[*v as usize] as usize;
     }
     total
 }

@@ -21,11 +21,9 @@ pub(crate) fn note_places(
     ensures { (length pos.new ≡ length pos.old)
         × Noted l scratch.now pos.new c }
 {
-    let mut q = p0;
-    while q < p1 {
+    for q in p0..p1 {
         let e = scratch[l.name + q] as usize;
         pos[e] = q as u16;
-        q += 1;
     }
 }
 
@@ -100,12 +98,11 @@ fn collect_kids(
     ensures { TriedKids l scratch.old scratch.new c j u (kids_to l (take l.slots scratch.old) u) result }
 {
     let end = scratch[l.lists.kid + u] as usize;
-    let mut i = scratch[l.lists.kid + u - 1] as usize;
+    let first = scratch[l.lists.kid + u - 1] as usize;
     let mut k = so_far;
-    while i < end {
+    for i in first..end {
         let w = scratch[l.lists.kids + i];
         k = note_patch(l, scratch, pos, w, c, j, p0, p1, k);
-        i += 1;
     }
     k
 }
@@ -138,11 +135,9 @@ fn forget(l: Layout, scratch: &mut [u32], k: usize)
     requires { Forgettable l scratch.old k }
     ensures { Forgotten l scratch.old scratch.new k }
 {
-    let mut i = 0;
-    while i < k {
+    for i in 0..k {
         let q = scratch[l.patch + i] as usize;
         scratch[l.seen + q] = 0;
-        i += 1;
     }
 }
 

@@ -23,14 +23,11 @@ fn push_patches(l: Layout, scratch: &mut [u32], k: usize)
     requires { Pushable l scratch.old k }
     ensures { PatchesPushed l scratch.old scratch.new k }
 {
-    let mut i = 0;
-    while i < k {
+    for i in 0..k {
         let q = scratch[l.patch + i] as usize;
         let place = scratch[l.lead + i] as usize;
-        let at = l.cover + q;
-        scratch[at] = scratch[at] + 1;
+        scratch[l.cover + q] += 1;
         flag(l, scratch, place);
-        i += 1;
     }
 }
 
@@ -58,13 +55,11 @@ fn push_marks(
 {
     let at = scratch[l.base + c] as usize;
     let mut reached = scratch[at];
-    let mut j = 1;
-    while j < count {
+    for j in 1..count {
         if scratch[at + j] != 0 {
             push_mark(l, scratch, pos, c, j, p0, p1);
             reached += 1;
         }
-        j += 1;
     }
     reached
 }
@@ -74,13 +69,11 @@ fn push_defaults(l: Layout, scratch: &mut [u32], p0: usize, p1: usize, reached: 
     requires { Defaulting l scratch.old p0 p1 }
     ensures { DefaultsPushed l (take l.slots scratch.old) scratch.old scratch.new p0 p1 reached }
 {
-    let mut q = p0;
-    while q < p1 {
+    for q in p0..p1 {
         if scratch[l.cover + q] < reached {
             let place = scratch[l.default + q] as usize;
             flag(l, scratch, place);
         }
-        q += 1;
     }
 }
 
@@ -128,9 +121,7 @@ pub(crate) fn reach_all(l: Layout, endpoint: &[u32], scratch: &mut [u32], pos: &
         × Idle l scratch.new
         × (length pos.new ≡ length pos.old) }
 {
-    let mut c = l.copies;
-    while 0 < c {
-        c -= 1;
+    for c in (0..l.copies).rev() {
         flag_endpoint(l, endpoint, scratch, c);
         push_copy(l, scratch, pos, c);
     }

@@ -22,16 +22,6 @@ pub record Basing (l : Layout) (nodes firsts s t : List ℕ) (total c : ℕ) : T
   pub total_is : total ≡ l.slots + slot_base (slots_from firsts nodes) c
 
 module _ (l : Layout) (nodes firsts s : List ℕ) (w : Baseable l nodes firsts s) where
-  pub basing_start : Basing l nodes firsts s s l.slots 0
-  basing_start =
-      record {
-        inside = omega arith;
-        frame = frame_refl s l.first (l.copies + suc l.copies);
-        firsts_are = λ d h. absurd (omega arith);
-        bases = λ d h. absurd (omega arith);
-        total_is = omega arith;
-      }
-
   -- the marks at a node
   marks_few : (c : ℕ) → c < l.copies → (get_or firsts (get_or nodes c 0) 0 ≤ get_or firsts (suc (get_or nodes c 0)) 0) × (get_or firsts (suc (get_or nodes c 0)) 0 ≤ 16384)
   marks_few c h =

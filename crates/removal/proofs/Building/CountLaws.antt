@@ -65,9 +65,6 @@ pub record CountingAt (starts listed s t : List ℕ) (first end i : ℕ) : Type 
   pub counts : (v : ℕ) → v < 4096
       → get_or t v 0 + starts_in starts v (take (end - i) (drop i listed)) ≡ get_or s v 0 + starts_in starts v (take (end - first) (drop first listed))
 
-pub counting_start : (starts listed s : List ℕ) (first end : ℕ) → Counting starts listed s first end → CountingAt starts listed s s first end first
-counting_start starts listed s first end h = record { past = omega arith; most = h.up; size = refl; small = h.small; counts = λ v k. refl }
-
 module _ (starts listed s t : List ℕ) (first end i : ℕ) (h : Counting starts listed s first end) (a : CountingAt starts listed s t first end i) (l : i < end) where
   abbrev node : ℕ
   node = get_or starts (get_or listed i 0) 0
@@ -79,9 +76,6 @@ module _ (starts listed s t : List ℕ) (first end i : ℕ) (h : Counting starts
 
   pub node_inside : node < length t
   node_inside = omega (arith, h.starts_below (get_or listed i 0), h.size, a.size)
-
-  pub node_few : get_or t node 0 ≤ 8192
-  node_few = omega (arith, a.small node, h.room, h.few)
 
   pub counting_turn : CountingAt starts listed s (set t node (get_or t node 0 + 1)) first end (suc i)
   counting_turn = record {
@@ -118,15 +112,6 @@ pub record TallyAt (starts listed lengths t : List ℕ) (at k : ℕ) : Type 0 wh
   pub size : length t ≡ 4096
   pub small : (v : ℕ) → get_or t v 0 ≤ at
   pub counts : (v : ℕ) → v < 4096 → get_or t v 0 + starts_in starts v (inner (drop at listed) (drop k lengths)) ≡ starts_in starts v (inner listed lengths)
-
-pub tally_start : (starts listed lengths t : List ℕ) → length t ≡ 4096 → ((v : ℕ) → get_or t v 0 ≡ 0) → TallyAt starts listed lengths t 0 0
-tally_start starts listed lengths t e z = record {
-  most = omega arith;
-  place = refl;
-  size = e;
-  small = λ v. omega (arith, z v);
-  counts = λ v k. omega (arith, z v);
-}
 
 inner_cons : (listed lengths : List ℕ) (n : ℕ) → inner listed (n ∷ lengths) ≡ drop 1 (take n listed) ++ inner (drop n listed) lengths
 unfolding inner flat_map
@@ -190,16 +175,6 @@ tally_done starts listed lengths t at k h a f = record {
       let e : inner (drop at listed) (drop k lengths) ≡ [] = ap (inner (drop at listed)) (drop_all lengths k f) ∙ inner_none (drop at listed) in
       omega (arith, a.counts v m, ap (starts_in starts v) e, starts_none starts v);
 }
-
--- the sum over the copies from number c on
-pub shares_start : (t nodes : List ℕ) → 0 + shares t (drop 0 nodes) ≡ shares t nodes
-shares_start t nodes = omega arith
-
-pub shares_turn : (t nodes : List ℕ) (c : ℕ) → c < length nodes → shares t (drop c nodes) ≡ 1 + get_or t (get_or nodes c 0) 0 + shares t (drop (suc c) nodes)
-shares_turn t nodes c h = ap (shares t) (drop_cons nodes c h)
-
-pub shares_done : (t nodes : List ℕ) (c : ℕ) → length nodes ≤ c → shares t (drop c nodes) ≡ 0
-shares_done t nodes c f = ap (shares t) (drop_all nodes c f)
 
 shares_are : (starts es t nodes : List ℕ) → ((c : ℕ) → c < length nodes → get_or t (get_or nodes c 0) 0 ≡ starts_in starts (get_or nodes c 0) es)
     → shares t nodes ≡ sum (map (λ v. 1 + starts_in starts v es) nodes)

@@ -4,20 +4,16 @@ use native.Mathlib.Omega.{arith}
 use native.Mathlib.Decide.{ℕ_discrete}
 use mathlib.Core.Path.{◌≡◌, sym, ◌∙◌, ap, subst}
 use mathlib.Core.List.{List}
-use lib.ListN.{length, get_or, take}
+use lib.ListN.{get_or, take}
 use lib.Seq.{get_or-take}
 use Rattle.removal.specs.declared.rows.Layout.{Layout}
 use Rattle.removal.specs.Rows.{InRun, name_in}
 use Rattle.removal.specs.Patches.{Unseen, Gathered, Searching, Telling, Tried, KidsTell, TriedKids, kids_from, kids_to, kid_word}
-use Rattle.removal.proofs.Reaching.RowLaws.{words}
-use Rattle.removal.proofs.Patching.NoteLaws.{kept_refl, kept_trans, run_inside}
+use Rattle.removal.proofs.Patching.NoteLaws.{kept_trans, run_inside}
 
 module _ (l : Layout) (s pos : List ℕ) (c j p0 p1 n u : ℕ) (a : Searching l s pos c j p0 p1 n) (b : KidsTell l (take l.slots s) s c j u (kids_from l (take l.slots s) u)) where
   abbrev p : List ℕ
   p = take l.slots s
-
-  pub room : l.slots ≤ length s
-  room = words l s a.ready
 
   pub from_read : get_or s (l.lists.kid + u - 1) 0 ≡ kids_from l (take l.slots s) u
   from_read = sym (get_or-take l.slots s (l.lists.kid + u - 1) 0 (omega (arith, b.place)))
@@ -25,19 +21,7 @@ module _ (l : Layout) (s pos : List ℕ) (c j p0 p1 n u : ℕ) (a : Searching l 
   pub to_read : get_or s (l.lists.kid + u) 0 ≡ kids_to l (take l.slots s) u
   to_read = sym (get_or-take l.slots s (l.lists.kid + u) 0 b.place)
 
-  pub kids_start : (i : ℕ) → i ≡ kids_from l (take l.slots s) u → TriedKids l s s c j u i n
-  kids_start i e =
-      record {
-        kept = kept_refl l s;
-        gathered = a.gathered;
-        less = λ q h x. x;
-        none = λ q r x h m k. absurd (omega arith);
-      }
-
   module _ (t : List ℕ) (i k : ℕ) (f : TriedKids l s t c j u i k) (least : kids_from l (take l.slots s) u ≤ i) (most : i < kids_to l (take l.slots s) u) where
-    pub kid_room : l.lists.kids + i < length t
-    kid_room = omega (arith, b.within, room, f.kept.size)
-
     pub kid_read : get_or t (l.lists.kids + i) 0 ≡ kid_word l (take l.slots s) i
     kid_read =
         sym (get_or-take l.slots t (l.lists.kids + i) 0 (omega (arith, b.within)))

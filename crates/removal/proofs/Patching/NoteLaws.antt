@@ -14,7 +14,7 @@ use Rattle.theorems.proofs.Lists.{mem_upto, of_upto, length_upto}
 use Rattle.theorems.proofs.Counting.{Nodup, nodup_map, nodup_upto, length_le}
 use Rattle.removal.specs.declared.rows.Layout.{Layout}
 use Rattle.removal.specs.Rows.{Tabled, WorkLaid, Ready, InRun, run_from, run_to, name_in, target}
-use Rattle.removal.specs.Patches.{NamesIn, Noted, patch_at, lead_at, Placed, Unseen, Gathered, Kept, Searching, Telling, Tried, Forgettable, Forgotten}
+use Rattle.removal.specs.Patches.{NamesIn, patch_at, lead_at, Placed, Unseen, Gathered, Kept, Searching, Telling, Tried, Forgettable, Forgotten}
 use Rattle.removal.proofs.Reaching.RowLaws.{ready_same, names_same, words}
 use Rattle.removal.proofs.Reaching.TargetLaws.{dead_low, start_inside}
 use Rattle.removal.proofs.Patching.ChainLaws.{target_small}
@@ -130,9 +130,6 @@ pub record NotedTo (l : Layout) (s old pos : List ℕ) (c q : ℕ) : Type 0 wher
   pub each : (h : ℕ) → run_from l (take l.slots s) c ≤ h → h < q → get_or pos (name_in l (take l.slots s) h) 0 ≡ h
 
 module _ (l : Layout) (s old : List ℕ) (c : ℕ) (r : Ready l s) (names : NamesIn l s (length old)) (copy : c < l.copies) where
-  pub noted_start : (q : ℕ) → q ≡ run_from l (take l.slots s) c → NotedTo l s old old c q
-  noted_start q e = record { size = refl; least = omega arith; most = omega (arith, r.tabled.up c copy); each = λ h m n. absurd (omega arith) }
-
   module _ (pos : List ℕ) (q : ℕ) (a : NotedTo l s old pos c q) (more : q < run_to l (take l.slots s) c) where
     pub noted_edge : q < l.edges
     noted_edge = omega (arith, r.tabled.within c copy)
@@ -157,9 +154,6 @@ module _ (l : Layout) (s old : List ℕ) (c : ℕ) (r : Ready l s) (names : Name
             let up = r.tabled.rises c copy h q (record { from = m; to = omega arith }) (record { from = a.least; to = more }) (omega arith) in
             get_or-set_other pos (get_or s (l.name + q) 0) (name_in l (take l.slots s) h) q 0 (λ e. omega (arith, name_read l s r q noted_edge)) ∙ a.each h m (omega arith)
 
-  pub noted_all : (pos : List ℕ) (q : ℕ) → NotedTo l s old pos c q → run_to l (take l.slots s) c ≤ q → Noted l s pos c
-  noted_all pos q a h x i = a.each x i.from (omega (arith, i.to))
-
 -- a word whose edge is no edge into the copy, or one that is seen
 module _ (l : Layout) (s pos : List ℕ) (c j p0 p1 k w : ℕ) (a : Searching l s pos c j p0 p1 k) where
   abbrev p : List ℕ
@@ -167,6 +161,9 @@ module _ (l : Layout) (s pos : List ℕ) (c j p0 p1 k w : ℕ) (a : Searching l 
 
   pub run_inside : (q : ℕ) → InRun l (take l.slots s) c q → q < l.edges
   run_inside q r = omega (arith, r.to, a.ready.tabled.within c a.copy)
+
+  pub name_there : (q : ℕ) → InRun l (take l.slots s) c q → get_or s (l.name + q) 0 ≡ name_in l (take l.slots s) q
+  name_there q r = name_read l s a.ready q (run_inside q r)
 
   pub missed : (w / 32768 < length pos → (q : ℕ) → q ≡ get_or pos (w / 32768) 0 → InRun l (take l.slots s) c q → name_in l (take l.slots s) q ≡ w / 32768 → Unseen l s q → ⊥)
       → Tried l s s c j w k
@@ -326,17 +323,6 @@ module _ (l : Layout) (s pos : List ℕ) (c j p0 p1 k w : ℕ) (a : Searching l 
           gone h r u e x = omega (arith, new_seen, subst (λ (y : ℕ). Unseen l new y) x u)
 
 -- patches are forgotten one after the other
-pub forget_start : (l : Layout) (s : List ℕ) → Forgotten l s s 0
-forget_start l s =
-    record {
-      size = refl;
-      low = λ i h. refl;
-      above = λ i h. refl;
-      tables = refl;
-      still = λ q h u. u;
-      done = λ i h. absurd (omega arith);
-    }
-
 module _ (l : Layout) (s t : List ℕ) (k i : ℕ) (a : Forgettable l s k) (f : Forgotten l s t i) (h : i < k) where
   pub forget_patch : patch_at l t i ≡ patch_at l s i
   forget_patch = f.above (l.patch + i) (omega (arith, a.seen))
@@ -370,7 +356,3 @@ module _ (l : Layout) (s t : List ℕ) (k i : ℕ) (a : Forgettable l s k) (f : 
       go x m (no n) =
           let e : x ≡ i = omega arith in
           ap (λ (y : ℕ). get_or after (l.seen + y) 0) (ap (patch_at l s) e ∙ sym forget_patch) ∙ get_or-set_same t (l.seen + patch_at l t i) 0 0 forget_room.1
-
-pub forget_all : (l : Layout) (s t : List ℕ) (k i : ℕ) → k ≤ i → Forgotten l s t i → Forgotten l s t k
-forget_all l s t k i h f =
-    record { size = f.size; low = f.low; above = f.above; tables = f.tables; still = f.still; done = λ x m. f.done x (omega arith) }

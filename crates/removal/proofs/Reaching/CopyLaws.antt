@@ -21,7 +21,7 @@ use Rattle.removal.specs.Flags.{ReachedRow, StepBack, Backward}
 use Rattle.removal.specs.Reach.{flag_of, reached_of, Still, Pushes, CopyPushed, end_set, RowsReached, AllZero}
 use Rattle.removal.proofs.Reaching.SlotLaws.{used_empty, setting_of}
 use Rattle.removal.proofs.Reaching.FlagLaws.{reached_same, reached_row}
-use Rattle.removal.proofs.Reaching.RowLaws.{slot_inside, place_one, base_read, count_read, place_inside}
+use Rattle.removal.proofs.Reaching.RowLaws.{read, slot_inside, place_one, base_read, count_read, place_inside}
 use Rattle.removal.proofs.Reaching.TargetLaws.{edge_mem}
 
 pub still_refl : (l : Layout) (s : List ℕ) → Still l s s
@@ -42,12 +42,11 @@ module _ (l : Layout) (s : List ℕ) (r : Ready l s) (c : ℕ) (copy : c < l.cop
   slot_low j h =
       omega (arith, slot_at j, place_inside l s r c j copy h, r.work.seen, r.work.cover, r.work.patch, r.work.lead, r.work.comes)
 
-  pub base_low : l.base + suc c < length s
-  base_low =
-      omega (arith, r.tabled.laid.base, r.tabled.laid.into, r.tabled.laid.start, r.tabled.laid.name, r.tabled.laid.default, r.work.slots, r.work.seen, r.work.cover, r.work.patch, r.work.lead, r.work.comes)
-
   pub count_at : get_or s (l.base + c + 1) 0 ≡ get_or s (l.base + c) 0 + slots (slots_in l (take l.slots s)) c
   count_at = let e : l.base + c + 1 ≡ l.base + suc c = omega arith in ap (λ (i : ℕ). get_or s i 0) e ∙ count_read l s r c copy
+
+  pub run_at : get_or s (l.into + c) 0 ≡ run_to l (take l.slots s) c
+  run_at = let t = r.tabled.laid in read l s r (l.into + c) (omega (arith, t.into, t.start, t.name, t.default))
 
 -- paths end at a copy where its endpoint number is 1
 ends_if : (G : Graph) (endpoint : List ℕ) (c : ℕ) → G.endpoints ≡ endpoint → get_or endpoint c 0 ≡ 1 → T (ends_at G c)

@@ -12,7 +12,6 @@ use Rattle.removal.specs.declared.rows.Layout.{Layout}
 use Rattle.removal.specs.Rows.{dead_place, default_in}
 use Rattle.removal.specs.Patches.{patch_at, lead_at}
 use Rattle.removal.specs.Push.{flag_set, Lands, cover_at, HitOnly, Settled, Pushable, PatchesPushed, Defaulting, DefaultsPushed}
-use Rattle.removal.proofs.Reaching.RowLaws.{words}
 
 -- nothing is hit
 pub hit_none : (l : Layout) (s t : List ℕ) (Hit : ℕ → Type 0) → ((x : ℕ) → x < l.seen → get_or t x 0 ≡ get_or s x 0) → HitOnly l s t Hit
@@ -116,19 +115,6 @@ lands_inside l x n h k =
       | no f ↦ inl (omega (arith, (k f).1))
     ]
 
-pub patches_start : (l : Layout) (s : List ℕ) → PatchesPushed l s s 0
-patches_start l s =
-    record {
-      size = refl;
-      tables = refl;
-      seen = λ i h k. refl;
-      above = λ i h. refl;
-      only = λ x h. inl refl;
-      settled = λ i h. absurd (omega arith);
-      once = λ i h. absurd (omega arith);
-      other = λ q h f. refl;
-    }
-
 -- one more patch: its edge is counted, and its place flagged
 module _ (l : Layout) (s t : List ℕ) (k i : ℕ) (a : Pushable l s k) (m : PatchesPushed l s t i) (h : i < k) where
   pub patch_same : patch_at l t i ≡ patch_at l s i
@@ -177,9 +163,6 @@ module _ (l : Layout) (s t : List ℕ) (k i : ℕ) (a : Pushable l s k) (m : Pat
   first : cover_at l t q ≡ cover_at l s q
   first = m.other q below (λ j n e. a.apart j i n h e)
 
-  pub cover_fits : cover_at l t (patch_at l s i) < 4294967295
-  cover_fits = omega (arith, first, a.fits i h)
-
   above_w : (y : ℕ) → l.seen ≤ y → (y ≡ l.cover + q → ⊥) → get_or w y 0 ≡ get_or t y 0
   above_w y n f = flag_above l u x lands y n ∙ stored y f
 
@@ -224,16 +207,6 @@ module _ (l : Layout) (s t : List ℕ) (k i : ℕ) (a : Pushable l s k) (m : Pat
   patch_turn v e n o =
       let z : v ≡ w = e ∙ ap (λ (r : ℕ). flag_set l (set t (l.cover + r) (cover_at l t r + 1)) (lead_at l t i)) patch_same ∙ ap (λ (y : ℕ). flag_set l u y) lead_same in
       subst (λ (y : List ℕ). PatchesPushed l s y n) (sym z) (subst (λ (y : ℕ). PatchesPushed l s w y) (sym o) patch_next)
-
-pub defaults_start : (l : Layout) (p s : List ℕ) (p0 r : ℕ) → DefaultsPushed l p s s p0 p0 r
-defaults_start l p s p0 r =
-    record {
-      size = refl;
-      tables = refl;
-      above = λ i h. refl;
-      only = λ x h. inl refl;
-      settled = λ q h k. absurd (omega arith);
-    }
 
 -- one more edge: its default is flagged where not all reached slots patch it
 module _ (l : Layout) (s t : List ℕ) (p0 p1 q r : ℕ) (a : Defaulting l s p0 p1) (m : DefaultsPushed l (take l.slots s) s t p0 q r) (from : p0 ≤ q) (to : q < p1) where
@@ -291,47 +264,13 @@ module _ (l : Layout) (s t : List ℕ) (p0 p1 q r : ℕ) (a : Defaulting l s p0 
             ];
       })
 
--- the numbers of one turn
-pub record PatchTurn (l : Layout) (t : List ℕ) (i n : ℕ) : Type 0 where
-  pub size : length t ≡ n
-  pub patch : l.patch + i < n
-  pub lead : l.lead + i < n
-  pub cover : l.cover + patch_at l t i < n
-  pub fits : cover_at l t (patch_at l t i) < 4294967295
-
-pub patch_numbers : (l : Layout) (s t : List ℕ) (k i : ℕ) → Pushable l s k → PatchesPushed l s t i → i < k → PatchTurn l t i (length s)
-patch_numbers l s t k i a m h =
-    record {
-      size = m.size;
-      patch = omega (arith, a.few, a.ready.work.patch, a.ready.work.lead, a.ready.work.comes);
-      lead = omega (arith, a.few, a.ready.work.lead, a.ready.work.comes);
-      cover = omega (arith, cover_inside l s t k i a m h, m.size, patch_same l s t k i a m h);
-      fits = subst (λ (q : ℕ). cover_at l t q < 4294967295) (sym (patch_same l s t k i a m h)) (cover_fits l s t k i a m h);
-    }
-
-pub lead_inside : (l : Layout) (s t : List ℕ) (k i : ℕ) → Pushable l s k → PatchesPushed l s t i → i < k → (lead_at l t i ≡ dead_place l → ⊥) → lead_at l t i < length t
-lead_inside l s t k i a m h f =
-    let e = lead_same l s t k i a m h in
-    omega (arith, e, seen_inside l s t k i a m h, (a.lands i h (λ (q : lead_at l s i ≡ dead_place l). f (e ∙ q))).1)
-
-pub record DefaultTurn (l : Layout) (p t : List ℕ) (q n : ℕ) : Type 0 where
-  pub size : length t ≡ n
-  pub cover : l.cover + q < n
-  pub default : l.default + q < n
-  pub read_is : get_or t (l.default + q) 0 ≡ default_in l p q
-
-pub default_numbers : (l : Layout) (s t : List ℕ) (p0 p1 q r : ℕ) → Defaulting l s p0 p1 → DefaultsPushed l (take l.slots s) s t p0 q r → q < p1 → DefaultTurn l (take l.slots s) t q (length s)
-default_numbers l s t p0 p1 q r a m h =
-    let low : l.default + q < l.slots = omega (arith, a.within, a.ready.tabled.laid.default) in
-    record {
-      size = m.size;
-      cover = omega (arith, a.within, a.ready.work.cover, a.ready.work.patch, a.ready.work.lead, a.ready.work.comes);
-      default = omega (arith, low, words l s a.ready);
-      read_is = sym (get_or-take l.slots t (l.default + q) 0 low) ∙ ap (λ (y : List ℕ). get_or y (l.default + q) 0) m.tables;
-    }
+-- where the edge leads is read from the tables
+pub default_read : (l : Layout) (s t : List ℕ) (p0 p1 q r : ℕ) → Defaulting l s p0 p1 → DefaultsPushed l (take l.slots s) s t p0 q r → q < p1 → get_or t (l.default + q) 0 ≡ default_in l (take l.slots s) q
+default_read l s t p0 p1 q r a m h =
+    sym (get_or-take l.slots t (l.default + q) 0 (omega (arith, a.within, a.ready.tabled.laid.default))) ∙ ap (λ (y : List ℕ). get_or y (l.default + q) 0) m.tables
 
 pub place_low : (l : Layout) (s t : List ℕ) (p0 p1 q r : ℕ) → Defaulting l s p0 p1 → DefaultsPushed l (take l.slots s) s t p0 q r → p0 ≤ q → q < p1
     → (get_or t (l.default + q) 0 ≡ dead_place l → ⊥) → get_or t (l.default + q) 0 < length t
 place_low l s t p0 p1 q r a m g h f =
-    let e = (default_numbers l s t p0 p1 q r a m h).read_is in
+    let e = default_read l s t p0 p1 q r a m h in
     omega (arith, e, default_seen l s t p0 p1 q r a m g h, (a.lands q g h (λ (z : default_in l (take l.slots s) q ≡ dead_place l). f (e ∙ z))).1)

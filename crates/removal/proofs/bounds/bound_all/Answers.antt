@@ -1,51 +1,53 @@
-use Prim.Native.Nat.{ℕ, ◌+◌, ◌-◌, ◌*◌, ◌≤◌, ◌<◌}
+use Prim.Native.Nat.{◌+◌, ◌-◌, ◌*◌, ◌≤◌, ◌<◌}
 use native.Mathlib.Omega.{arith}
-use mathlib.Core.Path.{◌≡◌, sym, subst}
-use lib.ListN.{length, get_or, take}
-use Rattle.removal.specs.Rows.{slots_in, run_to}
-use Rattle.removal.specs.Bounds.{reached_to}
-use Rattle.removal.proofs.Reaching.RowLaws.{words, read, base_up}
-use Rattle.removal.proofs.Whole.BoundLaws.{BoundedTo, bounded_start, bounded_next, bounded_all, run_up, edges_few, reached_few}
+use lib.ListN.{get_or, take}
+use Rattle.removal.specs.Rows.{slots_in}
+use Rattle.removal.proofs.Reaching.RowLaws.{base_up}
+use Rattle.removal.proofs.Reaching.CopyLaws.{run_at}
+use Rattle.removal.proofs.Whole.BoundLaws.{bounded_start, bounded_next, bounded_all, run_up, edges_few, reached_few}
 use Rattle.removal.proofs.bounds.bound_all.Goals as goal
+use Rattle.removal.proofs.bounds.bound_all.Goals.{After-count_reached-reached}
 
 pub loop-c-init : goal.loop-c-init
-loop-c-init c = let a = c.args in bounded_start a.l a.scratch.now
+loop-c-init c = bounded_start c.args.l c.args.scratch.now
 
-pub overflow_add-to : goal.overflow_add-to
-overflow_add-to c = omega (arith, ((let by : (c.loop-c.c < c.args.l.copies) × (c.args.l.into + c.loop-c.c < c.args.l.slots) = let t = c.requires.tabled.laid in (omega (arith, c.loop-c.invariant.inside, c.loop-c-test.true), omega (arith, c.loop-c.invariant.inside, c.loop-c-test.true, t.into, t.start, t.name, t.default)) in by)).1, (let by : c.args.l.slots ≤ length c.args.scratch.now = words c.args.l c.args.scratch.now c.requires in by))
-
-pub offset_bounds-scratch-l : goal.offset_bounds-scratch-l
-offset_bounds-scratch-l c = omega (arith, ((let by : (c.loop-c.c < c.args.l.copies) × (c.args.l.into + c.loop-c.c < c.args.l.slots) = let t = c.requires.tabled.laid in (omega (arith, c.loop-c.invariant.inside, c.loop-c-test.true), omega (arith, c.loop-c.invariant.inside, c.loop-c-test.true, t.into, t.start, t.name, t.default)) in by)).1, (let by : c.args.l.slots ≤ length c.args.scratch.now = words c.args.l c.args.scratch.now c.requires in by))
-
-pub bounds-scratch-l : goal.bounds-scratch-l
-bounds-scratch-l c = omega (arith, ((let by : (c.loop-c.c < c.args.l.copies) × (c.args.l.into + c.loop-c.c < c.args.l.slots) = let t = c.requires.tabled.laid in (omega (arith, c.loop-c.invariant.inside, c.loop-c-test.true), omega (arith, c.loop-c.invariant.inside, c.loop-c-test.true, t.into, t.start, t.name, t.default)) in by)).1, (let by : c.args.l.slots ≤ length c.args.scratch.now = words c.args.l c.args.scratch.now c.requires in by))
-
-pub overflow_cast-to : goal.overflow_cast-to
-overflow_cast-to c = let a = c.args in omega (arith, c.shared_slice_known-in-loop-c-1.given (a.l.into + c.loop-c.c))
-
-pub count_reached-reached-requires : goal.count_reached-reached-requires
-count_reached-reached-requires c = (c.requires, ((let by : (c.loop-c.c < c.args.l.copies) × (c.args.l.into + c.loop-c.c < c.args.l.slots) = let t = c.requires.tabled.laid in (omega (arith, c.loop-c.invariant.inside, c.loop-c-test.true), omega (arith, c.loop-c.invariant.inside, c.loop-c-test.true, t.into, t.start, t.name, t.default)) in by)).0)
+-- the numbers are small
+few : (c : After-count_reached-reached)
+    → (c.loop-c.copies + c.count_reached-reached.result < 4294967296)
+    × (c.count_reached-reached.result * (get_or c.args.scratch.now (c.args.l.into + c.loop-c.c) 0 - c.loop-c.from) ≤ 4294967296 * 65536)
+    × (c.loop-c.edges + c.count_reached-reached.result * (get_or c.args.scratch.now (c.args.l.into + c.loop-c.c) 0 - c.loop-c.from) ≤ 4294967296 * 65536)
+few c =
+    let a = c.args in
+    let s = a.scratch.now in
+    let w = c.loop-c in
+    let h = c.loop-c-test.true in
+    let all = base_up (slots_in a.l (take a.l.slots s)) w.c a.l.copies h in
+    let some = reached_few a.l s c.requires w.c w.from w.copies w.edges h w.invariant in
+    let most = edges_few a.l s c.requires w.c w.from w.copies w.edges h w.invariant in
+    rw (c.count_reached-reached.ensures, run_at a.l s c.requires w.c h)
+    (omega (arith, all, some, c.requires.few), omega (arith, all, some, most, c.requires.few), omega (arith, all, some, most, c.requires.few))
 
 pub overflow_add-copies : goal.overflow_add-copies
-overflow_add-copies c = omega (arith, ((let by : let a = c.args in let n = c.loop-c in let to = get_or a.scratch.now (a.l.into + n.c) 0 in (n.copies + c.count_reached-reached.result < 4294967296) × (n.edges + c.count_reached-reached.result * (to - n.from) ≤ 4294967296 * 65536) = let a = c.args in let n = c.loop-c in let to = get_or a.scratch.now (a.l.into + n.c) 0 in subst (λ (k : ℕ). (n.copies + k < 4294967296) × (n.edges + k * (to - n.from) ≤ 4294967296 * 65536)) (sym c.count_reached-reached.ensures) (subst (λ (t : ℕ). (n.copies + reached_to a.l a.scratch.now n.c (slots_in a.l (take a.l.slots a.scratch.now) n.c) < 4294967296) × (n.edges + reached_to a.l a.scratch.now n.c (slots_in a.l (take a.l.slots a.scratch.now) n.c) * (t - n.from) ≤ 4294967296 * 65536)) (sym ((let by : let a = c.args in get_or a.scratch.now (a.l.into + c.loop-c.c) 0 ≡ run_to a.l (take a.l.slots a.scratch.now) c.loop-c.c = read c.args.l c.args.scratch.now c.requires (c.args.l.into + c.loop-c.c) ((let by : (c.loop-c.c < c.args.l.copies) × (c.args.l.into + c.loop-c.c < c.args.l.slots) = let t = c.requires.tabled.laid in (omega (arith, c.loop-c.invariant.inside, c.loop-c-test.true), omega (arith, c.loop-c.invariant.inside, c.loop-c-test.true, t.into, t.start, t.name, t.default)) in by)).1 in by))) ((let by : let a = c.args in let n = c.loop-c in let p = take a.l.slots a.scratch.now in (n.copies + reached_to a.l a.scratch.now n.c (slots_in a.l p n.c) < 4294967296) × (n.edges + reached_to a.l a.scratch.now n.c (slots_in a.l p n.c) * (run_to a.l p n.c - n.from) ≤ 4294967296 * 65536) = let a = c.args in let n = c.loop-c in let p = take a.l.slots a.scratch.now in let h = ((let by : (c.loop-c.c < c.args.l.copies) × (c.args.l.into + c.loop-c.c < c.args.l.slots) = let t = c.requires.tabled.laid in (omega (arith, c.loop-c.invariant.inside, c.loop-c-test.true), omega (arith, c.loop-c.invariant.inside, c.loop-c-test.true, t.into, t.start, t.name, t.default)) in by)).0 in let all = base_up (slots_in a.l p) n.c a.l.copies h in let some = reached_few a.l a.scratch.now c.requires n.c n.from n.copies n.edges h n.invariant in let most = edges_few a.l a.scratch.now c.requires n.c n.from n.copies n.edges h n.invariant in (omega (arith, n.invariant.few_copies, all, some, c.requires.few), omega (arith, n.invariant.few_copies, n.invariant.few_edges, all, some, most, c.requires.few)) in by))) in by)).0)
+overflow_add-copies c = omega (arith, (few (goal.at.overflow_add-copies c).After-count_reached-reached).0)
 
 pub overflow_sub-edges : goal.overflow_sub-edges
-overflow_sub-edges c = let n = c.loop-c in omega (arith, (let by : let a = c.args in get_or a.scratch.now (a.l.into + c.loop-c.c) 0 ≡ run_to a.l (take a.l.slots a.scratch.now) c.loop-c.c = read c.args.l c.args.scratch.now c.requires (c.args.l.into + c.loop-c.c) ((let by : (c.loop-c.c < c.args.l.copies) × (c.args.l.into + c.loop-c.c < c.args.l.slots) = let t = c.requires.tabled.laid in (omega (arith, c.loop-c.invariant.inside, c.loop-c-test.true), omega (arith, c.loop-c.invariant.inside, c.loop-c-test.true, t.into, t.start, t.name, t.default)) in by)).1 in by), run_up c.args.l c.args.scratch.now c.requires n.c n.from n.copies n.edges ((let by : (c.loop-c.c < c.args.l.copies) × (c.args.l.into + c.loop-c.c < c.args.l.slots) = let t = c.requires.tabled.laid in (omega (arith, c.loop-c.invariant.inside, c.loop-c-test.true), omega (arith, c.loop-c.invariant.inside, c.loop-c-test.true, t.into, t.start, t.name, t.default)) in by)).0 n.invariant)
+overflow_sub-edges c =
+    let w = c.loop-c in
+    omega (arith, run_at c.args.l c.args.scratch.now c.requires w.c c.loop-c-test.true, run_up c.args.l c.args.scratch.now c.requires w.c w.from w.copies w.edges c.loop-c-test.true w.invariant)
 
 pub overflow_mul-edges : goal.overflow_mul-edges
-overflow_mul-edges c = omega (arith, ((let by : let a = c.args in let n = c.loop-c in let to = get_or a.scratch.now (a.l.into + n.c) 0 in (n.copies + c.count_reached-reached.result < 4294967296) × (n.edges + c.count_reached-reached.result * (to - n.from) ≤ 4294967296 * 65536) = let a = c.args in let n = c.loop-c in let to = get_or a.scratch.now (a.l.into + n.c) 0 in subst (λ (k : ℕ). (n.copies + k < 4294967296) × (n.edges + k * (to - n.from) ≤ 4294967296 * 65536)) (sym c.count_reached-reached.ensures) (subst (λ (t : ℕ). (n.copies + reached_to a.l a.scratch.now n.c (slots_in a.l (take a.l.slots a.scratch.now) n.c) < 4294967296) × (n.edges + reached_to a.l a.scratch.now n.c (slots_in a.l (take a.l.slots a.scratch.now) n.c) * (t - n.from) ≤ 4294967296 * 65536)) (sym ((let by : let a = c.args in get_or a.scratch.now (a.l.into + c.loop-c.c) 0 ≡ run_to a.l (take a.l.slots a.scratch.now) c.loop-c.c = read c.args.l c.args.scratch.now c.requires (c.args.l.into + c.loop-c.c) ((let by : (c.loop-c.c < c.args.l.copies) × (c.args.l.into + c.loop-c.c < c.args.l.slots) = let t = c.requires.tabled.laid in (omega (arith, c.loop-c.invariant.inside, c.loop-c-test.true), omega (arith, c.loop-c.invariant.inside, c.loop-c-test.true, t.into, t.start, t.name, t.default)) in by)).1 in by))) ((let by : let a = c.args in let n = c.loop-c in let p = take a.l.slots a.scratch.now in (n.copies + reached_to a.l a.scratch.now n.c (slots_in a.l p n.c) < 4294967296) × (n.edges + reached_to a.l a.scratch.now n.c (slots_in a.l p n.c) * (run_to a.l p n.c - n.from) ≤ 4294967296 * 65536) = let a = c.args in let n = c.loop-c in let p = take a.l.slots a.scratch.now in let h = ((let by : (c.loop-c.c < c.args.l.copies) × (c.args.l.into + c.loop-c.c < c.args.l.slots) = let t = c.requires.tabled.laid in (omega (arith, c.loop-c.invariant.inside, c.loop-c-test.true), omega (arith, c.loop-c.invariant.inside, c.loop-c-test.true, t.into, t.start, t.name, t.default)) in by)).0 in let all = base_up (slots_in a.l p) n.c a.l.copies h in let some = reached_few a.l a.scratch.now c.requires n.c n.from n.copies n.edges h n.invariant in let most = edges_few a.l a.scratch.now c.requires n.c n.from n.copies n.edges h n.invariant in (omega (arith, n.invariant.few_copies, all, some, c.requires.few), omega (arith, n.invariant.few_copies, n.invariant.few_edges, all, some, most, c.requires.few)) in by))) in by)).1)
+overflow_mul-edges c = omega (arith, (few (goal.at.overflow_mul-edges c).After-count_reached-reached).1)
 
 pub overflow_add-edges : goal.overflow_add-edges
-overflow_add-edges c = omega (arith, ((let by : let a = c.args in let n = c.loop-c in let to = get_or a.scratch.now (a.l.into + n.c) 0 in (n.copies + c.count_reached-reached.result < 4294967296) × (n.edges + c.count_reached-reached.result * (to - n.from) ≤ 4294967296 * 65536) = let a = c.args in let n = c.loop-c in let to = get_or a.scratch.now (a.l.into + n.c) 0 in subst (λ (k : ℕ). (n.copies + k < 4294967296) × (n.edges + k * (to - n.from) ≤ 4294967296 * 65536)) (sym c.count_reached-reached.ensures) (subst (λ (t : ℕ). (n.copies + reached_to a.l a.scratch.now n.c (slots_in a.l (take a.l.slots a.scratch.now) n.c) < 4294967296) × (n.edges + reached_to a.l a.scratch.now n.c (slots_in a.l (take a.l.slots a.scratch.now) n.c) * (t - n.from) ≤ 4294967296 * 65536)) (sym ((let by : let a = c.args in get_or a.scratch.now (a.l.into + c.loop-c.c) 0 ≡ run_to a.l (take a.l.slots a.scratch.now) c.loop-c.c = read c.args.l c.args.scratch.now c.requires (c.args.l.into + c.loop-c.c) ((let by : (c.loop-c.c < c.args.l.copies) × (c.args.l.into + c.loop-c.c < c.args.l.slots) = let t = c.requires.tabled.laid in (omega (arith, c.loop-c.invariant.inside, c.loop-c-test.true), omega (arith, c.loop-c.invariant.inside, c.loop-c-test.true, t.into, t.start, t.name, t.default)) in by)).1 in by))) ((let by : let a = c.args in let n = c.loop-c in let p = take a.l.slots a.scratch.now in (n.copies + reached_to a.l a.scratch.now n.c (slots_in a.l p n.c) < 4294967296) × (n.edges + reached_to a.l a.scratch.now n.c (slots_in a.l p n.c) * (run_to a.l p n.c - n.from) ≤ 4294967296 * 65536) = let a = c.args in let n = c.loop-c in let p = take a.l.slots a.scratch.now in let h = ((let by : (c.loop-c.c < c.args.l.copies) × (c.args.l.into + c.loop-c.c < c.args.l.slots) = let t = c.requires.tabled.laid in (omega (arith, c.loop-c.invariant.inside, c.loop-c-test.true), omega (arith, c.loop-c.invariant.inside, c.loop-c-test.true, t.into, t.start, t.name, t.default)) in by)).0 in let all = base_up (slots_in a.l p) n.c a.l.copies h in let some = reached_few a.l a.scratch.now c.requires n.c n.from n.copies n.edges h n.invariant in let most = edges_few a.l a.scratch.now c.requires n.c n.from n.copies n.edges h n.invariant in (omega (arith, n.invariant.few_copies, all, some, c.requires.few), omega (arith, n.invariant.few_copies, n.invariant.few_edges, all, some, most, c.requires.few)) in by))) in by)).1)
-
-pub overflow_add-c : goal.overflow_add-c
-overflow_add-c c = omega (arith, ((let by : (c.loop-c.c < c.args.l.copies) × (c.args.l.into + c.loop-c.c < c.args.l.slots) = let t = c.requires.tabled.laid in (omega (arith, c.loop-c.invariant.inside, c.loop-c-test.true), omega (arith, c.loop-c.invariant.inside, c.loop-c-test.true, t.into, t.start, t.name, t.default)) in by)).0)
-
-pub loop-c-smaller : goal.loop-c-smaller
-loop-c-smaller c = omega (arith, ((let by : (c.loop-c.c < c.args.l.copies) × (c.args.l.into + c.loop-c.c < c.args.l.slots) = let t = c.requires.tabled.laid in (omega (arith, c.loop-c.invariant.inside, c.loop-c-test.true), omega (arith, c.loop-c.invariant.inside, c.loop-c-test.true, t.into, t.start, t.name, t.default)) in by)).0)
+overflow_add-edges c = omega (arith, (few (goal.at.overflow_add-edges c).After-count_reached-reached).2)
 
 pub loop-c-preserved : goal.loop-c-preserved
-loop-c-preserved c = (let by : let a = c.args in let n = c.loop-c in let to = get_or a.scratch.now (a.l.into + n.c) 0 in BoundedTo a.l a.scratch.now (n.c + 1) to (n.copies + c.count_reached-reached.result) (n.edges + c.count_reached-reached.result * (to - n.from)) = let a = c.args in let n = c.loop-c in let to = get_or a.scratch.now (a.l.into + n.c) 0 in subst (λ (k : ℕ). BoundedTo a.l a.scratch.now (n.c + 1) to (n.copies + k) (n.edges + k * (to - n.from))) (sym c.count_reached-reached.ensures) (subst (λ (t : ℕ). BoundedTo a.l a.scratch.now (n.c + 1) t (n.copies + reached_to a.l a.scratch.now n.c (slots_in a.l (take a.l.slots a.scratch.now) n.c)) (n.edges + reached_to a.l a.scratch.now n.c (slots_in a.l (take a.l.slots a.scratch.now) n.c) * (t - n.from))) (sym ((let by : let a = c.args in get_or a.scratch.now (a.l.into + c.loop-c.c) 0 ≡ run_to a.l (take a.l.slots a.scratch.now) c.loop-c.c = read c.args.l c.args.scratch.now c.requires (c.args.l.into + c.loop-c.c) ((let by : (c.loop-c.c < c.args.l.copies) × (c.args.l.into + c.loop-c.c < c.args.l.slots) = let t = c.requires.tabled.laid in (omega (arith, c.loop-c.invariant.inside, c.loop-c-test.true), omega (arith, c.loop-c.invariant.inside, c.loop-c-test.true, t.into, t.start, t.name, t.default)) in by)).1 in by))) (bounded_next a.l a.scratch.now c.requires n.c n.from n.copies n.edges ((let by : (c.loop-c.c < c.args.l.copies) × (c.args.l.into + c.loop-c.c < c.args.l.slots) = let t = c.requires.tabled.laid in (omega (arith, c.loop-c.invariant.inside, c.loop-c-test.true), omega (arith, c.loop-c.invariant.inside, c.loop-c-test.true, t.into, t.start, t.name, t.default)) in by)).0 n.invariant)) in by)
+loop-c-preserved c =
+    let w = c.loop-c in
+    rw (c.count_reached-reached.ensures, run_at c.args.l c.args.scratch.now c.requires w.c c.loop-c-test.true)
+    (bounded_next c.args.l c.args.scratch.now c.requires w.c w.from w.copies w.edges c.loop-c-test.true w.invariant)
 
 pub returns : goal.returns
-returns c = let a = c.args in let n = c.loop-c in bounded_all a.l a.scratch.now n.c n.from n.copies n.edges (omega (arith, n.invariant.inside, c.loop-c-test.false)) n.invariant
+returns c =
+    let w = c.loop-c in
+    bounded_all c.args.l c.args.scratch.now w.c w.from w.copies w.edges (omega arith) w.invariant

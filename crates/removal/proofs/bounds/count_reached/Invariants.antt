@@ -1,5 +1,5 @@
--- The invariant: of the first j slots, which stand from `at` on, so many are reached.
-use Prim.Native.Nat.{ℕ, ◌+◌, ◌-◌, ◌≤◌}
+-- The invariant: of the slots before this one, so many are reached.
+use Prim.Native.Nat.{ℕ, ◌+◌, ◌≤◌}
 use mathlib.Core.Path.{◌≡◌}
 use mathlib.Core.List.{List}
 use lib.Dec.{ltb}
@@ -8,10 +8,7 @@ use Rattle.timing.specs.Lists.{count_of, upto}
 use Rattle.removal.proofs.bounds.count_reached.Given as goal
 
 abbrev pub reachedFrom : List ℕ → ℕ → ℕ → ℕ
-reachedFrom s at j = count_of (λ i. ltb 0 (get_or s (at + i) 0)) (upto j 0)
+reachedFrom s from j = count_of (λ i. ltb 0 (get_or s (from + i) 0)) (upto j 0)
 
-abbrev pub invariant-loop-j : goal.invariant-loop-j
-invariant-loop-j l = (l.j ≤ l.slots) × (l.count ≤ l.j) × (l.count ≡ reachedFrom l.scratch l.at l.j)
-
-abbrev pub decreases-loop-j : goal.decreases-loop-j
-decreases-loop-j l = l.slots - l.j
+abbrev pub invariant-loop-flag : goal.invariant-loop-flag
+invariant-loop-flag l = (l.count ≤ l.flag-index) × (l.count ≡ reachedFrom l.scratch l.from l.flag-index)

@@ -1,9 +1,9 @@
 -- Each table meets what the next call asks, and all of them together are what is built.
 use native.Mathlib.Omega.{arith}
-use mathlib.Core.Path.{refl, ◌∙◌}
+use mathlib.Core.Path.{refl}
 use lib.ListN.{replicate}
 use Rattle.removal.proofs.Building.CountLaws.{zeros}
-use Rattle.removal.proofs.Building.BuildLaws.{listed_few, given_few, makeable, baseable, sortable, clear_room, built}
+use Rattle.removal.proofs.Building.BuildLaws.{listed_few, given_few, makeable, baseable, sortable, built}
 use Rattle.removal.proofs.build.build_with.Goals as goal
 
 pub layout-l-requires : goal.layout-l-requires
@@ -29,33 +29,6 @@ sort_edges-requires c =
     let a = c.args in
     let b = c.requires.0 in
     sortable b.design b.list b.graph a.starts.now a.listed.now a.lengths.now a.nodes.now a.from.now a.to.now a.via.now a.candidates b.given c.layout-l.result c.layout-l.ensures b.counted b.edges_below b.starts_below b.nodes_below a.scratch.now a.roots.now (replicate 4097 0) b.room c.requires.1 refl c.list_tables.new.s c.list_tables.new.roots c.list_tables.new.first c.list_tables.ensures c.fill_bases.new.scratch c.fill_bases.ensures
-
-pub overflow_add-candidates : goal.overflow_add-candidates
-overflow_add-candidates c =
-    let a = c.args in
-    let b = c.requires.0 in
-    omega (arith, b.counted, given_few b.design b.list b.graph a.starts.now a.listed.now a.lengths.now a.nodes.now a.from.now a.to.now a.via.now b.given, c.layout-l.ensures.edges, b.given.few_edges)
-
-pub overflow_add-candidates-2 : goal.overflow_add-candidates-2
-overflow_add-candidates-2 c =
-    let a = c.args in
-    let b = c.requires.0 in
-    omega (arith, b.counted, given_few b.design b.list b.graph a.starts.now a.listed.now a.lengths.now a.nodes.now a.from.now a.to.now a.via.now b.given, c.layout-l.ensures.edges, b.given.few_edges)
-
-pub clear-requires : goal.clear-requires
-clear-requires c =
-    let a = c.args in
-    let b = c.requires.0 in
-    clear_room b.design b.list b.graph a.starts.now a.listed.now a.lengths.now a.nodes.now a.from.now a.to.now a.via.now a.candidates b.given c.layout-l.result c.layout-l.ensures b.counted b.edges_below b.starts_below b.nodes_below a.scratch.now a.roots.now (replicate 4097 0) b.room c.requires.1 refl c.list_tables.new.s c.list_tables.new.roots c.list_tables.new.first c.list_tables.ensures c.fill_bases.new.scratch c.fill_bases.ensures c.sort_edges.new.scratch c.sort_edges.ensures
-
-pub shape_of-scratch : goal.shape_of-scratch
-shape_of-scratch c =
-    let a = c.args in
-    let b = c.requires.0 in
-    c.clear.ensures.1.size ∙ c.sort_edges.ensures.frame.size ∙ c.fill_bases.ensures.frame.size ∙ c.list_tables.ensures.frame.size
-
-pub shape_of-roots : goal.shape_of-roots
-shape_of-roots c = c.list_tables.ensures.roots_size
 
 pub returns : goal.returns
 returns c =

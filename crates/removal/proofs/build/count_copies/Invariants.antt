@@ -1,12 +1,9 @@
--- The invariant: the total, and what the copies from c on add to it, are together the sum over all copies.
-use Prim.Native.Nat.{◌+◌, ◌*◌, ◌-◌, ◌≤◌}
+-- The invariant: the total, and what the copies from this one on add to it, are together the sum over all copies.
+use Prim.Native.Nat.{◌+◌, ◌*◌, ◌≤◌}
 use mathlib.Core.Path.{◌≡◌}
-use lib.ListN.{length, drop}
+use lib.ListN.{drop}
 use Rattle.removal.specs.Counts.{shares}
 use Rattle.removal.proofs.build.count_copies.Given as goal
 
-abbrev pub invariant-loop-c : goal.invariant-loop-c
-invariant-loop-c l = (l.c ≤ length l.nodes) × (l.total + shares l.counts (drop l.c l.nodes) ≡ shares l.counts l.nodes) × (l.total ≤ 8193 * l.c)
-
-abbrev pub decreases-loop-c : goal.decreases-loop-c
-decreases-loop-c l = length l.nodes - l.c
+abbrev pub invariant-loop-v : goal.invariant-loop-v
+invariant-loop-v l = (l.total + shares l.counts (drop l.v-index l.nodes) ≡ shares l.counts l.nodes) × (l.total ≤ 8193 * l.v-index)

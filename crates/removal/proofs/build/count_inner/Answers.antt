@@ -1,53 +1,39 @@
 use Prim.Native.Nat.{◌+◌, ◌≤◌}
 use native.Mathlib.Omega.{arith}
 use native.Mathlib.Numerals.{add-one}
-use mathlib.Core.Path.{◌∙◌, sym}
 use lib.ListN.{length, get_or}
-use Rattle.removal.proofs.Building.CountLaws.{tally_start, path_inside, path_counting, tally_turn, tally_done}
+use Rattle.removal.proofs.Building.CountLaws.{path_inside, path_counting, tally_turn, tally_done}
 use Rattle.removal.proofs.build.count_inner.Goals as goal
+use Rattle.removal.proofs.build.count_inner.Goals.{In-loop-length}
 
-pub loop-k-init : goal.loop-k-init
-loop-k-init c =
+-- the path ends inside the list
+inside : (c : In-loop-length) → c.loop-length.at + get_or c.args.lengths.now c.loop-length.length-index 0 ≤ length c.args.listed.now
+inside c =
     let a = c.args in
-    tally_start a.starts.now a.listed.now a.lengths.now a.counts.now c.requires.1 c.requires.2
-
-pub offset_bounds-lengths-k : goal.offset_bounds-lengths-k
-offset_bounds-lengths-k c = omega arith
-
-pub bounds-lengths-k : goal.bounds-lengths-k
-bounds-lengths-k c = omega arith
-
-pub overflow_cast-end : goal.overflow_cast-end
-overflow_cast-end c = omega (arith, (let by : let a = c.args in c.loop-k.at + get_or a.lengths.now c.loop-k.k 0 ≤ length a.listed.now = let a = c.args in path_inside a.starts.now a.listed.now a.lengths.now c.loop-k.counts c.loop-k.at c.loop-k.k c.requires.0 c.loop-k.invariant c.loop-k-test.true in by), c.requires.0.few)
+    let w = c.loop-length in
+    path_inside a.starts.now a.listed.now a.lengths.now w.counts w.at w.length-index c.requires.0 w.invariant c.loop-length-test.true
 
 pub overflow_add-end : goal.overflow_add-end
-overflow_add-end c = omega (arith, (let by : let a = c.args in c.loop-k.at + get_or a.lengths.now c.loop-k.k 0 ≤ length a.listed.now = let a = c.args in path_inside a.starts.now a.listed.now a.lengths.now c.loop-k.counts c.loop-k.at c.loop-k.k c.requires.0 c.loop-k.invariant c.loop-k-test.true in by), c.requires.0.few)
+overflow_add-end c = omega (arith, inside (goal.at.overflow_add-end c).In-loop-length, c.requires.0.few)
 
 pub overflow_add-at : goal.overflow_add-at
-overflow_add-at c = omega (arith, (let by : let a = c.args in c.loop-k.at + get_or a.lengths.now c.loop-k.k 0 ≤ length a.listed.now = let a = c.args in path_inside a.starts.now a.listed.now a.lengths.now c.loop-k.counts c.loop-k.at c.loop-k.k c.requires.0 c.loop-k.invariant c.loop-k-test.true in by), c.requires.0.few)
+overflow_add-at c = omega (arith, inside (goal.at.overflow_add-at c).In-loop-length, c.requires.0.few)
 
 pub count_path-requires : goal.count_path-requires
 count_path-requires c =
     let a = c.args in
-    path_counting a.starts.now a.listed.now a.lengths.now c.loop-k.counts c.loop-k.at c.loop-k.k c.requires.0 c.loop-k.invariant c.loop-k-test.true
+    let w = c.loop-length in
+    path_counting a.starts.now a.listed.now a.lengths.now w.counts w.at w.length-index c.requires.0 w.invariant c.loop-length-test.true
 
-pub overflow_add-k : goal.overflow_add-k
-overflow_add-k c = omega arith
-
-pub loop-k-smaller : goal.loop-k-smaller
-loop-k-smaller c = omega arith
-
-pub loop-k-preserved : goal.loop-k-preserved
-loop-k-preserved c =
+pub loop-length-preserved : goal.loop-length-preserved
+loop-length-preserved c =
     let a = c.args in
-    let w = c.count_path in
-    rw (add-one c.loop-k.k) (tally_turn a.starts.now a.listed.now a.lengths.now c.loop-k.counts c.loop-k.at c.loop-k.k c.requires.0 c.loop-k.invariant c.loop-k-test.true c.count_path.new.counts w.ensures)
-
-pub shape_of-counts : goal.shape_of-counts
-shape_of-counts c =
-    c.loop-k.invariant.size ∙ sym c.requires.1
+    let w = c.loop-length in
+    rw (add-one w.length-index)
+    (tally_turn a.starts.now a.listed.now a.lengths.now w.counts w.at w.length-index c.requires.0 w.invariant c.loop-length-test.true c.count_path.new.counts c.count_path.ensures)
 
 pub returns : goal.returns
 returns c =
     let a = c.args in
-    tally_done a.starts.now a.listed.now a.lengths.now c.loop-k.counts c.loop-k.at c.loop-k.k c.requires.0 c.loop-k.invariant c.loop-k-test.false
+    let w = c.loop-length in
+    tally_done a.starts.now a.listed.now a.lengths.now w.counts w.at w.length-index c.requires.0 w.invariant (omega arith)

@@ -1,11 +1,6 @@
 -- The children before child i are tried: no edge that is not seen is theirs.
-use Prim.Native.Nat.{◌-◌, ◌≤◌}
-use lib.ListN.{take}
-use Rattle.removal.specs.Patches.{kids_from, TriedKids}
+use Rattle.removal.specs.Patches.{TriedKids}
 use Rattle.removal.proofs.patches.collect_kids.Given as goal
 
 abbrev pub invariant-loop-i : goal.invariant-loop-i
-invariant-loop-i l = (kids_from l.l (take l.l.slots l.initial.scratch) l.u ≤ l.i) × TriedKids l.l l.initial.scratch l.scratch l.c l.j l.u l.i l.k
-
-abbrev pub decreases-loop-i : goal.decreases-loop-i
-decreases-loop-i l = l.end - l.i
+invariant-loop-i l = TriedKids l.l l.initial.scratch l.scratch l.c l.j l.u l.i l.k

@@ -1,107 +1,24 @@
 -- A child is no patch where no edge into the copy has its name, or where that edge is seen; else its edge is one more patch, for which there is room.
-use Prim.Native.Nat.{◌+◌, ◌*◌, ◌/◌, ◌<◌}
+use Prim.Native.Nat.{◌+◌, ◌/◌, ◌<◌}
 use native.Mathlib.Omega.{arith}
-use mathlib.Core.Path.{◌≡◌, refl, sym, ◌∙◌, ap}
-use lib.ListN.{length, get_or, take, set, length-set}
+use mathlib.Core.Path.{refl, sym, ◌∙◌, ap}
+use lib.ListN.{length, get_or, take, length-set}
 use Rattle.removal.specs.Rows.{InRun, name_in}
-use Rattle.removal.proofs.Patching.NoteLaws.{run_inside, edge_places, name_read, missed, placed, store_room, found}
+use Rattle.removal.proofs.Patching.NoteLaws.{name_there, missed, placed, store_room, found}
 use Rattle.removal.proofs.patches.note_patch.Goals as goal
+use Rattle.removal.proofs.patches.note_patch.Goals.{Else-p1-q, Else-scratch-l-ne0}
 
-pub returns-then-pos-e : goal.returns-then-pos-e
-returns-then-pos-e c =
-    let a = c.args in
-    missed a.l a.scratch.now a.pos.now a.c a.j a.p0 a.p1 a.so_far a.w c.requires.0 (λ h q e r n u. omega (arith, c.if-pos-e.true))
-
-pub overflow_cast-q : goal.overflow_cast-q
-overflow_cast-q c = omega (arith, c.shared_slice_known-2-1.given (c.args.w / 32768))
-
-pub returns-then-q-p0 : goal.returns-then-q-p0
-returns-then-q-p0 c =
-    let a = c.args in
-    missed a.l a.scratch.now a.pos.now a.c a.j a.p0 a.p1 a.so_far a.w c.requires.0
-    (λ h q e r n u. omega (arith, c.if-q-p0.true, e, r.from, c.requires.0.from))
-
-pub returns-then-p1-q : goal.returns-then-p1-q
-returns-then-p1-q c =
-    let a = c.args in
-    missed a.l a.scratch.now a.pos.now a.c a.j a.p0 a.p1 a.so_far a.w c.requires.0
-    (λ h q e r n u. omega (arith, c.if-p1-q.true, e, r.to, c.requires.0.to))
-
-pub overflow_add-l : goal.overflow_add-l
-overflow_add-l c = omega (
-  arith,
-  ((let by : (let a = c.args in let q = get_or a.pos.now (a.w / 32768) 0 in (a.l.name + q < length a.scratch.now) × (a.l.seen + q < length a.scratch.now) × (q < 65536) × (get_or a.scratch.now (a.l.name + q) 0 ≡ name_in a.l (take a.l.slots a.scratch.now) q)) = let a = c.args in
-      let q = get_or a.pos.now (a.w / 32768) 0 in
-      let x = c.requires.0 in
-      let inside = run_inside a.l a.scratch.now a.pos.now a.c a.j a.p0 a.p1 a.so_far a.w x q ((let by : (let a = c.args in InRun a.l (take a.l.slots a.scratch.now) a.c (get_or a.pos.now (a.w / 32768) 0)) = record { from = omega (arith, c.if-q-p0.false, c.requires.0.from); to = omega (arith, c.if-p1-q.false, c.requires.0.to) } in by)) in
-      let e = edge_places a.l a.scratch.now x.ready q inside in
-      (omega (arith, e.1, e.2), e.3, e.4, name_read a.l a.scratch.now x.ready q inside) in by)).0,
-)
-
-pub offset_bounds-scratch-l : goal.offset_bounds-scratch-l
-offset_bounds-scratch-l c = omega (
-  arith,
-  ((let by : (let a = c.args in let q = get_or a.pos.now (a.w / 32768) 0 in (a.l.name + q < length a.scratch.now) × (a.l.seen + q < length a.scratch.now) × (q < 65536) × (get_or a.scratch.now (a.l.name + q) 0 ≡ name_in a.l (take a.l.slots a.scratch.now) q)) = let a = c.args in
-      let q = get_or a.pos.now (a.w / 32768) 0 in
-      let x = c.requires.0 in
-      let inside = run_inside a.l a.scratch.now a.pos.now a.c a.j a.p0 a.p1 a.so_far a.w x q ((let by : (let a = c.args in InRun a.l (take a.l.slots a.scratch.now) a.c (get_or a.pos.now (a.w / 32768) 0)) = record { from = omega (arith, c.if-q-p0.false, c.requires.0.from); to = omega (arith, c.if-p1-q.false, c.requires.0.to) } in by)) in
-      let e = edge_places a.l a.scratch.now x.ready q inside in
-      (omega (arith, e.1, e.2), e.3, e.4, name_read a.l a.scratch.now x.ready q inside) in by)).0,
-)
-
-pub bounds-scratch-l : goal.bounds-scratch-l
-bounds-scratch-l c = ((let by : (let a = c.args in let q = get_or a.pos.now (a.w / 32768) 0 in (a.l.name + q < length a.scratch.now) × (a.l.seen + q < length a.scratch.now) × (q < 65536) × (get_or a.scratch.now (a.l.name + q) 0 ≡ name_in a.l (take a.l.slots a.scratch.now) q)) = let a = c.args in
-    let q = get_or a.pos.now (a.w / 32768) 0 in
-    let x = c.requires.0 in
-    let inside = run_inside a.l a.scratch.now a.pos.now a.c a.j a.p0 a.p1 a.so_far a.w x q ((let by : (let a = c.args in InRun a.l (take a.l.slots a.scratch.now) a.c (get_or a.pos.now (a.w / 32768) 0)) = record { from = omega (arith, c.if-q-p0.false, c.requires.0.from); to = omega (arith, c.if-p1-q.false, c.requires.0.to) } in by)) in
-    let e = edge_places a.l a.scratch.now x.ready q inside in
-    (omega (arith, e.1, e.2), e.3, e.4, name_read a.l a.scratch.now x.ready q inside) in by)).0
-
-pub overflow_cast-scratch : goal.overflow_cast-scratch
-overflow_cast-scratch c =
-    let a = c.args in
-    omega (arith, c.slice_known-2-1.given (a.l.name + get_or a.pos.now (a.w / 32768) 0))
+-- the edge at the place comes into the copy
+within : (c : Else-p1-q) → InRun c.args.l (take c.args.l.slots c.args.scratch.now) c.args.c (get_or c.args.pos.now (c.args.w / 32768) 0)
+within c = record { from = omega (arith, c.requires.0.from); to = omega (arith, c.requires.0.to) }
 
 pub returns-then-scratch-l : goal.returns-then-scratch-l
 returns-then-scratch-l c =
     let a = c.args in
+    let run = within (goal.at.returns-then-scratch-l c).Else-p1-q in
+    let name = name_there a.l a.scratch.now a.pos.now a.c a.j a.p0 a.p1 a.so_far a.w c.requires.0 _ run in
     missed a.l a.scratch.now a.pos.now a.c a.j a.p0 a.p1 a.so_far a.w c.requires.0
-    (λ h q e r n u. c.if-scratch-l.true (((let by : (let a = c.args in let q = get_or a.pos.now (a.w / 32768) 0 in (a.l.name + q < length a.scratch.now) × (a.l.seen + q < length a.scratch.now) × (q < 65536) × (get_or a.scratch.now (a.l.name + q) 0 ≡ name_in a.l (take a.l.slots a.scratch.now) q)) = let a = c.args in
-    let q = get_or a.pos.now (a.w / 32768) 0 in
-    let x = c.requires.0 in
-    let inside = run_inside a.l a.scratch.now a.pos.now a.c a.j a.p0 a.p1 a.so_far a.w x q ((let by : (let a = c.args in InRun a.l (take a.l.slots a.scratch.now) a.c (get_or a.pos.now (a.w / 32768) 0)) = record { from = omega (arith, c.if-q-p0.false, c.requires.0.from); to = omega (arith, c.if-p1-q.false, c.requires.0.to) } in by)) in
-    let e = edge_places a.l a.scratch.now x.ready q inside in
-    (omega (arith, e.1, e.2), e.3, e.4, name_read a.l a.scratch.now x.ready q inside) in by)).3 ∙ ap (name_in a.l (take a.l.slots a.scratch.now)) (sym e) ∙ n))
-
-pub overflow_add-l-2 : goal.overflow_add-l-2
-overflow_add-l-2 c = omega (
-  arith,
-  ((let by : (let a = c.args in let q = get_or a.pos.now (a.w / 32768) 0 in (a.l.name + q < length a.scratch.now) × (a.l.seen + q < length a.scratch.now) × (q < 65536) × (get_or a.scratch.now (a.l.name + q) 0 ≡ name_in a.l (take a.l.slots a.scratch.now) q)) = let a = c.args in
-      let q = get_or a.pos.now (a.w / 32768) 0 in
-      let x = c.requires.0 in
-      let inside = run_inside a.l a.scratch.now a.pos.now a.c a.j a.p0 a.p1 a.so_far a.w x q ((let by : (let a = c.args in InRun a.l (take a.l.slots a.scratch.now) a.c (get_or a.pos.now (a.w / 32768) 0)) = record { from = omega (arith, c.if-q-p0.false, c.requires.0.from); to = omega (arith, c.if-p1-q.false, c.requires.0.to) } in by)) in
-      let e = edge_places a.l a.scratch.now x.ready q inside in
-      (omega (arith, e.1, e.2), e.3, e.4, name_read a.l a.scratch.now x.ready q inside) in by)).1,
-)
-
-pub offset_bounds-scratch-l-2 : goal.offset_bounds-scratch-l-2
-offset_bounds-scratch-l-2 c = omega (
-  arith,
-  ((let by : (let a = c.args in let q = get_or a.pos.now (a.w / 32768) 0 in (a.l.name + q < length a.scratch.now) × (a.l.seen + q < length a.scratch.now) × (q < 65536) × (get_or a.scratch.now (a.l.name + q) 0 ≡ name_in a.l (take a.l.slots a.scratch.now) q)) = let a = c.args in
-      let q = get_or a.pos.now (a.w / 32768) 0 in
-      let x = c.requires.0 in
-      let inside = run_inside a.l a.scratch.now a.pos.now a.c a.j a.p0 a.p1 a.so_far a.w x q ((let by : (let a = c.args in InRun a.l (take a.l.slots a.scratch.now) a.c (get_or a.pos.now (a.w / 32768) 0)) = record { from = omega (arith, c.if-q-p0.false, c.requires.0.from); to = omega (arith, c.if-p1-q.false, c.requires.0.to) } in by)) in
-      let e = edge_places a.l a.scratch.now x.ready q inside in
-      (omega (arith, e.1, e.2), e.3, e.4, name_read a.l a.scratch.now x.ready q inside) in by)).1,
-)
-
-pub bounds-scratch-l-2 : goal.bounds-scratch-l-2
-bounds-scratch-l-2 c = ((let by : (let a = c.args in let q = get_or a.pos.now (a.w / 32768) 0 in (a.l.name + q < length a.scratch.now) × (a.l.seen + q < length a.scratch.now) × (q < 65536) × (get_or a.scratch.now (a.l.name + q) 0 ≡ name_in a.l (take a.l.slots a.scratch.now) q)) = let a = c.args in
-    let q = get_or a.pos.now (a.w / 32768) 0 in
-    let x = c.requires.0 in
-    let inside = run_inside a.l a.scratch.now a.pos.now a.c a.j a.p0 a.p1 a.so_far a.w x q ((let by : (let a = c.args in InRun a.l (take a.l.slots a.scratch.now) a.c (get_or a.pos.now (a.w / 32768) 0)) = record { from = omega (arith, c.if-q-p0.false, c.requires.0.from); to = omega (arith, c.if-p1-q.false, c.requires.0.to) } in by)) in
-    let e = edge_places a.l a.scratch.now x.ready q inside in
-    (omega (arith, e.1, e.2), e.3, e.4, name_read a.l a.scratch.now x.ready q inside) in by)).1
+    (λ h q e r n u. c.if-scratch-l.true (name ∙ ap (name_in a.l (take a.l.slots a.scratch.now)) (sym e) ∙ n))
 
 pub returns-then-scratch-l-ne0 : goal.returns-then-scratch-l-ne0
 returns-then-scratch-l-ne0 c =
@@ -112,169 +29,49 @@ returns-then-scratch-l-ne0 c =
 pub child_place-place-requires : goal.child_place-place-requires
 child_place-place-requires c =
     let a = c.args in
-    placed a.l a.scratch.now a.pos.now a.c a.j a.p0 a.p1 a.so_far a.w c.requires.0 (get_or a.pos.now (a.w / 32768) 0) ((let by : (let a = c.args in InRun a.l (take a.l.slots a.scratch.now) a.c (get_or a.pos.now (a.w / 32768) 0)) = record { from = omega (arith, c.if-q-p0.false, c.requires.0.from); to = omega (arith, c.if-p1-q.false, c.requires.0.to) } in by)) c.if-scratch-l-ne0.false refl ((let by : (let a = c.args in name_in a.l (take a.l.slots a.scratch.now) (get_or a.pos.now (a.w / 32768) 0) ≡ a.w / 32768) = sym ((let by : (let a = c.args in let q = get_or a.pos.now (a.w / 32768) 0 in (a.l.name + q < length a.scratch.now) × (a.l.seen + q < length a.scratch.now) × (q < 65536) × (get_or a.scratch.now (a.l.name + q) 0 ≡ name_in a.l (take a.l.slots a.scratch.now) q)) = let a = c.args in
+    let run = within (goal.at.child_place-place-requires c).Else-p1-q in
+    let name = name_there a.l a.scratch.now a.pos.now a.c a.j a.p0 a.p1 a.so_far a.w c.requires.0 _ run in
+    placed a.l a.scratch.now a.pos.now a.c a.j a.p0 a.p1 a.so_far a.w c.requires.0 _ run c.if-scratch-l-ne0.false refl (sym name ∙ c.if-scratch-l.false) c.requires.1
+
+-- there is room for one more patch
+room : (c : Else-scratch-l-ne0)
+    → (c.args.l.seen + get_or c.args.pos.now (c.args.w / 32768) 0 < length c.args.scratch.now)
+    × (c.args.l.patch + c.args.so_far < length c.args.scratch.now)
+    × (c.args.l.lead + c.args.so_far < length c.args.scratch.now)
+room c =
+    let a = c.args in
     let q = get_or a.pos.now (a.w / 32768) 0 in
-    let x = c.requires.0 in
-    let inside = run_inside a.l a.scratch.now a.pos.now a.c a.j a.p0 a.p1 a.so_far a.w x q ((let by : (let a = c.args in InRun a.l (take a.l.slots a.scratch.now) a.c (get_or a.pos.now (a.w / 32768) 0)) = record { from = omega (arith, c.if-q-p0.false, c.requires.0.from); to = omega (arith, c.if-p1-q.false, c.requires.0.to) } in by)) in
-    let e = edge_places a.l a.scratch.now x.ready q inside in
-    (omega (arith, e.1, e.2), e.3, e.4, name_read a.l a.scratch.now x.ready q inside) in by)).3 ∙ c.if-scratch-l.false in by)) c.requires.1
-
-pub overflow_add-scratch : goal.overflow_add-scratch
-overflow_add-scratch c = omega (
-  arith,
-  ((let by : (let a = c.args in (a.l.seen + get_or a.pos.now (a.w / 32768) 0 < length a.scratch.now) × (a.l.patch + a.so_far < length a.scratch.now) × (a.l.lead + a.so_far < length a.scratch.now)) = let a = c.args in
-      store_room a.l a.scratch.now a.pos.now a.c a.j a.p0 a.p1 a.so_far a.w c.requires.0 (get_or a.pos.now (a.w / 32768) 0) ((let by : (let a = c.args in InRun a.l (take a.l.slots a.scratch.now) a.c (get_or a.pos.now (a.w / 32768) 0)) = record { from = omega (arith, c.if-q-p0.false, c.requires.0.from); to = omega (arith, c.if-p1-q.false, c.requires.0.to) } in by)) c.if-scratch-l-ne0.false refl ((let by : (let a = c.args in name_in a.l (take a.l.slots a.scratch.now) (get_or a.pos.now (a.w / 32768) 0) ≡ a.w / 32768) = sym ((let by : (let a = c.args in let q = get_or a.pos.now (a.w / 32768) 0 in (a.l.name + q < length a.scratch.now) × (a.l.seen + q < length a.scratch.now) × (q < 65536) × (get_or a.scratch.now (a.l.name + q) 0 ≡ name_in a.l (take a.l.slots a.scratch.now) q)) = let a = c.args in
-      let q = get_or a.pos.now (a.w / 32768) 0 in
-      let x = c.requires.0 in
-      let inside = run_inside a.l a.scratch.now a.pos.now a.c a.j a.p0 a.p1 a.so_far a.w x q ((let by : (let a = c.args in InRun a.l (take a.l.slots a.scratch.now) a.c (get_or a.pos.now (a.w / 32768) 0)) = record { from = omega (arith, c.if-q-p0.false, c.requires.0.from); to = omega (arith, c.if-p1-q.false, c.requires.0.to) } in by)) in
-      let e = edge_places a.l a.scratch.now x.ready q inside in
-      (omega (arith, e.1, e.2), e.3, e.4, name_read a.l a.scratch.now x.ready q inside) in by)).3 ∙ c.if-scratch-l.false in by)) in by)).0,
-  ((let by : (let a = c.args in (length a.scratch.now < 18446744073709551616) × (length a.scratch.now * 4 < 9223372036854775808)) = let g = c.well_formed.1.0 in (g.0, g.1) in by)).0,
-)
-
-pub offset_bounds-scratch-l-3 : goal.offset_bounds-scratch-l-3
-offset_bounds-scratch-l-3 c = omega (
-  arith,
-  ((let by : (let a = c.args in (a.l.seen + get_or a.pos.now (a.w / 32768) 0 < length a.scratch.now) × (a.l.patch + a.so_far < length a.scratch.now) × (a.l.lead + a.so_far < length a.scratch.now)) = let a = c.args in
-      store_room a.l a.scratch.now a.pos.now a.c a.j a.p0 a.p1 a.so_far a.w c.requires.0 (get_or a.pos.now (a.w / 32768) 0) ((let by : (let a = c.args in InRun a.l (take a.l.slots a.scratch.now) a.c (get_or a.pos.now (a.w / 32768) 0)) = record { from = omega (arith, c.if-q-p0.false, c.requires.0.from); to = omega (arith, c.if-p1-q.false, c.requires.0.to) } in by)) c.if-scratch-l-ne0.false refl ((let by : (let a = c.args in name_in a.l (take a.l.slots a.scratch.now) (get_or a.pos.now (a.w / 32768) 0) ≡ a.w / 32768) = sym ((let by : (let a = c.args in let q = get_or a.pos.now (a.w / 32768) 0 in (a.l.name + q < length a.scratch.now) × (a.l.seen + q < length a.scratch.now) × (q < 65536) × (get_or a.scratch.now (a.l.name + q) 0 ≡ name_in a.l (take a.l.slots a.scratch.now) q)) = let a = c.args in
-      let q = get_or a.pos.now (a.w / 32768) 0 in
-      let x = c.requires.0 in
-      let inside = run_inside a.l a.scratch.now a.pos.now a.c a.j a.p0 a.p1 a.so_far a.w x q ((let by : (let a = c.args in InRun a.l (take a.l.slots a.scratch.now) a.c (get_or a.pos.now (a.w / 32768) 0)) = record { from = omega (arith, c.if-q-p0.false, c.requires.0.from); to = omega (arith, c.if-p1-q.false, c.requires.0.to) } in by)) in
-      let e = edge_places a.l a.scratch.now x.ready q inside in
-      (omega (arith, e.1, e.2), e.3, e.4, name_read a.l a.scratch.now x.ready q inside) in by)).3 ∙ c.if-scratch-l.false in by)) in by)).0,
-  ((let by : (let a = c.args in (length a.scratch.now < 18446744073709551616) × (length a.scratch.now * 4 < 9223372036854775808)) = let g = c.well_formed.1.0 in (g.0, g.1) in by)).1,
-)
-
-pub bounds-scratch-l-3 : goal.bounds-scratch-l-3
-bounds-scratch-l-3 c = ((let by : (let a = c.args in (a.l.seen + get_or a.pos.now (a.w / 32768) 0 < length a.scratch.now) × (a.l.patch + a.so_far < length a.scratch.now) × (a.l.lead + a.so_far < length a.scratch.now)) = let a = c.args in
-    store_room a.l a.scratch.now a.pos.now a.c a.j a.p0 a.p1 a.so_far a.w c.requires.0 (get_or a.pos.now (a.w / 32768) 0) ((let by : (let a = c.args in InRun a.l (take a.l.slots a.scratch.now) a.c (get_or a.pos.now (a.w / 32768) 0)) = record { from = omega (arith, c.if-q-p0.false, c.requires.0.from); to = omega (arith, c.if-p1-q.false, c.requires.0.to) } in by)) c.if-scratch-l-ne0.false refl ((let by : (let a = c.args in name_in a.l (take a.l.slots a.scratch.now) (get_or a.pos.now (a.w / 32768) 0) ≡ a.w / 32768) = sym ((let by : (let a = c.args in let q = get_or a.pos.now (a.w / 32768) 0 in (a.l.name + q < length a.scratch.now) × (a.l.seen + q < length a.scratch.now) × (q < 65536) × (get_or a.scratch.now (a.l.name + q) 0 ≡ name_in a.l (take a.l.slots a.scratch.now) q)) = let a = c.args in
-    let q = get_or a.pos.now (a.w / 32768) 0 in
-    let x = c.requires.0 in
-    let inside = run_inside a.l a.scratch.now a.pos.now a.c a.j a.p0 a.p1 a.so_far a.w x q ((let by : (let a = c.args in InRun a.l (take a.l.slots a.scratch.now) a.c (get_or a.pos.now (a.w / 32768) 0)) = record { from = omega (arith, c.if-q-p0.false, c.requires.0.from); to = omega (arith, c.if-p1-q.false, c.requires.0.to) } in by)) in
-    let e = edge_places a.l a.scratch.now x.ready q inside in
-    (omega (arith, e.1, e.2), e.3, e.4, name_read a.l a.scratch.now x.ready q inside) in by)).3 ∙ c.if-scratch-l.false in by)) in by)).0
-
-pub overflow_cast-scratch-2 : goal.overflow_cast-scratch-2
-overflow_cast-scratch-2 c = omega (
-  arith,
-  ((let by : (let a = c.args in let q = get_or a.pos.now (a.w / 32768) 0 in (a.l.name + q < length a.scratch.now) × (a.l.seen + q < length a.scratch.now) × (q < 65536) × (get_or a.scratch.now (a.l.name + q) 0 ≡ name_in a.l (take a.l.slots a.scratch.now) q)) = let a = c.args in
-      let q = get_or a.pos.now (a.w / 32768) 0 in
-      let x = c.requires.0 in
-      let inside = run_inside a.l a.scratch.now a.pos.now a.c a.j a.p0 a.p1 a.so_far a.w x q ((let by : (let a = c.args in InRun a.l (take a.l.slots a.scratch.now) a.c (get_or a.pos.now (a.w / 32768) 0)) = record { from = omega (arith, c.if-q-p0.false, c.requires.0.from); to = omega (arith, c.if-p1-q.false, c.requires.0.to) } in by)) in
-      let e = edge_places a.l a.scratch.now x.ready q inside in
-      (omega (arith, e.1, e.2), e.3, e.4, name_read a.l a.scratch.now x.ready q inside) in by)).2,
-)
+    let run : InRun a.l (take a.l.slots a.scratch.now) a.c q = record { from = omega (arith, c.requires.0.from); to = omega (arith, c.requires.0.to) } in
+    let name = name_there a.l a.scratch.now a.pos.now a.c a.j a.p0 a.p1 a.so_far a.w c.requires.0 q run in
+    store_room a.l a.scratch.now a.pos.now a.c a.j a.p0 a.p1 a.so_far a.w c.requires.0 q run c.if-scratch-l-ne0.false refl (sym name ∙ c.if-scratch-l.false)
 
 pub overflow_add-scratch-2 : goal.overflow_add-scratch-2
-overflow_add-scratch-2 c = omega (
-  arith,
-  ((let by : (let a = c.args in (a.l.seen + get_or a.pos.now (a.w / 32768) 0 < length a.scratch.now) × (a.l.patch + a.so_far < length a.scratch.now) × (a.l.lead + a.so_far < length a.scratch.now)) = let a = c.args in
-      store_room a.l a.scratch.now a.pos.now a.c a.j a.p0 a.p1 a.so_far a.w c.requires.0 (get_or a.pos.now (a.w / 32768) 0) ((let by : (let a = c.args in InRun a.l (take a.l.slots a.scratch.now) a.c (get_or a.pos.now (a.w / 32768) 0)) = record { from = omega (arith, c.if-q-p0.false, c.requires.0.from); to = omega (arith, c.if-p1-q.false, c.requires.0.to) } in by)) c.if-scratch-l-ne0.false refl ((let by : (let a = c.args in name_in a.l (take a.l.slots a.scratch.now) (get_or a.pos.now (a.w / 32768) 0) ≡ a.w / 32768) = sym ((let by : (let a = c.args in let q = get_or a.pos.now (a.w / 32768) 0 in (a.l.name + q < length a.scratch.now) × (a.l.seen + q < length a.scratch.now) × (q < 65536) × (get_or a.scratch.now (a.l.name + q) 0 ≡ name_in a.l (take a.l.slots a.scratch.now) q)) = let a = c.args in
-      let q = get_or a.pos.now (a.w / 32768) 0 in
-      let x = c.requires.0 in
-      let inside = run_inside a.l a.scratch.now a.pos.now a.c a.j a.p0 a.p1 a.so_far a.w x q ((let by : (let a = c.args in InRun a.l (take a.l.slots a.scratch.now) a.c (get_or a.pos.now (a.w / 32768) 0)) = record { from = omega (arith, c.if-q-p0.false, c.requires.0.from); to = omega (arith, c.if-p1-q.false, c.requires.0.to) } in by)) in
-      let e = edge_places a.l a.scratch.now x.ready q inside in
-      (omega (arith, e.1, e.2), e.3, e.4, name_read a.l a.scratch.now x.ready q inside) in by)).3 ∙ c.if-scratch-l.false in by)) in by)).1,
-  ((let by : (let a = c.args in (length a.scratch.now < 18446744073709551616) × (length a.scratch.now * 4 < 9223372036854775808)) = let g = c.well_formed.1.0 in (g.0, g.1) in by)).0,
-)
+overflow_add-scratch-2 c = omega (arith, room (goal.at.overflow_add-scratch-2 c).Else-scratch-l-ne0)
 
 pub offset_bounds-scratch-l-4 : goal.offset_bounds-scratch-l-4
-offset_bounds-scratch-l-4 c = omega (
-  arith,
-  ((let by : (let a = c.args in (a.l.seen + get_or a.pos.now (a.w / 32768) 0 < length a.scratch.now) × (a.l.patch + a.so_far < length a.scratch.now) × (a.l.lead + a.so_far < length a.scratch.now)) = let a = c.args in
-      store_room a.l a.scratch.now a.pos.now a.c a.j a.p0 a.p1 a.so_far a.w c.requires.0 (get_or a.pos.now (a.w / 32768) 0) ((let by : (let a = c.args in InRun a.l (take a.l.slots a.scratch.now) a.c (get_or a.pos.now (a.w / 32768) 0)) = record { from = omega (arith, c.if-q-p0.false, c.requires.0.from); to = omega (arith, c.if-p1-q.false, c.requires.0.to) } in by)) c.if-scratch-l-ne0.false refl ((let by : (let a = c.args in name_in a.l (take a.l.slots a.scratch.now) (get_or a.pos.now (a.w / 32768) 0) ≡ a.w / 32768) = sym ((let by : (let a = c.args in let q = get_or a.pos.now (a.w / 32768) 0 in (a.l.name + q < length a.scratch.now) × (a.l.seen + q < length a.scratch.now) × (q < 65536) × (get_or a.scratch.now (a.l.name + q) 0 ≡ name_in a.l (take a.l.slots a.scratch.now) q)) = let a = c.args in
-      let q = get_or a.pos.now (a.w / 32768) 0 in
-      let x = c.requires.0 in
-      let inside = run_inside a.l a.scratch.now a.pos.now a.c a.j a.p0 a.p1 a.so_far a.w x q ((let by : (let a = c.args in InRun a.l (take a.l.slots a.scratch.now) a.c (get_or a.pos.now (a.w / 32768) 0)) = record { from = omega (arith, c.if-q-p0.false, c.requires.0.from); to = omega (arith, c.if-p1-q.false, c.requires.0.to) } in by)) in
-      let e = edge_places a.l a.scratch.now x.ready q inside in
-      (omega (arith, e.1, e.2), e.3, e.4, name_read a.l a.scratch.now x.ready q inside) in by)).3 ∙ c.if-scratch-l.false in by)) in by)).1,
-  ((let by : (let a = c.args in (length a.scratch.now < 18446744073709551616) × (length a.scratch.now * 4 < 9223372036854775808)) = let g = c.well_formed.1.0 in (g.0, g.1) in by)).1,
-)
+offset_bounds-scratch-l-4 c = omega (arith, room (goal.at.offset_bounds-scratch-l-4 c).Else-scratch-l-ne0)
 
 pub bounds-scratch-l-4 : goal.bounds-scratch-l-4
-bounds-scratch-l-4 c =
-    let a = c.args in
-    omega (
-      arith,
-      ((let by : (let a = c.args in (a.l.seen + get_or a.pos.now (a.w / 32768) 0 < length a.scratch.now) × (a.l.patch + a.so_far < length a.scratch.now) × (a.l.lead + a.so_far < length a.scratch.now)) = let a = c.args in
-          store_room a.l a.scratch.now a.pos.now a.c a.j a.p0 a.p1 a.so_far a.w c.requires.0 (get_or a.pos.now (a.w / 32768) 0) ((let by : (let a = c.args in InRun a.l (take a.l.slots a.scratch.now) a.c (get_or a.pos.now (a.w / 32768) 0)) = record { from = omega (arith, c.if-q-p0.false, c.requires.0.from); to = omega (arith, c.if-p1-q.false, c.requires.0.to) } in by)) c.if-scratch-l-ne0.false refl ((let by : (let a = c.args in name_in a.l (take a.l.slots a.scratch.now) (get_or a.pos.now (a.w / 32768) 0) ≡ a.w / 32768) = sym ((let by : (let a = c.args in let q = get_or a.pos.now (a.w / 32768) 0 in (a.l.name + q < length a.scratch.now) × (a.l.seen + q < length a.scratch.now) × (q < 65536) × (get_or a.scratch.now (a.l.name + q) 0 ≡ name_in a.l (take a.l.slots a.scratch.now) q)) = let a = c.args in
-          let q = get_or a.pos.now (a.w / 32768) 0 in
-          let x = c.requires.0 in
-          let inside = run_inside a.l a.scratch.now a.pos.now a.c a.j a.p0 a.p1 a.so_far a.w x q ((let by : (let a = c.args in InRun a.l (take a.l.slots a.scratch.now) a.c (get_or a.pos.now (a.w / 32768) 0)) = record { from = omega (arith, c.if-q-p0.false, c.requires.0.from); to = omega (arith, c.if-p1-q.false, c.requires.0.to) } in by)) in
-          let e = edge_places a.l a.scratch.now x.ready q inside in
-          (omega (arith, e.1, e.2), e.3, e.4, name_read a.l a.scratch.now x.ready q inside) in by)).3 ∙ c.if-scratch-l.false in by)) in by)).1,
-      length-set a.scratch.now (a.l.seen + get_or a.pos.now (a.w / 32768) 0) 1,
-    )
+bounds-scratch-l-4 c = simp length-set (omega (arith, room (goal.at.bounds-scratch-l-4 c).Else-scratch-l-ne0))
 
 pub overflow_add-scratch-3 : goal.overflow_add-scratch-3
-overflow_add-scratch-3 c = omega (
-  arith,
-  ((let by : (let a = c.args in (a.l.seen + get_or a.pos.now (a.w / 32768) 0 < length a.scratch.now) × (a.l.patch + a.so_far < length a.scratch.now) × (a.l.lead + a.so_far < length a.scratch.now)) = let a = c.args in
-      store_room a.l a.scratch.now a.pos.now a.c a.j a.p0 a.p1 a.so_far a.w c.requires.0 (get_or a.pos.now (a.w / 32768) 0) ((let by : (let a = c.args in InRun a.l (take a.l.slots a.scratch.now) a.c (get_or a.pos.now (a.w / 32768) 0)) = record { from = omega (arith, c.if-q-p0.false, c.requires.0.from); to = omega (arith, c.if-p1-q.false, c.requires.0.to) } in by)) c.if-scratch-l-ne0.false refl ((let by : (let a = c.args in name_in a.l (take a.l.slots a.scratch.now) (get_or a.pos.now (a.w / 32768) 0) ≡ a.w / 32768) = sym ((let by : (let a = c.args in let q = get_or a.pos.now (a.w / 32768) 0 in (a.l.name + q < length a.scratch.now) × (a.l.seen + q < length a.scratch.now) × (q < 65536) × (get_or a.scratch.now (a.l.name + q) 0 ≡ name_in a.l (take a.l.slots a.scratch.now) q)) = let a = c.args in
-      let q = get_or a.pos.now (a.w / 32768) 0 in
-      let x = c.requires.0 in
-      let inside = run_inside a.l a.scratch.now a.pos.now a.c a.j a.p0 a.p1 a.so_far a.w x q ((let by : (let a = c.args in InRun a.l (take a.l.slots a.scratch.now) a.c (get_or a.pos.now (a.w / 32768) 0)) = record { from = omega (arith, c.if-q-p0.false, c.requires.0.from); to = omega (arith, c.if-p1-q.false, c.requires.0.to) } in by)) in
-      let e = edge_places a.l a.scratch.now x.ready q inside in
-      (omega (arith, e.1, e.2), e.3, e.4, name_read a.l a.scratch.now x.ready q inside) in by)).3 ∙ c.if-scratch-l.false in by)) in by)).2,
-  ((let by : (let a = c.args in (length a.scratch.now < 18446744073709551616) × (length a.scratch.now * 4 < 9223372036854775808)) = let g = c.well_formed.1.0 in (g.0, g.1) in by)).0,
-)
+overflow_add-scratch-3 c = omega (arith, room (goal.at.overflow_add-scratch-3 c).Else-scratch-l-ne0)
 
 pub offset_bounds-scratch-l-5 : goal.offset_bounds-scratch-l-5
-offset_bounds-scratch-l-5 c = omega (
-  arith,
-  ((let by : (let a = c.args in (a.l.seen + get_or a.pos.now (a.w / 32768) 0 < length a.scratch.now) × (a.l.patch + a.so_far < length a.scratch.now) × (a.l.lead + a.so_far < length a.scratch.now)) = let a = c.args in
-      store_room a.l a.scratch.now a.pos.now a.c a.j a.p0 a.p1 a.so_far a.w c.requires.0 (get_or a.pos.now (a.w / 32768) 0) ((let by : (let a = c.args in InRun a.l (take a.l.slots a.scratch.now) a.c (get_or a.pos.now (a.w / 32768) 0)) = record { from = omega (arith, c.if-q-p0.false, c.requires.0.from); to = omega (arith, c.if-p1-q.false, c.requires.0.to) } in by)) c.if-scratch-l-ne0.false refl ((let by : (let a = c.args in name_in a.l (take a.l.slots a.scratch.now) (get_or a.pos.now (a.w / 32768) 0) ≡ a.w / 32768) = sym ((let by : (let a = c.args in let q = get_or a.pos.now (a.w / 32768) 0 in (a.l.name + q < length a.scratch.now) × (a.l.seen + q < length a.scratch.now) × (q < 65536) × (get_or a.scratch.now (a.l.name + q) 0 ≡ name_in a.l (take a.l.slots a.scratch.now) q)) = let a = c.args in
-      let q = get_or a.pos.now (a.w / 32768) 0 in
-      let x = c.requires.0 in
-      let inside = run_inside a.l a.scratch.now a.pos.now a.c a.j a.p0 a.p1 a.so_far a.w x q ((let by : (let a = c.args in InRun a.l (take a.l.slots a.scratch.now) a.c (get_or a.pos.now (a.w / 32768) 0)) = record { from = omega (arith, c.if-q-p0.false, c.requires.0.from); to = omega (arith, c.if-p1-q.false, c.requires.0.to) } in by)) in
-      let e = edge_places a.l a.scratch.now x.ready q inside in
-      (omega (arith, e.1, e.2), e.3, e.4, name_read a.l a.scratch.now x.ready q inside) in by)).3 ∙ c.if-scratch-l.false in by)) in by)).2,
-  ((let by : (let a = c.args in (length a.scratch.now < 18446744073709551616) × (length a.scratch.now * 4 < 9223372036854775808)) = let g = c.well_formed.1.0 in (g.0, g.1) in by)).1,
-)
+offset_bounds-scratch-l-5 c = omega (arith, room (goal.at.offset_bounds-scratch-l-5 c).Else-scratch-l-ne0)
 
 pub bounds-scratch-l-5 : goal.bounds-scratch-l-5
-bounds-scratch-l-5 c =
-    let a = c.args in
-    let q = get_or a.pos.now (a.w / 32768) 0 in
-    omega (
-      arith,
-      ((let by : (let a = c.args in (a.l.seen + get_or a.pos.now (a.w / 32768) 0 < length a.scratch.now) × (a.l.patch + a.so_far < length a.scratch.now) × (a.l.lead + a.so_far < length a.scratch.now)) = let a = c.args in
-          store_room a.l a.scratch.now a.pos.now a.c a.j a.p0 a.p1 a.so_far a.w c.requires.0 (get_or a.pos.now (a.w / 32768) 0) ((let by : (let a = c.args in InRun a.l (take a.l.slots a.scratch.now) a.c (get_or a.pos.now (a.w / 32768) 0)) = record { from = omega (arith, c.if-q-p0.false, c.requires.0.from); to = omega (arith, c.if-p1-q.false, c.requires.0.to) } in by)) c.if-scratch-l-ne0.false refl ((let by : (let a = c.args in name_in a.l (take a.l.slots a.scratch.now) (get_or a.pos.now (a.w / 32768) 0) ≡ a.w / 32768) = sym ((let by : (let a = c.args in let q = get_or a.pos.now (a.w / 32768) 0 in (a.l.name + q < length a.scratch.now) × (a.l.seen + q < length a.scratch.now) × (q < 65536) × (get_or a.scratch.now (a.l.name + q) 0 ≡ name_in a.l (take a.l.slots a.scratch.now) q)) = let a = c.args in
-          let q = get_or a.pos.now (a.w / 32768) 0 in
-          let x = c.requires.0 in
-          let inside = run_inside a.l a.scratch.now a.pos.now a.c a.j a.p0 a.p1 a.so_far a.w x q ((let by : (let a = c.args in InRun a.l (take a.l.slots a.scratch.now) a.c (get_or a.pos.now (a.w / 32768) 0)) = record { from = omega (arith, c.if-q-p0.false, c.requires.0.from); to = omega (arith, c.if-p1-q.false, c.requires.0.to) } in by)) in
-          let e = edge_places a.l a.scratch.now x.ready q inside in
-          (omega (arith, e.1, e.2), e.3, e.4, name_read a.l a.scratch.now x.ready q inside) in by)).3 ∙ c.if-scratch-l.false in by)) in by)).2,
-      length-set a.scratch.now (a.l.seen + q) 1,
-      length-set (set a.scratch.now (a.l.seen + q) 1) (a.l.patch + a.so_far) q,
-    )
+bounds-scratch-l-5 c = simp length-set (omega (arith, room (goal.at.bounds-scratch-l-5 c).Else-scratch-l-ne0))
 
 pub overflow_add-result : goal.overflow_add-result
-overflow_add-result c = omega (
-  arith,
-  ((let by : (let a = c.args in (a.l.seen + get_or a.pos.now (a.w / 32768) 0 < length a.scratch.now) × (a.l.patch + a.so_far < length a.scratch.now) × (a.l.lead + a.so_far < length a.scratch.now)) = let a = c.args in
-      store_room a.l a.scratch.now a.pos.now a.c a.j a.p0 a.p1 a.so_far a.w c.requires.0 (get_or a.pos.now (a.w / 32768) 0) ((let by : (let a = c.args in InRun a.l (take a.l.slots a.scratch.now) a.c (get_or a.pos.now (a.w / 32768) 0)) = record { from = omega (arith, c.if-q-p0.false, c.requires.0.from); to = omega (arith, c.if-p1-q.false, c.requires.0.to) } in by)) c.if-scratch-l-ne0.false refl ((let by : (let a = c.args in name_in a.l (take a.l.slots a.scratch.now) (get_or a.pos.now (a.w / 32768) 0) ≡ a.w / 32768) = sym ((let by : (let a = c.args in let q = get_or a.pos.now (a.w / 32768) 0 in (a.l.name + q < length a.scratch.now) × (a.l.seen + q < length a.scratch.now) × (q < 65536) × (get_or a.scratch.now (a.l.name + q) 0 ≡ name_in a.l (take a.l.slots a.scratch.now) q)) = let a = c.args in
-      let q = get_or a.pos.now (a.w / 32768) 0 in
-      let x = c.requires.0 in
-      let inside = run_inside a.l a.scratch.now a.pos.now a.c a.j a.p0 a.p1 a.so_far a.w x q ((let by : (let a = c.args in InRun a.l (take a.l.slots a.scratch.now) a.c (get_or a.pos.now (a.w / 32768) 0)) = record { from = omega (arith, c.if-q-p0.false, c.requires.0.from); to = omega (arith, c.if-p1-q.false, c.requires.0.to) } in by)) in
-      let e = edge_places a.l a.scratch.now x.ready q inside in
-      (omega (arith, e.1, e.2), e.3, e.4, name_read a.l a.scratch.now x.ready q inside) in by)).3 ∙ c.if-scratch-l.false in by)) in by)).2,
-  ((let by : (let a = c.args in (length a.scratch.now < 18446744073709551616) × (length a.scratch.now * 4 < 9223372036854775808)) = let g = c.well_formed.1.0 in (g.0, g.1) in by)).0,
-)
+overflow_add-result c = omega (arith, room (goal.at.overflow_add-result c).Else-scratch-l-ne0)
 
 pub returns : goal.returns
 returns c =
     let a = c.args in
     let q = get_or a.pos.now (a.w / 32768) 0 in
-    found a.l a.scratch.now a.pos.now a.c a.j a.p0 a.p1 a.so_far a.w c.requires.0 q ((let by : (let a = c.args in InRun a.l (take a.l.slots a.scratch.now) a.c (get_or a.pos.now (a.w / 32768) 0)) = record { from = omega (arith, c.if-q-p0.false, c.requires.0.from); to = omega (arith, c.if-p1-q.false, c.requires.0.to) } in by)) c.if-scratch-l-ne0.false refl ((let by : (let a = c.args in name_in a.l (take a.l.slots a.scratch.now) (get_or a.pos.now (a.w / 32768) 0) ≡ a.w / 32768) = sym ((let by : (let a = c.args in let q = get_or a.pos.now (a.w / 32768) 0 in (a.l.name + q < length a.scratch.now) × (a.l.seen + q < length a.scratch.now) × (q < 65536) × (get_or a.scratch.now (a.l.name + q) 0 ≡ name_in a.l (take a.l.slots a.scratch.now) q)) = let a = c.args in
-    let q = get_or a.pos.now (a.w / 32768) 0 in
-    let x = c.requires.0 in
-    let inside = run_inside a.l a.scratch.now a.pos.now a.c a.j a.p0 a.p1 a.so_far a.w x q ((let by : (let a = c.args in InRun a.l (take a.l.slots a.scratch.now) a.c (get_or a.pos.now (a.w / 32768) 0)) = record { from = omega (arith, c.if-q-p0.false, c.requires.0.from); to = omega (arith, c.if-p1-q.false, c.requires.0.to) } in by)) in
-    let e = edge_places a.l a.scratch.now x.ready q inside in
-    (omega (arith, e.1, e.2), e.3, e.4, name_read a.l a.scratch.now x.ready q inside) in by)).3 ∙ c.if-scratch-l.false in by))
-    c.child_place-place.result (λ D L G x. c.child_place-place.ensures ∙ c.requires.1.leads q ((let by : (let a = c.args in InRun a.l (take a.l.slots a.scratch.now) a.c (get_or a.pos.now (a.w / 32768) 0)) = record { from = omega (arith, c.if-q-p0.false, c.requires.0.from); to = omega (arith, c.if-p1-q.false, c.requires.0.to) } in by)) c.if-scratch-l-ne0.false ((let by : (let a = c.args in name_in a.l (take a.l.slots a.scratch.now) (get_or a.pos.now (a.w / 32768) 0) ≡ a.w / 32768) = sym ((let by : (let a = c.args in let q = get_or a.pos.now (a.w / 32768) 0 in (a.l.name + q < length a.scratch.now) × (a.l.seen + q < length a.scratch.now) × (q < 65536) × (get_or a.scratch.now (a.l.name + q) 0 ≡ name_in a.l (take a.l.slots a.scratch.now) q)) = let a = c.args in
-    let q = get_or a.pos.now (a.w / 32768) 0 in
-    let x = c.requires.0 in
-    let inside = run_inside a.l a.scratch.now a.pos.now a.c a.j a.p0 a.p1 a.so_far a.w x q ((let by : (let a = c.args in InRun a.l (take a.l.slots a.scratch.now) a.c (get_or a.pos.now (a.w / 32768) 0)) = record { from = omega (arith, c.if-q-p0.false, c.requires.0.from); to = omega (arith, c.if-p1-q.false, c.requires.0.to) } in by)) in
-    let e = edge_places a.l a.scratch.now x.ready q inside in
-    (omega (arith, e.1, e.2), e.3, e.4, name_read a.l a.scratch.now x.ready q inside) in by)).3 ∙ c.if-scratch-l.false in by)) D L G x)
+    let run = within (goal.at.returns c).Else-p1-q in
+    let name = sym (name_there a.l a.scratch.now a.pos.now a.c a.j a.p0 a.p1 a.so_far a.w c.requires.0 q run) ∙ c.if-scratch-l.false in
+    let unseen = c.if-scratch-l-ne0.false in
+    found a.l a.scratch.now a.pos.now a.c a.j a.p0 a.p1 a.so_far a.w c.requires.0 q run unseen refl name
+    c.child_place-place.result (λ D L G x. c.child_place-place.ensures ∙ c.requires.1.leads q run unseen name D L G x)

@@ -7,16 +7,6 @@ use Rattle.removal.specs.Rows.{run_from}
 use Rattle.removal.proofs.Reaching.RowLaws.{read}
 use Rattle.removal.proofs.rows.run_from.Goals as goal
 
-pub returns-then-c-eq0 : goal.returns-then-c-eq0
-returns-then-c-eq0 c =
-    let a = c.args in
-    ap (λ (i : ℕ). run_from a.l (take a.l.slots a.scratch.now) i) (sym c.if-c-eq0.true)
-
-pub overflow_cast-result : goal.overflow_cast-result
-overflow_cast-result c =
-    let a = c.args in
-    omega (arith, c.shared_slice_known-1.given (a.l.into + (a.c - 1)))
-
 pub returns : goal.returns
 returns c =
     let a = c.args in
