@@ -109,12 +109,10 @@ fn write_full(
         room_from.new room_to.new room_via.new
         (k + length (row_edges l scratch.now number (upto (p1 - p0) p0))) }
 {
-    let mut at = k;
-    for q in p0..p1 {
-        room_from[at] = scratch[l.comes + q] - 2;
-        room_to[at] = number;
-        room_via[at] = scratch[l.name + q];
-        at += 1;
+    for i in 0..p1 - p0 {
+        room_from[k + i] = scratch[l.comes + p0 + i] - 2;
+        room_to[k + i] = number;
+        room_via[k + i] = scratch[l.name + p0 + i];
     }
 }
 

@@ -99,10 +99,8 @@ pub(crate) fn show_slot(
     ensures { SlotShown l scratch.old scratch.new c j counts.copies counts.edges result.copies result.edges
         × WorkKept l scratch.old scratch.new }
 {
-    if edges == 0 {
-        if p0 < p1 {
-            return counts;
-        }
+    if edges == 0 && p0 < p1 {
+        return counts;
     }
     let at = scratch[l.base + c] as usize + j;
     scratch[at] = (counts.copies + 2) as u32;
@@ -186,9 +184,7 @@ pub(crate) fn reset_flags(l: Layout, scratch: &mut [u32])
     ensures { FlagsReset l scratch.old scratch.new }
 {
     let end = scratch[l.base + l.copies] as usize;
-    for i in l.slots..end {
-        if 1 < scratch[i] {
-            scratch[i] = 1;
-        }
+    for flag in scratch[l.slots..end].iter_mut() {
+        *flag = (*flag).min(1);
     }
 }

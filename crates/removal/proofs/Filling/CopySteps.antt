@@ -18,7 +18,7 @@ use Rattle.removal.specs.Result.{Slot, slot_endpoint, slot_edges, shown_in, show
 use Rattle.removal.specs.Show.{from_shown, reached_by, finally, edges_before, Passed, EdgesMeet, AllShown}
 use Rattle.removal.specs.Fill.{put, shown_flag, comes_at, RowRoom, RowWritten, default_from, Filled, slots_to, slots_below, one_slot, Filling, RowHeld, RowsFlagged, Fits, Fillable, ResultFilled}
 use Rattle.removal.proofs.Reaching.SlotLaws.{setting_of}
-use Rattle.removal.proofs.Reaching.RowLaws.{base_next, base_up, read, words, base_read, count_read}
+use Rattle.removal.proofs.Reaching.RowLaws.{base_next, read, count_read}
 use Rattle.removal.proofs.Reaching.TargetLaws.{edge_inside, target_below}
 use Rattle.removal.proofs.Showing.ResultLaws.{shown_nodes, shown_endpoints, shown_edges_lem}
 use Rattle.removal.proofs.Showing.GrowLaws.{shown_next, shown_next_copy}

@@ -6,7 +6,7 @@ use mathlib.Core.Logic.{⊎_elim}
 use mathlib.Core.List.{List, ◌∷◌}
 use lib.ListN.{length, get_or, take, set}
 use Rattle.removal.specs.declared.rows.Layout.{Layout}
-use Rattle.removal.specs.Slots.{slots, slot_base, slot_marks}
+use Rattle.removal.specs.Slots.{slots, slot_marks}
 use Rattle.removal.specs.Rows.{slots_in, Tabled, Ready, Idle, InRun, run_from, run_to, name_in, start_in, default_in, slot_place, flag_in, target}
 use Rattle.removal.specs.Reach.{LiveIs}
 use Rattle.removal.specs.Patches.{Patched, patch_at, lead_at}
@@ -15,7 +15,7 @@ use Rattle.removal.specs.Show.{shown_by, edges_to, EdgesMeet, RowLent, RowMet, S
 use Rattle.removal.specs.Fill.{shown_flag, comes_at, EdgesRoom, EdgesFilled, Filled, one_slot, Filling, RowHeld, RowKept}
 use Rattle.removal.proofs.Reaching.RowLaws.{slot_inside, slots_apart, place_inside, ready_same}
 use Rattle.removal.proofs.Reaching.TargetLaws.{dead_low, start_low, target_cases, target_below}
-use Rattle.removal.proofs.Showing.ShowSteps.{not_reached, flags_alike, meets_same, meets_alike, slot_after}
+use Rattle.removal.proofs.Showing.ShowSteps.{not_reached, meets_same, slot_after}
 use Rattle.removal.proofs.Showing.RowSteps.{flag_read, row_room}
 use Rattle.removal.proofs.Filling.EdgeLaws.{row_laid}
 use Rattle.removal.proofs.Filling.StepLaws.{slot_off, slot_fits, slot_on}

@@ -8,7 +8,7 @@ use lib.ListN.{length, get_or, take}
 use Rattle.removal.specs.declared.rows.Layout.{Layout}
 use Rattle.removal.specs.Slots.{slots, slot_base}
 use Rattle.removal.specs.Rows.{slots_in, Ready, Idle, slot_place, flag_in, run_from, run_to}
-use Rattle.removal.specs.Patches.{NamesIn, Noted, Rowed, Patched, Collected}
+use Rattle.removal.specs.Patches.{NamesIn, Noted, Patched, Collected}
 use Rattle.removal.specs.Show.{EdgesMeet, RowLent, PatchedRow, RowMet, SlotRoom, SlotShown, WorkKept, RowShown, PassedTo}
 use Rattle.removal.proofs.Reaching.RowLaws.{read, base_read, count_read, place_inside, ready_same, names_same}
 use Rattle.removal.proofs.Showing.ShowTables.{seen_inside}
@@ -40,7 +40,28 @@ module _ {l : Layout} {s pos : List ℕ} {c j p0 p1 defaults : ℕ} (a : RowLent
   pub flag_read : get_or s (get_or s (l.base + c) 0 + j) 0 ≡ flag_in l s c j
   flag_read = ap (λ (i : ℕ). get_or s i 0) flag_place
 
-  -- its patches are collected, and then its edges are counted
+  -- the row of the empty mark has no patches
+  pub row_empty : j ≡ 0 → RowMet l s s c j 0 defaults
+  row_empty z =
+      subst (λ (i : ℕ). RowMet l s s c i 0 defaults) (sym z)
+      (record {
+        collected = record {
+          size = refl;
+          below = λ i h. refl;
+          above = λ i h. refl;
+          tables = refl;
+          patched = record {
+            few = omega arith;
+            edges = λ i h. absurd (omega arith);
+            apart = λ i h m n. absurd (omega arith);
+            leads = λ D L G t i h. absurd (omega arith);
+            rest = λ D L G t q h none. t.defaults c a.copy q h;
+          };
+        };
+        meets = a.meets;
+      })
+
+  -- those of any other are collected, and then its edges are counted
   module _ {t : List ℕ} {k : ℕ} (x : Collected l s t c j k) where
     pub row_patched : PatchedRow l t c j k defaults
     row_patched =

@@ -126,7 +126,7 @@ module _ {l : Layout} {s : List ℕ} {c j p0 p1 copies edges : ℕ} (room : Slot
       rule_cut (reached_by (flag_in l s) c j) (starts_at G c) (edges_to G L (slot_marks D L G) (bounds_of l s) (shown_by (flag_in l s)) c j)
       (starts_not D L G l (take l.slots s) t c room.copy (omega (arith, room.from, room.to))) (sym (m.counts D L G t) ∙ z))
 
-  is_shown : (n : ℕ) → EdgesMeet l s c j n → ((n ≡ 0 → ⊥) ⊎ (p1 ≤ p0))
+  is_shown : (n : ℕ) → EdgesMeet l s c j n → ((n ≡ 0) × (p1 ≤ p0)) ⊎ (n ≡ 0 → ⊥)
       → SlotShown l s (set s (slot_place l (take l.slots s) c j) (copies + 2)) c j copies edges (copies + 1) (edges + n)
   unfolding shows
   is_shown n m g =
@@ -141,11 +141,11 @@ module _ {l : Layout} {s : List ℕ} {c j p0 p1 copies edges : ℕ} (room : Slot
         meets = λ D L G t.
             rule_on G L (slot_marks D L G) B (flag_in l s) c j copies edges (get_or (set s p (copies + 2)) p 0) (copies + 1) (edges + n) n
             (⊎_elim
+            (λ (q : (n ≡ 0) × (p1 ≤ p0)).
+            rule_starts (flag_in l s c j) (edges_to G L (slot_marks D L G) B (shown_by (flag_in l s)) c j) (starts_at G c) room.reached
+            (starts_here D L G l (take l.slots s) t c room.copy (omega (arith, q.1, room.from, room.to))))
             (λ (q : n ≡ 0 → ⊥).
             rule_edges (flag_in l s c j) (edges_to G L (slot_marks D L G) B (shown_by (flag_in l s)) c j) (starts_at G c) room.reached (λ z. q (m.counts D L G t ∙ z)))
-            (λ (q : p1 ≤ p0).
-            rule_starts (flag_in l s c j) (edges_to G L (slot_marks D L G) B (shown_by (flag_in l s)) c j) (starts_at G c) room.reached
-            (starts_here D L G l (take l.slots s) t c room.copy (omega (arith, room.from, room.to))))
             g)
             (get_or-set_same s p (copies + 2) 0 slot_word) refl refl (m.counts D L G t);
       }
@@ -154,7 +154,7 @@ module _ {l : Layout} {s : List ℕ} {c j p0 p1 copies edges : ℕ} (room : Slot
   work_kept v i h = get_or-set_other s (slot_place l (take l.slots s) c j) i v 0 (λ e. omega (arith, slot_place_lem))
 
   -- the base of the copy tells where the slot's flag stands
-  pub flag_set : {n : ℕ} → EdgesMeet l s c j n → ((n ≡ 0 → ⊥) ⊎ (p1 ≤ p0))
+  pub flag_set : {n : ℕ} → EdgesMeet l s c j n → ((n ≡ 0) × (p1 ≤ p0)) ⊎ (n ≡ 0 → ⊥)
       → SlotShown l s (set s (get_or s (l.base + c) 0 + j) (copies + 2)) c j copies edges (copies + 1) (edges + n)
       × WorkKept l s (set s (get_or s (l.base + c) 0 + j) (copies + 2))
   flag_set {n} m g =
