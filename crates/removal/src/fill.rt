@@ -28,12 +28,9 @@ fn load_row(l: Layout, scratch: &mut [u32], p0: usize, p1: usize)
     ensures { RowWritten l scratch.old scratch.new (p1 - p0)
         (λ i. p0 + i) (default_from l scratch.old p0) }
 {
-    let mut q = p0;
-    while q < p1 {
+    for q in p0..p1 {
         let place = scratch[l.default + q] as usize;
-        let v = shown_flag(scratch, place);
-        scratch[l.comes + q] = v;
-        q += 1;
+        scratch[l.comes + q] = shown_flag(scratch, place);
     }
 }
 
@@ -43,13 +40,10 @@ fn patch_row(l: Layout, scratch: &mut [u32], k: usize)
     ensures { RowWritten l scratch.old scratch.new k
         (patch_at l scratch.old) (lead_at l scratch.old) }
 {
-    let mut i = 0;
-    while i < k {
+    for i in 0..k {
         let q = scratch[l.patch + i] as usize;
         let place = scratch[l.lead + i] as usize;
-        let v = shown_flag(scratch, place);
-        scratch[l.comes + q] = v;
-        i += 1;
+        scratch[l.comes + q] = shown_flag(scratch, place);
     }
 }
 
@@ -59,13 +53,10 @@ fn unpatch_row(l: Layout, scratch: &mut [u32], k: usize)
     ensures { RowWritten l scratch.old scratch.new k
         (patch_at l scratch.old) (default_at l scratch.old) }
 {
-    let mut i = 0;
-    while i < k {
+    for i in 0..k {
         let q = scratch[l.patch + i] as usize;
         let place = scratch[l.default + q] as usize;
-        let v = shown_flag(scratch, place);
-        scratch[l.comes + q] = v;
-        i += 1;
+        scratch[l.comes + q] = shown_flag(scratch, place);
     }
 }
 
@@ -88,8 +79,7 @@ fn write_row(
         (k + length (row_edges l scratch.now number (upto (p1 - p0) p0))) }
 {
     let mut at = k;
-    let mut q = p0;
-    while q < p1 {
+    for q in p0..p1 {
         let v = scratch[l.comes + q];
         if v != 0 {
             room_from[at] = v - 2;
@@ -97,7 +87,6 @@ fn write_row(
             room_via[at] = scratch[l.name + q];
             at += 1;
         }
-        q += 1;
     }
 }
 
@@ -120,14 +109,10 @@ fn write_full(
         room_from.new room_to.new room_via.new
         (k + length (row_edges l scratch.now number (upto (p1 - p0) p0))) }
 {
-    let mut at = k;
-    let mut q = p0;
-    while q < p1 {
-        room_from[at] = scratch[l.comes + q] - 2;
-        room_to[at] = number;
-        room_via[at] = scratch[l.name + q];
-        at += 1;
-        q += 1;
+    for i in 0..p1 - p0 {
+        room_from[k + i] = scratch[l.comes + p0 + i] - 2;
+        room_to[k + i] = number;
+        room_via[k + i] = scratch[l.name + p0 + i];
     }
 }
 
@@ -291,8 +276,7 @@ fn fill_copy(
     let defaults = shown_defaults(l, scratch, c, p0, p1);
     load_row(l, scratch, p0, p1);
     let mut so_far = counts;
-    let mut j = 0;
-    while j < count {
+    for j in 0..count {
         so_far = fill_slot(
             l,
             nodes,
@@ -311,7 +295,6 @@ fn fill_copy(
             room_via,
             so_far,
         );
-        j += 1;
     }
     so_far
 }
@@ -342,8 +325,7 @@ pub(crate) fn fill_all(
         copies: 0,
         edges: 0,
     };
-    let mut c = 0;
-    while c < l.copies {
+    for c in 0..l.copies {
         counts = fill_copy(
             l,
             nodes,
@@ -358,7 +340,6 @@ pub(crate) fn fill_all(
             room_via,
             counts,
         );
-        c += 1;
     }
     counts
 }

@@ -31,11 +31,9 @@ pub(crate) fn shown_defaults(l: Layout, scratch: &[u32], c: usize, p0: usize, p1
     ensures { EdgesMeet l scratch.now c 0 result }
 {
     let mut count = 0;
-    let mut q = p0;
-    while q < p1 {
+    for q in p0..p1 {
         let place = scratch[l.default + q] as usize;
         count += shown(scratch, place);
-        q += 1;
     }
     count
 }
@@ -46,13 +44,11 @@ fn patched_edges(l: Layout, scratch: &[u32], c: usize, j: usize, k: usize, defau
     ensures { EdgesMeet l scratch.now c j result }
 {
     let mut count = defaults;
-    let mut i = 0;
-    while i < k {
+    for i in 0..k {
         let q = scratch[l.patch + i] as usize;
         let default = scratch[l.default + q] as usize;
         let place = scratch[l.lead + i] as usize;
         count = count + shown(scratch, place) - shown(scratch, default);
-        i += 1;
     }
     count
 }
@@ -103,10 +99,8 @@ pub(crate) fn show_slot(
     ensures { SlotShown l scratch.old scratch.new c j counts.copies counts.edges result.copies result.edges
         × WorkKept l scratch.old scratch.new }
 {
-    if edges == 0 {
-        if p0 < p1 {
-            return counts;
-        }
+    if edges == 0 && p0 < p1 {
+        return counts;
     }
     let at = scratch[l.base + c] as usize + j;
     scratch[at] = (counts.copies + 2) as u32;
@@ -161,10 +155,8 @@ fn show_copy(l: Layout, scratch: &mut [u32], pos: &mut [u16], c: usize, counts: 
     }
     let defaults = shown_defaults(l, scratch, c, p0, p1);
     let mut so_far = counts;
-    let mut j = 0;
-    while j < count {
+    for j in 0..count {
         so_far = show_row(l, scratch, pos, c, j, p0, p1, defaults, so_far);
-        j += 1;
     }
     so_far
 }
@@ -180,10 +172,8 @@ pub(crate) fn show_all(l: Layout, scratch: &mut [u32], pos: &mut [u16]) -> Count
         copies: 0,
         edges: 0,
     };
-    let mut c = 0;
-    while c < l.copies {
+    for c in 0..l.copies {
         counts = show_copy(l, scratch, pos, c, counts);
-        c += 1;
     }
     counts
 }
@@ -194,11 +184,7 @@ pub(crate) fn reset_flags(l: Layout, scratch: &mut [u32])
     ensures { FlagsReset l scratch.old scratch.new }
 {
     let end = scratch[l.base + l.copies] as usize;
-    let mut i = l.slots;
-    while i < end {
-        if 1 < scratch[i] {
-            scratch[i] = 1;
-        }
-        i += 1;
+    for flag in scratch[l.slots..end].iter_mut() {
+        *flag = (*flag).min(1);
     }
 }

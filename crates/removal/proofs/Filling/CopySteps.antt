@@ -18,7 +18,7 @@ use Rattle.removal.specs.Result.{Slot, slot_endpoint, slot_edges, shown_in, show
 use Rattle.removal.specs.Show.{from_shown, reached_by, finally, edges_before, Passed, EdgesMeet, AllShown}
 use Rattle.removal.specs.Fill.{put, shown_flag, comes_at, RowRoom, RowWritten, default_from, Filled, slots_to, slots_below, one_slot, Filling, RowHeld, RowsFlagged, Fits, Fillable, ResultFilled}
 use Rattle.removal.proofs.Reaching.SlotLaws.{setting_of}
-use Rattle.removal.proofs.Reaching.RowLaws.{base_next, base_up, read, words, base_read, count_read}
+use Rattle.removal.proofs.Reaching.RowLaws.{base_next, read, count_read}
 use Rattle.removal.proofs.Reaching.TargetLaws.{edge_inside, target_below}
 use Rattle.removal.proofs.Showing.ResultLaws.{shown_nodes, shown_endpoints, shown_edges_lem}
 use Rattle.removal.proofs.Showing.GrowLaws.{shown_next, shown_next_copy}
@@ -28,24 +28,21 @@ use Rattle.removal.proofs.Filling.RoomLaws.{put_placed}
 use Rattle.removal.proofs.Filling.EdgeLaws.{row_laid}
 use Rattle.removal.proofs.Filling.StepLaws.{filled_as, filled_then, filled_start, filled_alike, filling_next}
 
--- where a copy has more slots than one it is noted where names stand
-abbrev pub NotedSome : Layout → List ℕ → List ℕ → List ℕ → ℕ → Type 0
-NotedSome l s pos₀ pos c = (length pos ≡ length pos₀) × (1 < slots (slots_in l (take l.slots s)) c → Noted l s pos c)
+-- the number of names does not tell one list of places from another
+filling_names : (l : Layout) (nodes endpoint s : List ℕ) (n m : ℕ) (room-nodes room-endpoint room-from room-to room-via : List ℕ) (c j copies edges : ℕ) → m ≡ n
+    → Filling l nodes endpoint s n room-nodes room-endpoint room-from room-to room-via c j copies edges → Filling l nodes endpoint s m room-nodes room-endpoint room-from room-to room-via c j copies edges
+filling_names l nodes endpoint s n m room-nodes room-endpoint room-from room-to room-via c j copies edges e z =
+    subst (λ (k : ℕ). Filling l nodes endpoint s k room-nodes room-endpoint room-from room-to room-via c j copies edges) (sym e) z
 
 -- what is read of a copy
-module _ (l : Layout) (s : List ℕ) (r : Ready l s) (c : ℕ) (copy : c < l.copies) where
+module _ {l : Layout} {s : List ℕ} (r : Ready l s) {c : ℕ} (copy : c < l.copies) where
   abbrev p : List ℕ
   p = take l.slots s
 
-  pub into_read : (l.into + c < length s) × (get_or s (l.into + c) 0 ≡ run_to l (take l.slots s) c)
+  pub into_read : get_or s (l.into + c) 0 ≡ run_to l (take l.slots s) c
   into_read =
       let d = r.tabled.laid in
-      (omega (arith, d.into, d.start, d.name, d.default, words l s r), read l s r (l.into + c) (omega (arith, d.into, d.start, d.name, d.default)))
-
-  pub bases_inside : (l.base + c < length s) × (l.base + c + 1 < length s)
-  bases_inside =
-      let d = r.tabled.laid in
-      (omega (arith, d.base, d.into, d.start, d.name, d.default, words l s r), omega (arith, d.base, d.into, d.start, d.name, d.default, words l s r))
+      read l s r (l.into + c) (omega (arith, d.into, d.start, d.name, d.default))
 
   next_read : get_or s (l.base + c + 1) 0 ≡ get_or s (l.base + c) 0 + slots (slots_in l (take l.slots s)) c
   next_read =
@@ -58,16 +55,7 @@ module _ (l : Layout) (s : List ℕ) (r : Ready l s) (c : ℕ) (copy : c < l.cop
   pub count_is : get_or s (l.base + c + 1) 0 - get_or s (l.base + c) 0 ≡ slots (slots_in l (take l.slots s)) c
   count_is = omega (arith, next_read)
 
-  pub bases_few : (get_or s (l.base + c) 0 < 4294967296) × (get_or s (l.base + c + 1) 0 < 4294967296)
-  bases_few =
-      let a = base_read l s r c (omega arith) in
-      let b = base_up (slots_in l (take l.slots s)) c l.copies copy in
-      (omega (arith, a, b, r.few), omega (arith, next_read, a, b, r.few))
-
-  pub slot_here : (t : List ℕ) (j : ℕ) → take l.slots t ≡ take l.slots s → j < get_or s (l.base + c + 1) 0 - get_or s (l.base + c) 0 → j < slots (slots_in l (take l.slots t)) c
-  slot_here t j q h = subst (λ (w : List ℕ). j < slots (slots_in l w) c) (sym q) (omega (arith, count_is))
-
-  module _ (p0 p1 : ℕ) (from : p0 ≡ run_from l (take l.slots s) c) (to : p1 ≡ run_to l (take l.slots s) c) where
+  module _ {p0 p1 : ℕ} (from : p0 ≡ run_from l (take l.slots s) c) (to : p1 ≡ run_to l (take l.slots s) c) where
     in_run : (i : ℕ) → i < p1 - p0 → InRun l (take l.slots s) c (p0 + i)
     in_run i h = record { from = omega arith; to = omega arith }
 
@@ -98,14 +86,14 @@ module _ (l : Layout) (s : List ℕ) (r : Ready l s) (c : ℕ) (copy : c < l.cop
           omega (arith, r.tabled.up c copy),
         )
 
-    module _ (t : List ℕ) (y : RowWritten l s t (p1 - p0) (λ i. p0 + i) (default_from l s p0)) where
+    module _ {t : List ℕ} (y : RowWritten l s t (p1 - p0) (λ i. p0 + i) (default_from l s p0)) where
       low : (i : ℕ) → i < l.seen → get_or t i 0 ≡ get_or s i 0
       low i h = y.below i (omega (arith, (row_laid l s r).1))
 
-      pub load_held : (pos₀ pos : List ℕ) (defaults : ℕ) → NotedSome l s pos₀ pos c → EdgesMeet l s c 0 defaults → RowHeld l t pos c p0 p1 defaults
-      load_held pos₀ pos defaults n m =
+      pub load_held : {pos : List ℕ} {defaults : ℕ} → (1 < slots (slots_in l (take l.slots s)) c → Noted l s pos c) → EdgesMeet l s c 0 defaults → RowHeld l t pos c p0 p1 defaults
+      load_held {pos} {defaults} n m =
           record {
-            noted = subst (λ (w : List ℕ). 1 < slots (slots_in l w) c → (e : ℕ) → InRun l w c e → get_or pos (name_in l w e) 0 ≡ e) (sym y.tables) n.1;
+            noted = subst (λ (w : List ℕ). 1 < slots (slots_in l w) c → (e : ℕ) → InRun l w c e → get_or pos (name_in l w e) 0 ≡ e) (sym y.tables) n;
             copy = copy;
             from = from ∙ ap (λ (w : List ℕ). run_from l w c) (sym y.tables);
             to = to ∙ ap (λ (w : List ℕ). run_to l w c) (sym y.tables);
@@ -120,33 +108,35 @@ module _ (l : Layout) (s : List ℕ) (r : Ready l s) (c : ℕ) (copy : c < l.cop
                 ∙ ap shown_flag (sym (low (default_in l p q) (omega (arith, e, default_low i b)))));
           }
 
-      pub load_filled : (nodes endpoint : List ℕ) (names-below : ℕ) (room-nodes room-endpoint room-from room-to room-via : List ℕ) (j copies edges : ℕ)
+      pub load_filled : {nodes endpoint : List ℕ} {names-below : ℕ} {room-nodes room-endpoint room-from room-to room-via : List ℕ} {j copies edges : ℕ}
           → Filling l nodes endpoint s names-below room-nodes room-endpoint room-from room-to room-via c j copies edges
           → Filled l nodes endpoint s t c j copies edges c j copies edges (λ shown. []) room-nodes room-endpoint room-from room-to room-via room-nodes room-endpoint room-from room-to room-via
-      load_filled nodes endpoint names-below room-nodes room-endpoint room-from room-to room-via j copies edges z =
+      load_filled {nodes} {endpoint} {names-below} {room-nodes} {room-endpoint} {room-from} {room-to} {room-via} {j} {copies} {edges} z =
           filled_alike l nodes endpoint s names-below room-nodes room-endpoint room-from room-to room-via c j copies edges z t copy y.size y.tables low
           (λ q h. y.below (l.seen + q) (omega (arith, r.work.seen, r.work.cover, r.work.patch, r.work.lead)) ∙ z.idle q h)
 
--- the number of names does not tell one list of places from another
-pub filling_names : (l : Layout) (nodes endpoint s : List ℕ) (n m : ℕ) (room-nodes room-endpoint room-from room-to room-via : List ℕ) (c j copies edges : ℕ) → m ≡ n
-    → Filling l nodes endpoint s n room-nodes room-endpoint room-from room-to room-via c j copies edges → Filling l nodes endpoint s m room-nodes room-endpoint room-from room-to room-via c j copies edges
-filling_names l nodes endpoint s n m room-nodes room-endpoint room-from room-to room-via c j copies edges e z =
-    subst (λ (k : ℕ). Filling l nodes endpoint s k room-nodes room-endpoint room-from room-to room-via c j copies edges) (sym e) z
+      pub load_filling : {nodes endpoint : List ℕ} {n m : ℕ} {room-nodes room-endpoint room-from room-to room-via : List ℕ} {j copies edges : ℕ} → m ≡ n
+          → Filling l nodes endpoint s n room-nodes room-endpoint room-from room-to room-via c j copies edges
+          → Filling l nodes endpoint t m room-nodes room-endpoint room-from room-to room-via c j copies edges
+      load_filling {nodes} {endpoint} {n} {m} {room-nodes} {room-endpoint} {room-from} {room-to} {room-via} {j} {copies} {edges} e z =
+          filling_names l nodes endpoint t n m room-nodes room-endpoint room-from room-to room-via c j copies edges e
+          (filling_next l nodes endpoint s t c j copies edges c j copies edges (λ shown. []) room-nodes room-endpoint room-from room-to room-via room-nodes room-endpoint room-from room-to room-via
+          (load_filled z) n z)
 
 -- slot by slot
-module _ (l : Layout) (nodes endpoint s : List ℕ) (c copies edges : ℕ) (room-nodes₀ room-endpoint₀ room-from₀ room-to₀ room-via₀ : List ℕ) where
-  pub copy_start : (names-below : ℕ) → Filling l nodes endpoint s names-below room-nodes₀ room-endpoint₀ room-from₀ room-to₀ room-via₀ c 0 copies edges
+module _ {l : Layout} {nodes endpoint s : List ℕ} {c copies edges : ℕ} {room-nodes₀ room-endpoint₀ room-from₀ room-to₀ room-via₀ : List ℕ} where
+  pub copy_start : {names-below : ℕ} → Filling l nodes endpoint s names-below room-nodes₀ room-endpoint₀ room-from₀ room-to₀ room-via₀ c 0 copies edges
       → Filled l nodes endpoint s s c 0 copies edges c 0 copies edges (slots_to c 0) room-nodes₀ room-endpoint₀ room-from₀ room-to₀ room-via₀ room-nodes₀ room-endpoint₀ room-from₀ room-to₀ room-via₀
-  copy_start names-below z =
+  copy_start {names-below} z =
       filled_as l nodes endpoint s s c 0 copies edges c 0 copies edges (λ shown. []) room-nodes₀ room-endpoint₀ room-from₀ room-to₀ room-via₀ room-nodes₀ room-endpoint₀ room-from₀ room-to₀ room-via₀
       (filled_start l nodes endpoint s names-below room-nodes₀ room-endpoint₀ room-from₀ room-to₀ room-via₀ c 0 copies edges z) (slots_to c 0) (λ shown. refl)
 
-  module _ (t : List ℕ) (j more links : ℕ) (room-nodes room-endpoint room-from room-to room-via : List ℕ)
+  module _ {t : List ℕ} {j more links : ℕ} {room-nodes room-endpoint room-from room-to room-via : List ℕ}
       (x : Filled l nodes endpoint s t c 0 copies edges c j more links (slots_to c j) room-nodes₀ room-endpoint₀ room-from₀ room-to₀ room-via₀ room-nodes room-endpoint room-from room-to room-via) where
-    pub copy_turn : (u : List ℕ) (most all : ℕ) (room-nodes' room-endpoint' room-from' room-to' room-via' : List ℕ)
+    pub copy_turn : {u : List ℕ} {most all : ℕ} {room-nodes' room-endpoint' room-from' room-to' room-via' : List ℕ}
         → Filled l nodes endpoint t u c j more links c (j + 1) most all (one_slot c j) room-nodes room-endpoint room-from room-to room-via room-nodes' room-endpoint' room-from' room-to' room-via'
         → Filled l nodes endpoint s u c 0 copies edges c (j + 1) most all (slots_to c (j + 1)) room-nodes₀ room-endpoint₀ room-from₀ room-to₀ room-via₀ room-nodes' room-endpoint' room-from' room-to' room-via'
-    copy_turn u most all room-nodes' room-endpoint' room-from' room-to' room-via' y =
+    copy_turn {u} {most} {all} {room-nodes'} {room-endpoint'} {room-from'} {room-to'} {room-via'} y =
         let n : suc j ≡ j + 1 = omega arith in
         filled_as l nodes endpoint s u c 0 copies edges c (j + 1) most all (λ shown. slots_to c j shown ++ one_slot c j shown) room-nodes₀ room-endpoint₀ room-from₀ room-to₀ room-via₀ room-nodes' room-endpoint' room-from' room-to' room-via'
         (filled_then l nodes endpoint s t c 0 copies edges c j more links (slots_to c j) room-nodes₀ room-endpoint₀ room-from₀ room-to₀ room-via₀ room-nodes room-endpoint room-from room-to room-via x
@@ -154,7 +144,7 @@ module _ (l : Layout) (nodes endpoint s : List ℕ) (c copies edges : ℕ) (room
         (slots_to c (j + 1)) (λ shown. sym (shown_next (slots_in l (take l.slots s)) shown c j) ∙ ap (shown_in shown c) n)
 
     -- the whole copy
-    pub copy_done : j ≡ slots (slots_in l (take l.slots s)) c
+    copy_done : j ≡ slots (slots_in l (take l.slots s)) c
         → Filled l nodes endpoint s t c 0 copies edges (c + 1) 0 more links (slots_to c (slots (slots_in l (take l.slots s)) c)) room-nodes₀ room-endpoint₀ room-from₀ room-to₀ room-via₀ room-nodes room-endpoint room-from room-to room-via
     copy_done e =
         let n : suc c ≡ c + 1 = omega arith in
@@ -175,13 +165,13 @@ module _ (l : Layout) (nodes endpoint s : List ℕ) (c copies edges : ℕ) (room
         }
 
 -- after the row is at hand
-pub copy_whole : (l : Layout) (nodes endpoint s t u : List ℕ) (c copies edges j more links n : ℕ) (room-nodes₀ room-endpoint₀ room-from₀ room-to₀ room-via₀ room-nodes room-endpoint room-from room-to room-via : List ℕ)
+pub copy_whole : {l : Layout} {nodes endpoint s t u : List ℕ} {c copies edges j more links n : ℕ} {room-nodes₀ room-endpoint₀ room-from₀ room-to₀ room-via₀ room-nodes room-endpoint room-from room-to room-via : List ℕ}
     → Filled l nodes endpoint s t c 0 copies edges c 0 copies edges (λ shown. []) room-nodes₀ room-endpoint₀ room-from₀ room-to₀ room-via₀ room-nodes₀ room-endpoint₀ room-from₀ room-to₀ room-via₀
     → Filled l nodes endpoint t u c 0 copies edges c j more links (slots_to c j) room-nodes₀ room-endpoint₀ room-from₀ room-to₀ room-via₀ room-nodes room-endpoint room-from room-to room-via
     → n ≡ slots (slots_in l (take l.slots s)) c → j ≡ n
     → Filled l nodes endpoint s u c 0 copies edges (c + 1) 0 more links (slots_to c (slots (slots_in l (take l.slots s)) c)) room-nodes₀ room-endpoint₀ room-from₀ room-to₀ room-via₀ room-nodes room-endpoint room-from room-to room-via
-copy_whole l nodes endpoint s t u c copies edges j more links n room-nodes₀ room-endpoint₀ room-from₀ room-to₀ room-via₀ room-nodes room-endpoint room-from room-to room-via x y a b =
-    copy_done l nodes endpoint s c copies edges room-nodes₀ room-endpoint₀ room-from₀ room-to₀ room-via₀ u j more links room-nodes room-endpoint room-from room-to room-via
+copy_whole {l} {nodes} {endpoint} {s} {t} {u} {c} {copies} {edges} {j} {more} {links} {n} {room-nodes₀} {room-endpoint₀} {room-from₀} {room-to₀} {room-via₀} {room-nodes} {room-endpoint} {room-from} {room-to} {room-via} x y a b =
+    copy_done
     (filled_as l nodes endpoint s u c 0 copies edges c j more links (λ shown. [] ++ slots_to c j shown) room-nodes₀ room-endpoint₀ room-from₀ room-to₀ room-via₀ room-nodes room-endpoint room-from room-to room-via
     (filled_then l nodes endpoint s t c 0 copies edges c 0 copies edges (λ shown. []) room-nodes₀ room-endpoint₀ room-from₀ room-to₀ room-via₀ room-nodes₀ room-endpoint₀ room-from₀ room-to₀ room-via₀ x
     u c j more links (slots_to c j) room-nodes room-endpoint room-from room-to room-via y)
@@ -193,7 +183,7 @@ below_none : (B : ℕ → ℕ) (shown : ℕ → ℕ → Bool) → shown_below B 
 unfolding flat_map
 below_none B shown = refl
 
-module _ (l : Layout) (nodes endpoint s pos room-nodes₀ room-endpoint₀ room-from₀ room-to₀ room-via₀ : List ℕ)
+module _ {l : Layout} {nodes endpoint s pos room-nodes₀ room-endpoint₀ room-from₀ room-to₀ room-via₀ : List ℕ}
     (f : Fillable l nodes endpoint s pos room-nodes₀ room-endpoint₀ room-from₀ room-to₀ room-via₀) where
   start_passed : (D : Design) (L : PathList) (G : Graph) → Tabled D L G l (take l.slots s)
       → Passed G L (slot_marks D L G) (slots_in l (take l.slots s)) (flag_in l s) (flag_in l s) 0 0 0 0
@@ -201,7 +191,7 @@ module _ (l : Layout) (nodes endpoint s pos room-nodes₀ room-endpoint₀ room-
       pass_start D G L (slot_marks D L G) (slots_in l (take l.slots s)) (setting_of D L G l (take l.slots s) g) (flag_in l s)
       (λ d i h k. f.low d i (omega (arith, g.copies)) k)
 
-  pub all_filling : Filling l nodes endpoint s (length pos) room-nodes₀ room-endpoint₀ room-from₀ room-to₀ room-via₀ 0 0 0 0
+  all_filling : Filling l nodes endpoint s (length pos) room-nodes₀ room-endpoint₀ room-from₀ room-to₀ room-via₀ 0 0 0 0
   unfolding Fits
   all_filling =
       record {
@@ -219,7 +209,7 @@ module _ (l : Layout) (nodes endpoint s pos room-nodes₀ room-endpoint₀ room-
       }
 
   -- the slots of the copies below c are written
-  abbrev pub AllTo : List ℕ → ℕ → ℕ → ℕ → List ℕ → List ℕ → List ℕ → List ℕ → List ℕ → Type 0
+  abbrev AllTo : List ℕ → ℕ → ℕ → ℕ → List ℕ → List ℕ → List ℕ → List ℕ → List ℕ → Type 0
   AllTo t c copies edges room-nodes room-endpoint room-from room-to room-via =
       Filled l nodes endpoint s t 0 0 0 0 c 0 copies edges (slots_below l s c) room-nodes₀ room-endpoint₀ room-from₀ room-to₀ room-via₀ room-nodes room-endpoint room-from room-to room-via
 
@@ -229,16 +219,16 @@ module _ (l : Layout) (nodes endpoint s pos room-nodes₀ room-endpoint₀ room-
       (filled_start l nodes endpoint s (length pos) room-nodes₀ room-endpoint₀ room-from₀ room-to₀ room-via₀ 0 0 0 0 all_filling) (slots_below l s 0)
       (λ shown. sym (below_none (slots_in l (take l.slots s)) shown))
 
-  module _ (t : List ℕ) (c copies edges : ℕ) (room-nodes room-endpoint room-from room-to room-via : List ℕ) (x : AllTo t c copies edges room-nodes room-endpoint room-from room-to room-via) where
-    pub all_next : (n : ℕ) → n ≡ length pos → Filling l nodes endpoint t n room-nodes room-endpoint room-from room-to room-via c 0 copies edges
-    all_next n e =
+  module _ {t : List ℕ} {c copies edges : ℕ} {room-nodes room-endpoint room-from room-to room-via : List ℕ} (x : AllTo t c copies edges room-nodes room-endpoint room-from room-to room-via) where
+    pub all_next : {n : ℕ} → n ≡ length pos → Filling l nodes endpoint t n room-nodes room-endpoint room-from room-to room-via c 0 copies edges
+    all_next {n} e =
         filling_names l nodes endpoint t (length pos) n room-nodes room-endpoint room-from room-to room-via c 0 copies edges e
         (filling_next l nodes endpoint s t 0 0 0 0 c 0 copies edges (slots_below l s c) room-nodes₀ room-endpoint₀ room-from₀ room-to₀ room-via₀ room-nodes room-endpoint room-from room-to room-via x (length pos) all_filling)
 
-    pub all_turn : (u : List ℕ) (more links : ℕ) (room-nodes' room-endpoint' room-from' room-to' room-via' : List ℕ)
+    pub all_turn : {u : List ℕ} {more links : ℕ} {room-nodes' room-endpoint' room-from' room-to' room-via' : List ℕ}
         → Filled l nodes endpoint t u c 0 copies edges (c + 1) 0 more links (slots_to c (slots (slots_in l (take l.slots t)) c)) room-nodes room-endpoint room-from room-to room-via room-nodes' room-endpoint' room-from' room-to' room-via'
         → AllTo u (c + 1) more links room-nodes' room-endpoint' room-from' room-to' room-via'
-    all_turn u more links room-nodes' room-endpoint' room-from' room-to' room-via' y =
+    all_turn {u} {more} {links} {room-nodes'} {room-endpoint'} {room-from'} {room-to'} {room-via'} y =
         let n : suc c ≡ c + 1 = omega arith in
         let B = slots_in l (take l.slots s) in
         let k : ℕ = slots (slots_in l (take l.slots t)) c in
@@ -252,7 +242,7 @@ module _ (l : Layout) (nodes endpoint s pos room-nodes₀ room-endpoint₀ room-
     -- at the end the flags say what is shown, and what is written is the result
     pub all_shown : c ≡ l.copies → AllShown l s t copies edges
     all_shown e =
-        to_all l s t c copies edges e
+        to_all e
         (record { size = x.size; tables = x.tables; few_copies = x.few_copies; few_edges = x.few_edges; meets = λ D L G g first p. (x.written D L G g first p).0 })
 
     pub all_filled : c ≡ l.copies → RowsFlagged l s endpoint

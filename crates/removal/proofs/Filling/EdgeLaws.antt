@@ -24,7 +24,7 @@ use Rattle.removal.proofs.Reaching.TargetLaws.{edge_inside, target_below, comes_
 use Rattle.removal.proofs.Showing.ShowLaws.{start_shown}
 
 -- a flag that is shown is at least 2
-pub shown_two : (v : ℕ) → (shown_flag v ≡ 0 → ⊥) → 2 ≤ shown_flag v
+shown_two : (v : ℕ) → (shown_flag v ≡ 0 → ⊥) → 2 ≤ shown_flag v
 shown_two v f = go (ltb 1 v) refl f
   where
     go : (b : Bool) → ltb 1 v ≡ b → (cond b v 0 ≡ 0 → ⊥) → 2 ≤ cond b v 0
@@ -66,7 +66,7 @@ module _ (l : Layout) (s : List ℕ) (r : Ready l s) where
       let d = r.tabled.laid in
       (omega (arith, w.slots), omega (arith, w.seen, w.cover, w.patch, w.lead), omega (arith, d.default), omega (arith, d.name, d.default), omega (arith, w.patch, w.lead), omega (arith, w.lead), w.comes)
 
-module _ (l : Layout) (s : List ℕ) (c j p0 p1 patches number : ℕ) (room-from room-to room-via : List ℕ) (k : ℕ) (x : EdgesRoom l s c j p0 p1 patches room-from room-to room-via k) where
+module _ {l : Layout} {s : List ℕ} {c j p0 p1 patches : ℕ} {room-from room-to room-via : List ℕ} {k : ℕ} (x : EdgesRoom l s c j p0 p1 patches room-from room-to room-via k) where
   abbrev p : List ℕ
   p = take l.slots s
 
@@ -100,7 +100,7 @@ module _ (l : Layout) (s : List ℕ) (c j p0 p1 patches number : ℕ) (room-from
         apart = x.patched.apart;
       }
 
-  module _ (t : List ℕ) (y : RowWritten l s t patches (patch_at l s) (lead_at l s)) where
+  module _ {t : List ℕ} (y : RowWritten l s t patches (patch_at l s) (lead_at l s)) where
     -- each edge comes from the flag at its target
     comes_target : (D : Design) (L : PathList) (G : Graph) → Tabled D L G l p → (q : ℕ) → InRun l p c q → comes_at l t q ≡ shown_flag (get_or s (target D L G l p c j q) 0)
     comes_target D L G g q m =
@@ -112,7 +112,7 @@ module _ (l : Layout) (s : List ℕ) (c j p0 p1 patches number : ℕ) (room-from
         y.rest q f ∙ x.loaded q m ∙ ap (λ (w : ℕ). shown_flag (get_or s w 0)) (x.patched.rest D L G g q m f))
         (find (patch_at l s) q patches)
 
-    pub comes_start : (D : Design) (L : PathList) (G : Graph) → Tabled D L G l p → (q : ℕ) → InRun l p c q → comes_at l t q ≡ start_flag L (slot_marks D L G) (slots_in l p) (flag_in l s) c j (edge_in l p c q)
+    comes_start : (D : Design) (L : PathList) (G : Graph) → Tabled D L G l p → (q : ℕ) → InRun l p c q → comes_at l t q ≡ start_flag L (slot_marks D L G) (slots_in l p) (flag_in l s) c j (edge_in l p c q)
     comes_start D L G g q m = comes_target D L G g q m ∙ comes_flag D L G l s g c q j x.copy m
 
     name_read : (q : ℕ) → q < l.edges → get_or t (l.name + q) 0 ≡ name_in l p q
@@ -124,9 +124,9 @@ module _ (l : Layout) (s : List ℕ) (c j p0 p1 patches number : ℕ) (room-from
     in_run q m = let u = of_upto (run_to l p c - run_from l p c) (run_from l p c) q m in record { from = u.0; to = omega (arith, u.0, u.1) }
 
     -- the edges of the row are those that come from shown slots
-    edges_are : (D : Design) (L : PathList) (G : Graph) → Tabled D L G l p
+    edges_are : (number : ℕ) (D : Design) (L : PathList) (G : Graph) → Tabled D L G l p
         → row_edges l t number (run l p c) ≡ flag_edges G L (slot_marks D L G) (slots_in l p) (flag_in l s) c j number
-    edges_are D L G g =
+    edges_are number D L G g =
         let marks = slot_marks D L G in
         let B = slots_in l p in
         made_same (row_edge l t number) (λ q. ltb 0 (comes_at l t q)) (λ (e : Edge). edge (start_flag L marks B (flag_in l s) c j e - 2) number e.name) (from_shown L marks B (shown_by (flag_in l s)) c j) (edge_in l p c) (run l p c)
@@ -139,18 +139,18 @@ module _ (l : Layout) (s : List ℕ) (c j p0 p1 patches number : ℕ) (room-from
     run_is : upto (p1 - p0) p0 ≡ run l p c
     run_is = ap₂ (λ (a b : ℕ). upto (b - a) a) x.from x.to
 
-    pub row_edges_lem : (D : Design) (L : PathList) (G : Graph) → Tabled D L G l p
+    row_edges_lem : (number : ℕ) (D : Design) (L : PathList) (G : Graph) → Tabled D L G l p
         → row_edges l t number (upto (p1 - p0) p0) ≡ flag_edges G L (slot_marks D L G) (slots_in l p) (flag_in l s) c j number
-    row_edges_lem D L G g = ap (row_edges l t number) run_is ∙ edges_are D L G g
+    row_edges_lem number D L G g = ap (row_edges l t number) run_is ∙ edges_are number D L G g
 
-    pub row_count : (D : Design) (L : PathList) (G : Graph) → Tabled D L G l p
+    row_count : (number : ℕ) (D : Design) (L : PathList) (G : Graph) → Tabled D L G l p
         → length (row_edges l t number (upto (p1 - p0) p0)) ≡ edges_to G L (slot_marks D L G) (slots_in l p) (shown_by (flag_in l s)) c j
-    row_count D L G g =
-        ap length (row_edges_lem D L G g)
+    row_count number D L G g =
+        ap length (row_edges_lem number D L G g)
         ∙ length-map (keep (from_shown L (slot_marks D L G) (slots_in l p) (shown_by (flag_in l s)) c j) (edges_in G c)) (λ (e : Edge). edge (start_flag L (slot_marks D L G) (slots_in l p) (flag_in l s) c j e - 2) number e.name)
 
-    pub read_room : RowRead l t p0 p1 number room-from room-to room-via k
-    read_room =
+    pub read_room : {number : ℕ} → RowRead l t p0 p1 number room-from room-to room-via k
+    read_room {number} =
         let d = row_laid l s r in
         record {
           name = omega (arith, d.0, d.1, d.3, d.6, y.size);
@@ -162,11 +162,11 @@ module _ (l : Layout) (s : List ℕ) (c j p0 p1 patches number : ℕ) (room-from
               let e = comes_target r.design r.list r.graph r.tabled q m in
               omega (arith, e, shown_two (get_or s (target r.design r.list r.graph l p c j q) 0) (λ z. f (e ∙ z)));
           same = x.same;
-          fit = omega (arith, x.fit, row_count r.design r.list r.graph r.tabled);
+          fit = omega (arith, x.fit, row_count number r.design r.list r.graph r.tabled);
         }
 
-    pub row_meets : (n : ℕ) → EdgesMeet l s c j n → length (row_edges l t number (upto (p1 - p0) p0)) ≡ n
-    row_meets n m = row_count r.design r.list r.graph r.tabled ∙ sym (m.counts r.design r.list r.graph r.tabled)
+    pub row_meets : (number : ℕ) {n : ℕ} → EdgesMeet l s c j n → length (row_edges l t number (upto (p1 - p0) p0)) ≡ n
+    row_meets number m = row_count number r.design r.list r.graph r.tabled ∙ sym (m.counts r.design r.list r.graph r.tabled)
 
     -- the row of slot 0 again
     patch_same : (i : ℕ) → i < patches → patch_at l t i ≡ patch_at l s i
@@ -198,7 +198,7 @@ module _ (l : Layout) (s : List ℕ) (c j p0 p1 patches number : ℕ) (room-from
           apart = λ i h a b e. x.patched.apart i h a b (sym (patch_same i (omega arith)) ∙ e ∙ patch_same h b);
         }
 
-    module _ (u room-from' room-to' room-via' : List ℕ) (z : RowWritten l t u patches (patch_at l t) (default_at l t))
+    module _ {u room-from' room-to' room-via' : List ℕ} {number : ℕ} (z : RowWritten l t u patches (patch_at l t) (default_at l t))
         (w : Edged (row_edges l t number (upto (p1 - p0) p0)) k room-from room-to room-via room-from' room-to' room-via' (k + length (row_edges l t number (upto (p1 - p0) p0)))) where
       pub edges_filled : EdgesFilled l s u c j number room-from room-to room-via room-from' room-to' room-via' k
       edges_filled =
@@ -219,7 +219,7 @@ module _ (l : Layout) (s : List ℕ) (c j p0 p1 patches number : ℕ) (room-from
                 z.rest q f ∙ y.rest q (λ i h e. f i h (patch_same i h ∙ e)))
                 (find (patch_at l t) q patches);
             written = λ D L G g.
-                let n : k + length (row_edges l t number (upto (p1 - p0) p0)) ≡ k + edges_to G L (slot_marks D L G) (slots_in l p) (shown_by (flag_in l s)) c j = ap (λ (i : ℕ). k + i) (row_count D L G g) in
-                subst (λ (es : List Edge). Edged es k room-from room-to room-via room-from' room-to' room-via' (k + edges_to G L (slot_marks D L G) (slots_in l p) (shown_by (flag_in l s)) c j)) (row_edges_lem D L G g)
+                let n : k + length (row_edges l t number (upto (p1 - p0) p0)) ≡ k + edges_to G L (slot_marks D L G) (slots_in l p) (shown_by (flag_in l s)) c j = ap (λ (i : ℕ). k + i) (row_count number D L G g) in
+                subst (λ (es : List Edge). Edged es k room-from room-to room-via room-from' room-to' room-via' (k + edges_to G L (slot_marks D L G) (slots_in l p) (shown_by (flag_in l s)) c j)) (row_edges_lem number D L G g)
                 (subst (λ (i : ℕ). Edged (row_edges l t number (upto (p1 - p0) p0)) k room-from room-to room-via room-from' room-to' room-via' i) n w);
           }

@@ -18,19 +18,16 @@ use Rattle.removal.proofs.Showing.GrowLaws.{keep_last}
 use Rattle.removal.proofs.Filling.RoomLaws.{edged_none, edged_more, Sizes, edged_sizes}
 
 -- one flag after the other
-module _ (l : Layout) (s : List ℕ) (n : ℕ) (e w : ℕ → ℕ) (r : RowRoom l s n e w) where
-  pub row_none : RowWritten l s s 0 e w
-  row_none = record { size = refl; tables = refl; below = λ i h. refl; new = λ i h. absurd (omega arith); rest = λ q f. refl }
-
-  module _ (t : List ℕ) (i : ℕ) (x : RowWritten l s t i e w) (h : i < n) where
-    pub row_inside : (l.comes + e i < length t) × (w i < length t)
+module _ {l : Layout} {s : List ℕ} {n : ℕ} {e w : ℕ → ℕ} (r : RowRoom l s n e w) where
+  module _ {t : List ℕ} {i : ℕ} (x : RowWritten l s t i e w) (h : i < n) where
+    row_inside : (l.comes + e i < length t) × (w i < length t)
     row_inside = (omega (arith, r.edges i h, r.comes, x.size), omega (arith, r.places i h, r.comes, x.size))
 
     -- the flag that is written next is that of s still
-    pub row_flag : get_or t (w i) 0 ≡ get_or s (w i) 0
+    row_flag : get_or t (w i) 0 ≡ get_or s (w i) 0
     row_flag = x.below (w i) (r.places i h)
 
-    pub row_next : (v : ℕ) → v ≡ shown_flag (get_or t (w i) 0) → RowWritten l s (set t (l.comes + e i) v) (suc i) e w
+    row_next : (v : ℕ) → v ≡ shown_flag (get_or t (w i) 0) → RowWritten l s (set t (l.comes + e i) v) (suc i) e w
     row_next v q =
         record {
           size = length-set t (l.comes + e i) v ∙ x.size;
@@ -81,14 +78,6 @@ all_kept p (suc n) i e q lo hi = go (p i) refl e (λ z y. all_kept p n (suc i) z
         ]
     go false x y again = absurd (omega (arith, y, keep_few p n (suc i)))
 
--- a row with as many edges from shown slots as it has edges is full
-pub row_full : (l : Layout) (s : List ℕ) (number p0 p1 edges : ℕ) → p0 ≤ p1 → length (row_edges l s number (upto (p1 - p0) p0)) ≡ edges → edges ≡ p1 - p0 → RowFull l s p0 p1
-row_full l s number p0 p1 edges up e h q lo hi z =
-    let p : ℕ → Bool = λ q. ltb 0 (comes_at l s q) in
-    let m : length (keep p (upto (p1 - p0) p0)) ≡ p1 - p0 = sym (length-map (keep p (upto (p1 - p0) p0)) (row_edge l s number)) ∙ e ∙ h in
-    let some = ltb-true 0 (comes_at l s q) (all_kept p (p1 - p0) p0 m q lo (omega arith)) in
-    omega (arith, some, z)
-
 edge_last : (l : Layout) (s : List ℕ) (number n i : ℕ) → row_edges l s number (upto (suc n) i) ≡ row_edges l s number (upto n i) ++ map (row_edge l s number) (cond (ltb 0 (comes_at l s (i + n))) ((i + n) ∷ []) [])
 edge_last l s number n i =
     ap (row_edges l s number) (upto_next n i)
@@ -100,22 +89,16 @@ abbrev pub RowSoFar : Layout → List ℕ → ℕ → ℕ → List ℕ → List 
 RowSoFar l s p0 number room-from₀ room-to₀ room-via₀ room-from room-to room-via k at q =
     Edged (row_edges l s number (upto (q - p0) p0)) k room-from₀ room-to₀ room-via₀ room-from room-to room-via at
 
-module _ (l : Layout) (s : List ℕ) (p0 p1 number : ℕ) (room-from₀ room-to₀ room-via₀ : List ℕ) (k : ℕ) (r : RowRead l s p0 p1 number room-from₀ room-to₀ room-via₀ k) where
-  pub edges_start : RowSoFar l s p0 number room-from₀ room-to₀ room-via₀ room-from₀ room-to₀ room-via₀ k k p0
-  edges_start =
-      let z : p0 - p0 ≡ 0 = omega arith in
-      rw z (edged_none k room-from₀ room-to₀ room-via₀)
+module _ {l : Layout} {s : List ℕ} {p0 p1 number : ℕ} {room-from₀ room-to₀ room-via₀ : List ℕ} {k : ℕ} (r : RowRead l s p0 p1 number room-from₀ room-to₀ room-via₀ k) where
+  -- a row with as many edges from shown slots as it has edges is full
+  pub row_full : {edges : ℕ} → length (row_edges l s number (upto (p1 - p0) p0)) ≡ edges → edges ≡ p1 - p0 → RowFull l s p0 p1
+  row_full e h q lo hi z =
+      let p : ℕ → Bool = λ q. ltb 0 (comes_at l s q) in
+      let m : length (keep p (upto (p1 - p0) p0)) ≡ p1 - p0 = sym (length-map (keep p (upto (p1 - p0) p0)) (row_edge l s number)) ∙ e ∙ h in
+      let some = ltb-true 0 (comes_at l s q) (all_kept p (p1 - p0) p0 m q lo (omega (arith, r.up))) in
+      omega (arith, some, z)
 
-  module _ (room-from room-to room-via : List ℕ) (at q : ℕ) (x : RowSoFar l s p0 number room-from₀ room-to₀ room-via₀ room-from room-to room-via k at q) where
-    pub edges_kept : Sizes room-from₀ room-to₀ room-via₀ room-from room-to room-via
-    edges_kept = edged_sizes (row_edges l s number (upto (q - p0) p0)) k at room-from₀ room-to₀ room-via₀ room-from room-to room-via x
-
-    pub edges_whole : q ≡ p1 → Edged (row_edges l s number (upto (p1 - p0) p0)) k room-from₀ room-to₀ room-via₀ room-from room-to room-via (k + length (row_edges l s number (upto (p1 - p0) p0)))
-    edges_whole e =
-        let y = subst (λ (i : ℕ). RowSoFar l s p0 number room-from₀ room-to₀ room-via₀ room-from room-to room-via k at i) e x in
-        subst (λ (n : ℕ). Edged (row_edges l s number (upto (p1 - p0) p0)) k room-from₀ room-to₀ room-via₀ room-from room-to room-via n) y.next y
-
-  module _ (room-from room-to room-via : List ℕ) (at q : ℕ) (x : RowSoFar l s p0 number room-from₀ room-to₀ room-via₀ room-from room-to room-via k at q) (lo : p0 ≤ q) (hi : q < p1) where
+  module _ {room-from room-to room-via : List ℕ} {at q : ℕ} (x : RowSoFar l s p0 number room-from₀ room-to₀ room-via₀ room-from room-to room-via k at q) (lo : p0 ≤ q) (hi : q < p1) where
     edges_sizes : Sizes room-from₀ room-to₀ room-via₀ room-from room-to room-via
     edges_sizes = edged_sizes (row_edges l s number (upto (q - p0) p0)) k at room-from₀ room-to₀ room-via₀ room-from room-to room-via x
 
@@ -132,9 +115,9 @@ module _ (l : Layout) (s : List ℕ) (p0 p1 number : ℕ) (room-from₀ room-to�
         rw (step false (ap (ltb 0) z))
         (edged_more (row_edges l s number (upto (q - p0) p0)) [] k at at room-from₀ room-to₀ room-via₀ room-from room-to room-via room-from room-to room-via x (edged_none at room-from room-to room-via))
 
-    pub edge_skip : comes_at l s q ≡ 0 → (from' to' via' : List ℕ) (n : ℕ) → from' ≡ room-from → to' ≡ room-to → via' ≡ room-via → n ≡ at
+    pub edge_skip : comes_at l s q ≡ 0 → {from' to' via' : List ℕ} {n : ℕ} → from' ≡ room-from → to' ≡ room-to → via' ≡ room-via → n ≡ at
         → RowSoFar l s p0 number room-from₀ room-to₀ room-via₀ from' to' via' k n (q + 1)
-    edge_skip z from' to' via' n a b d e = rw (a, b, d, e) (skip z)
+    edge_skip z a b d e = rw (a, b, d, e) (skip z)
 
     module _ (some : comes_at l s q ≡ 0 → ⊥) where
       on : ltb 0 (comes_at l s q) ≡ true
@@ -157,19 +140,16 @@ module _ (l : Layout) (s : List ℕ) (p0 p1 number : ℕ) (room-from₀ room-to�
           (set room-from at (comes_at l s q - 2)) (set room-to at number) (set room-via at (get_or s (l.name + q) 0)) x
           (record { starts = refl; ends = refl; names = refl; next = refl }))
 
-      pub edge_write : (from' to' via' : List ℕ) (n : ℕ) → from' ≡ set room-from at (comes_at l s q - 2) → to' ≡ set room-to at number → via' ≡ set room-via at (get_or s (l.name + q) 0) → n ≡ at + 1
+      pub edge_write : {from' to' via' : List ℕ} {n : ℕ} → from' ≡ set room-from at (comes_at l s q - 2) → to' ≡ set room-to at number → via' ≡ set room-via at (get_or s (l.name + q) 0) → n ≡ at + 1
           → RowSoFar l s p0 number room-from₀ room-to₀ room-via₀ from' to' via' k n (q + 1)
-      edge_write from' to' via' n a b d e = rw (a, b, d, e) write
+      edge_write a b d e = rw (a, b, d, e) write
 
 -- the row of slot 0, edge by edge: the edges before q have their flags
 abbrev pub LoadedTo : Layout → List ℕ → ℕ → List ℕ → ℕ → Type 0
 LoadedTo l s p0 t q = RowWritten l s t (q - p0) (λ i. p0 + i) (default_from l s p0)
 
-module _ (l : Layout) (s : List ℕ) (p0 p1 : ℕ) (r : RowRoom l s (p1 - p0) (λ i. p0 + i) (default_from l s p0)) where
-  pub load_start : LoadedTo l s p0 s p0
-  load_start = let z : p0 - p0 ≡ 0 = omega arith in rw z (row_none l s (p1 - p0) (λ i. p0 + i) (default_from l s p0) r)
-
-  module _ (t : List ℕ) (q : ℕ) (x : LoadedTo l s p0 t q) (lo : p0 ≤ q) (hi : q < p1) where
+module _ {l : Layout} {s : List ℕ} {p0 p1 : ℕ} (r : RowRoom l s (p1 - p0) (λ i. p0 + i) (default_from l s p0)) where
+  module _ {t : List ℕ} {q : ℕ} (x : LoadedTo l s p0 t q) (lo : p0 ≤ q) (hi : q < p1) where
     here : p0 + (q - p0) ≡ q
     here = omega arith
 
@@ -182,40 +162,33 @@ module _ (l : Layout) (s : List ℕ) (p0 p1 : ℕ) (r : RowRoom l s (p1 - p0) (�
     load_default : get_or t (l.default + q) 0 ≡ default_from l s p0 (q - p0)
     load_default = x.below (l.default + q) (omega (arith, r.default, edge_low)) ∙ ap (λ (i : ℕ). get_or s (l.default + i) 0) (sym here)
 
-    pub load_inside : (l.default + q < length t) × (l.comes + q < length t) × (get_or t (l.default + q) 0 < length t)
-    load_inside =
-        let a = row_inside l s (p1 - p0) (λ i. p0 + i) (default_from l s p0) r t (q - p0) x turn in
-        (omega (arith, r.default, r.comes, edge_low, x.size), omega (arith, r.comes, edge_low, x.size), omega (arith, a.1, load_default))
+    pub load_inside : get_or t (l.default + q) 0 < length t
+    load_inside = omega (arith, (row_inside r x turn).1, load_default)
 
-    pub load_next : (v : ℕ) → v ≡ shown_flag (get_or t (get_or t (l.default + q) 0) 0) → LoadedTo l s p0 (set t (l.comes + q) v) (q + 1)
-    load_next v e =
+    pub load_next : {v : ℕ} → v ≡ shown_flag (get_or t (get_or t (l.default + q) 0) 0) → LoadedTo l s p0 (set t (l.comes + q) v) (q + 1)
+    load_next {v} e =
         let z : suc (q - p0) ≡ (q + 1) - p0 = omega arith in
         subst (λ (n : ℕ). RowWritten l s (set t (l.comes + q) v) n (λ i. p0 + i) (default_from l s p0)) z
         (subst (λ (i : ℕ). RowWritten l s (set t (l.comes + i) v) (suc (q - p0)) (λ i. p0 + i) (default_from l s p0)) here
-        (row_next l s (p1 - p0) (λ i. p0 + i) (default_from l s p0) r t (q - p0) x turn v (e ∙ ap (λ (i : ℕ). shown_flag (get_or t i 0)) load_default)))
+        (row_next r x turn v (e ∙ ap (λ (i : ℕ). shown_flag (get_or t i 0)) load_default)))
 
 -- and with its patches, one after the other
-module _ (l : Layout) (s : List ℕ) (k : ℕ) (r : RowRoom l s k (patch_at l s) (lead_at l s)) (t : List ℕ) (i : ℕ) (x : RowWritten l s t i (patch_at l s) (lead_at l s)) (h : i < k) where
+module _ {l : Layout} {s : List ℕ} {k : ℕ} (r : RowRoom l s k (patch_at l s) (lead_at l s)) {t : List ℕ} {i : ℕ} (x : RowWritten l s t i (patch_at l s) (lead_at l s)) (h : i < k) where
   patch_read : patch_at l t i ≡ patch_at l s i
   patch_read = x.below (l.patch + i) (omega (arith, r.patch, r.few))
 
   lead_read : lead_at l t i ≡ lead_at l s i
   lead_read = x.below (l.lead + i) (omega (arith, r.lead, r.few))
 
-  pub patch_inside : (l.patch + i < length t) × (l.lead + i < length t) × (lead_at l t i < length t) × (l.comes + patch_at l t i < length t)
-  patch_inside =
-      let a = row_inside l s k (patch_at l s) (lead_at l s) r t i x h in
-      (omega (arith, r.patch, r.few, r.comes, x.size), omega (arith, r.lead, r.few, r.comes, x.size), omega (arith, a.1, lead_read), omega (arith, a.0, patch_read))
-
-  pub patch_next : (v : ℕ) → v ≡ shown_flag (get_or t (lead_at l t i) 0) → RowWritten l s (set t (l.comes + patch_at l t i) v) (i + 1) (patch_at l s) (lead_at l s)
-  patch_next v e =
+  pub patch_next : {v : ℕ} → v ≡ shown_flag (get_or t (lead_at l t i) 0) → RowWritten l s (set t (l.comes + patch_at l t i) v) (i + 1) (patch_at l s) (lead_at l s)
+  patch_next {v} e =
       let z : suc i ≡ i + 1 = omega arith in
       subst (λ (n : ℕ). RowWritten l s (set t (l.comes + patch_at l t i) v) n (patch_at l s) (lead_at l s)) z
       (subst (λ (q : ℕ). RowWritten l s (set t (l.comes + q) v) (suc i) (patch_at l s) (lead_at l s)) (sym patch_read)
-      (row_next l s k (patch_at l s) (lead_at l s) r t i x h v (e ∙ ap (λ (w : ℕ). shown_flag (get_or t w 0)) lead_read)))
+      (row_next r x h v (e ∙ ap (λ (w : ℕ). shown_flag (get_or t w 0)) lead_read)))
 
 -- and back
-module _ (l : Layout) (s : List ℕ) (k : ℕ) (r : RowRoom l s k (patch_at l s) (default_at l s)) (t : List ℕ) (i : ℕ) (x : RowWritten l s t i (patch_at l s) (default_at l s)) (h : i < k) where
+module _ {l : Layout} {s : List ℕ} {k : ℕ} (r : RowRoom l s k (patch_at l s) (default_at l s)) {t : List ℕ} {i : ℕ} (x : RowWritten l s t i (patch_at l s) (default_at l s)) (h : i < k) where
   edge_read : patch_at l t i ≡ patch_at l s i
   edge_read = x.below (l.patch + i) (omega (arith, r.patch, r.few))
 
@@ -224,14 +197,9 @@ module _ (l : Layout) (s : List ℕ) (k : ℕ) (r : RowRoom l s k (patch_at l s)
       ap (λ (q : ℕ). get_or t (l.default + q) 0) edge_read
       ∙ x.below (l.default + patch_at l s i) (omega (arith, r.default, r.edges i h))
 
-  pub unpatch_inside : (l.patch + i < length t) × (l.default + patch_at l t i < length t) × (default_at l t i < length t) × (l.comes + patch_at l t i < length t)
-  unpatch_inside =
-      let a = row_inside l s k (patch_at l s) (default_at l s) r t i x h in
-      (omega (arith, r.patch, r.few, r.comes, x.size), omega (arith, r.default, r.edges i h, r.comes, x.size, edge_read), omega (arith, a.1, default_read), omega (arith, a.0, edge_read))
-
-  pub unpatch_next : (v : ℕ) → v ≡ shown_flag (get_or t (default_at l t i) 0) → RowWritten l s (set t (l.comes + patch_at l t i) v) (i + 1) (patch_at l s) (default_at l s)
-  unpatch_next v e =
+  pub unpatch_next : {v : ℕ} → v ≡ shown_flag (get_or t (default_at l t i) 0) → RowWritten l s (set t (l.comes + patch_at l t i) v) (i + 1) (patch_at l s) (default_at l s)
+  unpatch_next {v} e =
       let z : suc i ≡ i + 1 = omega arith in
       subst (λ (n : ℕ). RowWritten l s (set t (l.comes + patch_at l t i) v) n (patch_at l s) (default_at l s)) z
       (subst (λ (q : ℕ). RowWritten l s (set t (l.comes + q) v) (suc i) (patch_at l s) (default_at l s)) (sym edge_read)
-      (row_next l s k (patch_at l s) (default_at l s) r t i x h v (e ∙ ap (λ (w : ℕ). shown_flag (get_or t w 0)) default_read)))
+      (row_next r x h v (e ∙ ap (λ (w : ℕ). shown_flag (get_or t w 0)) default_read)))

@@ -6,21 +6,22 @@ use mathlib.Core.Logic.{⊎_elim}
 use mathlib.Core.List.{List, ◌∷◌}
 use lib.ListN.{length, get_or, take, set}
 use Rattle.removal.specs.declared.rows.Layout.{Layout}
-use Rattle.removal.specs.Slots.{slots, slot_base, slot_marks}
+use Rattle.removal.specs.Slots.{slots, slot_marks}
 use Rattle.removal.specs.Rows.{slots_in, Tabled, Ready, Idle, InRun, run_from, run_to, name_in, start_in, default_in, slot_place, flag_in, target}
 use Rattle.removal.specs.Reach.{LiveIs}
 use Rattle.removal.specs.Patches.{Patched, patch_at, lead_at}
 use Rattle.removal.specs.Result.{slot_at, slot_endpoint}
 use Rattle.removal.specs.Show.{shown_by, edges_to, EdgesMeet, RowLent, RowMet, SlotRoom, SlotShown, WorkKept}
 use Rattle.removal.specs.Fill.{shown_flag, comes_at, EdgesRoom, EdgesFilled, Filled, one_slot, Filling, RowHeld, RowKept}
-use Rattle.removal.proofs.Reaching.RowLaws.{base_read, slot_inside, slots_apart, place_inside, words, ready_same}
+use Rattle.removal.proofs.Reaching.RowLaws.{slot_inside, slots_apart, place_inside, ready_same}
 use Rattle.removal.proofs.Reaching.TargetLaws.{dead_low, start_low, target_cases, target_below}
-use Rattle.removal.proofs.Showing.ShowSteps.{not_reached, flags_alike, meets_same, meets_alike, slot_after}
+use Rattle.removal.proofs.Showing.ShowSteps.{not_reached, meets_same, slot_after}
+use Rattle.removal.proofs.Showing.RowSteps.{flag_read, row_room}
 use Rattle.removal.proofs.Filling.EdgeLaws.{row_laid}
 use Rattle.removal.proofs.Filling.StepLaws.{slot_off, slot_fits, slot_on}
 
 -- patches stand in the tables of work
-pub patched_same : (l : Layout) (p t u : List ℕ) (c j k : ℕ) → ((i : ℕ) → i < k → patch_at l u i ≡ patch_at l t i) → ((i : ℕ) → i < k → lead_at l u i ≡ lead_at l t i) → Patched l p t c j k → Patched l p u c j k
+patched_same : (l : Layout) (p t u : List ℕ) (c j k : ℕ) → ((i : ℕ) → i < k → patch_at l u i ≡ patch_at l t i) → ((i : ℕ) → i < k → lead_at l u i ≡ lead_at l t i) → Patched l p t c j k → Patched l p u c j k
 patched_same l p t u c j k a b x =
     record {
       few = x.few;
@@ -35,7 +36,7 @@ module _ (l : Layout) (s : List ℕ) (r : Ready l s) (c j : ℕ) (copy : c < l.c
   abbrev p : List ℕ
   p = take l.slots s
 
-  pub default_place : (q : ℕ) → InRun l (take l.slots s) c q → (default_in l (take l.slots s) q < l.seen) × (default_in l (take l.slots s) q ≡ slot_place l (take l.slots s) c j → ⊥)
+  default_place : (q : ℕ) → InRun l (take l.slots s) c q → (default_in l (take l.slots s) q < l.seen) × (default_in l (take l.slots s) q ≡ slot_place l (take l.slots s) c j → ⊥)
   default_place q m =
       let D = r.design in
       let L = r.list in
@@ -51,19 +52,9 @@ module _ (l : Layout) (s : List ℕ) (r : Ready l s) (c j : ℕ) (copy : c < l.c
             (target_cases D L G l p g c q copy m 0),
       )
 
-  -- where a slot's place is read
-  pub slot_read : (slot : j < slots (slots_in l (take l.slots s)) c) → (l.base + c < length s) × (get_or s (l.base + c) 0 + j ≡ slot_place l (take l.slots s) c j) × (slot_place l (take l.slots s) c j < length s)
-  slot_read slot =
-      let d = r.tabled.laid in
-      let w = row_laid l s r in (
-        omega (arith, d.base, d.into, d.start, d.name, d.default, words l s r),
-        omega (arith, base_read l s r c (omega arith)),
-        omega (arith, place_inside l s r c j copy slot, w.1, w.6),
-      )
-
 -- the row of slot 0 is at hand while flags of the copy change
-pub row_next : (l : Layout) (s t pos : List ℕ) (c j p0 p1 defaults : ℕ) → Ready l s → take l.slots t ≡ take l.slots s → RowKept l s t c j → RowHeld l s pos c p0 p1 defaults → RowHeld l t pos c p0 p1 defaults
-row_next l s t pos c j p0 p1 defaults r tables k h =
+pub row_next : {l : Layout} {s t pos : List ℕ} {c j p0 p1 defaults : ℕ} → Ready l s → take l.slots t ≡ take l.slots s → RowKept l s t c j → RowHeld l s pos c p0 p1 defaults → RowHeld l t pos c p0 p1 defaults
+row_next {l} {s} {t} {pos} {c} {j} {p0} {p1} {defaults} r tables k h =
     let q = take l.slots s in
     record {
       noted = subst (λ (w : List ℕ). 1 < slots (slots_in l w) c → (e : ℕ) → InRun l w c e → get_or pos (name_in l w e) 0 ≡ e) (sym tables) h.noted;
@@ -80,28 +71,14 @@ row_next l s t pos c j p0 p1 defaults r tables k h =
           k.comes e m ∙ h.loaded e m ∙ ap shown_flag (sym (k.others (default_in l q e) d.0 d.1)));
     }
 
-module _ (l : Layout) (nodes endpoint s pos room-nodes room-endpoint room-from room-to room-via : List ℕ) (c j copies edges p0 p1 defaults : ℕ)
+module _ {l : Layout} {nodes endpoint s pos room-nodes room-endpoint room-from room-to room-via : List ℕ} {c j copies edges p0 p1 defaults : ℕ}
     (z : Filling l nodes endpoint s (length pos) room-nodes room-endpoint room-from room-to room-via c j copies edges)
     (h : RowHeld l s pos c p0 p1 defaults) (slot : j < slots (slots_in l (take l.slots s)) c) where
   abbrev r : Ready l s
   r = z.ready
 
-  pub place_read : (l.base + c < length s) × (get_or s (l.base + c) 0 + j ≡ slot_place l (take l.slots s) c j) × (slot_place l (take l.slots s) c j < length s)
-  place_read = slot_read l s r c j h.copy slot
-
-  flag_read : get_or s (get_or s (l.base + c) 0 + j) 0 ≡ flag_in l s c j
-  flag_read = ap (λ (i : ℕ). get_or s i 0) place_read.1
-
   pub few_numbers : copies + 2 < 4294967296
   few_numbers = omega (arith, z.few_copies, slot_inside (slots_in l (take l.slots s)) c j l.copies h.copy slot, r.few)
-
-  -- the slot is not reached
-  pub slot_none : get_or s (get_or s (l.base + c) 0 + j) 0 ≡ 0
-      → Filled l nodes endpoint s s c j copies edges c (j + 1) copies edges (one_slot c j) room-nodes room-endpoint room-from room-to room-via room-nodes room-endpoint room-from room-to room-via × RowKept l s s c j
-  slot_none e = (
-    slot_off l nodes endpoint s (length pos) room-nodes room-endpoint room-from room-to room-via c j copies edges z h.copy slot s copies edges (not_reached l s c j copies edges z.few_edges (sym flag_read ∙ e)) refl z.idle,
-    record { others = λ i a f. refl; comes = λ q m. refl },
-  )
 
   pub row_lent : RowLent l s pos c j p0 p1 defaults
   row_lent =
@@ -117,29 +94,22 @@ module _ (l : Layout) (nodes endpoint s pos room-nodes room-endpoint room-from r
         meets = h.meets;
       }
 
-  module _ (t : List ℕ) (patches n : ℕ) (m : RowMet l s t c j patches n) where
+  -- the slot is not reached
+  pub slot_none : get_or s (get_or s (l.base + c) 0 + j) 0 ≡ 0
+      → Filled l nodes endpoint s s c j copies edges c (j + 1) copies edges (one_slot c j) room-nodes room-endpoint room-from room-to room-via room-nodes room-endpoint room-from room-to room-via × RowKept l s s c j
+  slot_none e = (
+    slot_off l nodes endpoint s (length pos) room-nodes room-endpoint room-from room-to room-via c j copies edges z h.copy slot s copies edges (not_reached l s c j copies edges z.few_edges (sym (flag_read row_lent) ∙ e)) refl z.idle,
+    record { others = λ i a f. refl; comes = λ q m. refl },
+  )
+
+  module _ {t : List ℕ} {patches n : ℕ} (m : RowMet l s t c j patches n) where
     low : (i : ℕ) → i < l.seen → get_or t i 0 ≡ get_or s i 0
     low i a = m.collected.below i (omega (arith, r.work.seen, r.work.cover))
 
     pub show_asks : (get_or s (get_or s (l.base + c) 0 + j) 0 ≡ 0 → ⊥) → SlotRoom l t c j p0 p1 copies edges × EdgesMeet l t c j n
-    show_asks f =
-        let q = m.collected.tables in (
-          record {
-            ready = ready_same l s t m.collected.size q r;
-            copy = h.copy;
-            slot = subst (λ (w : List ℕ). j < slots (slots_in l w) c) (sym q) slot;
-            from = h.from ∙ ap (λ (w : List ℕ). run_from l w c) (sym q);
-            to = h.to ∙ ap (λ (w : List ℕ). run_to l w c) (sym q);
-            reached =
-                let g : flag_in l s c j ≡ 0 → ⊥ = λ e. f (flag_read ∙ e) in
-                omega (arith, g, flags_alike l s t r q low c j h.copy slot);
-            few_copies = subst (λ (w : List ℕ). copies ≤ slot_base (slots_in l w) c + j) (sym q) z.few_copies;
-            few_edges = z.few_edges;
-          },
-          meets_alike l s t r q low c j n h.copy m.meets,
-        )
+    show_asks f = row_room row_lent m f z.few_copies z.few_edges
 
-    module _ (u : List ℕ) (more links : ℕ) (y : SlotShown l t u c j copies edges more links × WorkKept l t u) where
+    module _ {u : List ℕ} {more links : ℕ} (y : SlotShown l t u c j copies edges more links × WorkKept l t u) where
       shown : SlotShown l s u c j copies edges more links
       shown = slot_after l s t r m.collected.tables low u c j copies edges more links m.collected.size h.copy slot y.0
 
@@ -168,9 +138,6 @@ module _ (l : Layout) (nodes endpoint s pos room-nodes room-endpoint room-from r
           → Filled l nodes endpoint s u c j copies edges c (j + 1) copies edges (one_slot c j) room-nodes room-endpoint room-from room-to room-via room-nodes room-endpoint room-from room-to room-via × RowKept l s u c j
       slot_hidden e = (slot_off l nodes endpoint s (length pos) room-nodes room-endpoint room-from room-to room-via c j copies edges z h.copy slot u more links shown e idle, kept)
 
-      pub after_size : length u ≡ length s
-      after_size = shown.size
-
       -- and if it is
       module _ (f : more ≡ copies → ⊥) where
         pub room_left : (copies < length room-nodes) × (copies < length room-endpoint)
@@ -181,7 +148,7 @@ module _ (l : Layout) (nodes endpoint s pos room-nodes room-endpoint room-from r
         pub edges_room : EdgesRoom l u c j p0 p1 patches room-from room-to room-via edges
         edges_room =
             let q = shown.tables in
-            let held = row_next l s u pos c j p0 p1 defaults r q kept h in
+            let held = row_next r q kept h in
             record {
               ready =
                   let again = ready_same l s u shown.size q r in
@@ -206,7 +173,7 @@ module _ (l : Layout) (nodes endpoint s pos room-nodes room-endpoint room-from r
                   (slot_fits l nodes endpoint s (length pos) room-nodes room-endpoint room-from room-to room-via c j copies edges z h.copy slot u more links shown f).1;
             }
 
-        module _ (v room-from' room-to' room-via' : List ℕ) (number end : ℕ) (w : EdgesFilled l u v c j number room-from room-to room-via room-from' room-to' room-via' edges) where
+        module _ {v room-from' room-to' room-via' : List ℕ} {number end : ℕ} (w : EdgesFilled l u v c j number room-from room-to room-via room-from' room-to' room-via' edges) where
           pub slot_filled : number ≡ copies → end ≡ slot_endpoint endpoint (slot_at c j)
               → Filled l nodes endpoint s v c j copies edges c (j + 1) more links (one_slot c j) room-nodes room-endpoint room-from room-to room-via
               (set room-nodes copies (get_or nodes c 0)) (set room-endpoint copies end) room-from' room-to' room-via' × RowKept l s v c j

@@ -1,13 +1,14 @@
 -- From what is shown back to what is reached, flag by flag.
 use Prim.Native.Nat.{ℕ, ◌+◌, ◌≤◌, ◌<◌}
 use native.Mathlib.Omega.{arith}
-use native.Mathlib.Decide.{ℕ_discrete}
-use mathlib.Core.Path.{◌≡◌, refl, sym, ap, ◌∙◌}
+use mathlib.Core.Path.{◌≡◌, sym, ap, ◌∙◌}
 use mathlib.Core.List.{List}
 use lib.Dec.{ltb}
-use lib.ListN.{length, get_or, take, set, length-set}
-use lib.Seq.{take-set-le, get_or-set_same, get_or-set_other}
-use borrow.Author.Tests.{lt-ltb, le-ltb}
+use lib.ListN.{length, get_or, take, drop}
+use borrow.Rule.Slice.PartMut.{put_mid}
+use Rattle.std.proofs.Common.{rules}
+use Rattle.std.proofs.lemmas.List.{places, get_or-drop, get_or-take}
+use Rattle.std.proofs.lemmas.Slice.{take-put_mid_below}
 use Rattle.timing.specs.Lists.{one_if}
 use Rattle.removal.specs.declared.rows.Layout.{Layout}
 use Rattle.removal.specs.Slots.{slot_base}
@@ -15,66 +16,44 @@ use Rattle.removal.specs.Rows.{slots_in, Ready, slot_place}
 use Rattle.removal.specs.Show.{FlagsReset}
 use Rattle.removal.proofs.Reaching.RowLaws.{slot_inside}
 
--- the flags from `first` on and before i are 0 or 1, and nothing else has changed
-pub record Resetting (s t : List ℕ) (first i : ℕ) : Type 0 where
-  pub size : length t ≡ length s
-  pub tables : take first t ≡ take first s
-  pub done : (x : ℕ) → first ≤ x → x < i → get_or t x 0 ≡ one_if (ltb 0 (get_or s x 0))
+-- the flags before i are 1 where they were not 0, and those from i on are as they were
+pub record Resetting (s t : List ℕ) (i : ℕ) : Type 0 where
+  pub done : (x : ℕ) → x < i → get_or t x 0 ≡ one_if (ltb 0 (get_or s x 0))
   pub rest : (x : ℕ) → i ≤ x → get_or t x 0 ≡ get_or s x 0
 
-low_flag : (v : ℕ) → v ≤ 1 → v ≡ one_if (ltb 0 v)
-low_flag v h =
-    elim (ℕ_discrete v 0) [
-      | yes e ↦ omega (arith, ap one_if (le-ltb 0 v (omega arith)))
-      | no f ↦ omega (arith, ap one_if (lt-ltb 0 v (omega arith)))
-    ]
+-- n elements from a on are those of t now
+module _ (s t : List ℕ) (a n : ℕ) (fit : a + n ≤ length s) (size : length t ≡ n) where
+  put_size : length (put_mid a n s t) ≡ length s
+  put_size = search (rules, places)
 
-pub reset_start : (s : List ℕ) (first : ℕ) → Resetting s s first first
-reset_start s first = record { size = refl; tables = refl; done = λ x h k. absurd (omega arith); rest = λ x h. refl }
+  put_below : take a (put_mid a n s t) ≡ take a s
+  put_below = take-put_mid_below a n s t a (omega arith) (omega arith)
 
-module _ (s t : List ℕ) (first i : ℕ) (x : Resetting s t first i) where
-  -- a flag that is 0 or 1 stays
-  pub reset_skip : get_or t i 0 ≤ 1 → Resetting s t first (i + 1)
-  reset_skip low =
+  put_here : (x : ℕ) → x < n → get_or (put_mid a n s t) (a + x) 0 ≡ get_or t x 0
+  put_here x h = search (rules, places)
+
+  put_past : (y : ℕ) → a + n ≤ y → get_or (put_mid a n s t) y 0 ≡ get_or s y 0
+  put_past y h = search (rules, places)
+
+-- the n flags are those of t now: each is reset
+module _ {l : Layout} {s t : List ℕ} {n i : ℕ} (r : Ready l s) (n_is : n ≡ slot_base (slots_in l (take l.slots s)) l.copies)
+    (fit : l.slots + n ≤ length s) (size : length t ≡ n) (x : Resetting (take n (drop l.slots s)) t i) (all : n ≤ i) where
+  reset_flag : (y : ℕ) → y < n → get_or (put_mid l.slots n s t) (l.slots + y) 0 ≡ one_if (ltb 0 (get_or s (l.slots + y) 0))
+  reset_flag y h =
+      put_here s t l.slots n fit size y h ∙ x.done y (omega arith)
+      ∙ ap (λ (v : ℕ). one_if (ltb 0 v)) (get_or-take n (drop l.slots s) y 0 h ∙ get_or-drop l.slots s y 0)
+
+  pub reset_end : FlagsReset l s (put_mid l.slots n s t)
+  reset_end =
       record {
-        size = x.size;
-        tables = x.tables;
-        done = λ y h k.
-            elim (ℕ_discrete y i) [
-              | yes e ↦
-                  ap (λ (z : ℕ). get_or t z 0) e ∙ x.rest i (omega arith)
-                  ∙ low_flag (get_or s i 0) (omega (arith, x.rest i (omega arith)))
-                  ∙ ap (λ (z : ℕ). one_if (ltb 0 (get_or s z 0))) (sym e)
-              | no f ↦ x.done y h (omega arith)
-            ];
-        rest = λ y h. x.rest y (omega arith);
+        size = put_size s t l.slots n fit size;
+        tables = put_below s t l.slots n fit size;
+        above = λ y h. put_past s t l.slots n fit size y (omega (arith, r.work.slots));
+        flags = λ c j h k.
+            let B = slots_in l (take l.slots s) in
+            let e : l.slots + slot_base B c + j ≡ l.slots + (slot_base B c + j) = omega arith in
+            ap (λ (w : List ℕ). get_or (put_mid l.slots n s t) (slot_place l w c j) 0) (put_below s t l.slots n fit size)
+            ∙ ap (λ (y : ℕ). get_or (put_mid l.slots n s t) y 0) e
+            ∙ reset_flag (slot_base B c + j) (omega (arith, n_is, slot_inside B c j l.copies h k))
+            ∙ ap (λ (y : ℕ). one_if (ltb 0 (get_or s y 0))) (sym e);
       }
-
-  -- any other is 1
-  pub reset_one : 1 < get_or t i 0 → first ≤ i → i < length t → Resetting s (set t i 1) first (i + 1)
-  reset_one high low inside =
-      record {
-        size = length-set t i 1 ∙ x.size;
-        tables = take-set-le first t i 1 low ∙ x.tables;
-        done = λ y h k.
-            elim (ℕ_discrete y i) [
-              | yes e ↦
-                  ap (λ (z : ℕ). get_or (set t i 1) z 0) e ∙ get_or-set_same t i 1 0 inside
-                  ∙ sym (ap one_if (lt-ltb 0 (get_or s i 0) (omega (arith, x.rest i (omega arith)))))
-                  ∙ ap (λ (z : ℕ). one_if (ltb 0 (get_or s z 0))) (sym e)
-              | no f ↦ get_or-set_other t i y 1 0 f ∙ x.done y h (omega arith)
-            ];
-        rest = λ y h. get_or-set_other t i y 1 0 (λ e. omega arith) ∙ x.rest y (omega arith);
-      }
-
-pub reset_end : (l : Layout) (s t : List ℕ) (i : ℕ) → Ready l s → i ≡ l.slots + slot_base (slots_in l (take l.slots s)) l.copies
-    → Resetting s t l.slots i → FlagsReset l s t
-reset_end l s t i r e x =
-    record {
-      size = x.size;
-      tables = x.tables;
-      above = λ y h. x.rest y (omega (arith, r.work.slots));
-      flags = λ c j h k.
-          ap (λ (w : List ℕ). get_or t (slot_place l w c j) 0) x.tables
-          ∙ x.done (slot_place l (take l.slots s) c j) (omega arith) (omega (arith, slot_inside (slots_in l (take l.slots s)) c j l.copies h k));
-    }

@@ -2,34 +2,44 @@
 -- the next row asks.
 use Prim.Native.Nat.{ℕ, suc, ◌+◌, ◌*◌, ◌≤◌, ◌<◌}
 use native.Mathlib.Omega.{arith}
-use native.Mathlib.Decide.{dec_lt}
 use mathlib.Core.Path.{◌≡◌, refl, sym, ap, ◌∙◌, subst}
 use mathlib.Core.List.{List}
 use lib.ListN.{length, get_or, take}
 use Rattle.removal.specs.declared.rows.Layout.{Layout}
 use Rattle.removal.specs.Slots.{slots, slot_base}
-use Rattle.removal.specs.Rows.{slots_in, Ready, Idle, flag_in, run_from, run_to}
-use Rattle.removal.specs.Patches.{NamesIn, Noted, Rowed, Patched, Collected}
+use Rattle.removal.specs.Rows.{slots_in, Ready, Idle, slot_place, flag_in, run_from, run_to}
+use Rattle.removal.specs.Patches.{NamesIn, Noted, Patched, Collected}
 use Rattle.removal.specs.Show.{EdgesMeet, RowLent, PatchedRow, RowMet, SlotRoom, SlotShown, WorkKept, RowShown, PassedTo}
-use Rattle.removal.proofs.Reaching.RowLaws.{base_up, read, words, base_read, count_read, ready_same, names_same}
+use Rattle.removal.proofs.Reaching.RowLaws.{read, base_read, count_read, place_inside, ready_same, names_same}
+use Rattle.removal.proofs.Showing.ShowTables.{seen_inside}
 use Rattle.removal.proofs.Showing.ShowSteps.{not_reached, flags_alike, meets_alike, meets_back, slot_after, meets_shown, to_next}
 
 -- where names stand is noted for the tables
-pub noted_same : (l : Layout) (s t pos : List ℕ) (c : ℕ) → take l.slots t ≡ take l.slots s → Noted l s pos c → Noted l t pos c
+noted_same : (l : Layout) (s t pos : List ℕ) (c : ℕ) → take l.slots t ≡ take l.slots s → Noted l s pos c → Noted l t pos c
 noted_same l s t pos c q n = rw q n
 
 -- the flags stay where patches are collected, and no edge is seen
 module _ (l : Layout) (s t : List ℕ) (c j k : ℕ) (r : Ready l s) (x : Collected l s t c j k) where
-  pub collected_alike : (i : ℕ) → i < l.seen → get_or t i 0 ≡ get_or s i 0
+  collected_alike : (i : ℕ) → i < l.seen → get_or t i 0 ≡ get_or s i 0
   collected_alike i h = x.below i (omega (arith, r.work.seen, r.work.cover))
 
-  pub collected_idle : Idle l s → Idle l t
+  collected_idle : Idle l s → Idle l t
   collected_idle idle q h = x.below (l.seen + q) (omega (arith, r.work.seen, r.work.cover)) ∙ idle q h
 
-  pub collected_ready : Ready l t
+  collected_ready : Ready l t
   collected_ready = ready_same l s t x.size x.tables r
 
-module _ (l : Layout) (s pos : List ℕ) (c j p0 p1 defaults : ℕ) (a : RowLent l s pos c j p0 p1 defaults) where
+module _ {l : Layout} {s pos : List ℕ} {c j p0 p1 defaults : ℕ} (a : RowLent l s pos c j p0 p1 defaults) where
+  -- the base of the copy tells where the slot's flag stands
+  flag_place : get_or s (l.base + c) 0 + j ≡ slot_place l (take l.slots s) c j
+  flag_place = omega (arith, base_read l s a.ready c (omega (arith, a.copy)))
+
+  pub flag_inside : get_or s (l.base + c) 0 + j < length s
+  flag_inside = omega (arith, flag_place, place_inside l s a.ready c j a.copy a.slot, seen_inside a.ready)
+
+  pub flag_read : get_or s (get_or s (l.base + c) 0 + j) 0 ≡ flag_in l s c j
+  flag_read = ap (λ (i : ℕ). get_or s i 0) flag_place
+
   -- the row of the empty mark has no patches
   pub row_empty : j ≡ 0 → RowMet l s s c j 0 defaults
   row_empty z =
@@ -51,22 +61,8 @@ module _ (l : Layout) (s pos : List ℕ) (c j p0 p1 defaults : ℕ) (a : RowLent
         meets = a.meets;
       })
 
-  -- any other is collected
-  pub row_rowed : (j ≡ 0 → ⊥) → Rowed l s pos c j p0 p1
-  row_rowed f =
-      record {
-        ready = a.ready;
-        idle = a.idle;
-        names = a.names;
-        noted = a.noted (omega arith);
-        copy = a.copy;
-        slot = a.slot;
-        from = a.from;
-        to = a.to;
-      }
-
-  -- and then its edges are counted
-  module _ (t : List ℕ) (k : ℕ) (x : Collected l s t c j k) where
+  -- those of any other are collected, and then its edges are counted
+  module _ {t : List ℕ} {k : ℕ} (x : Collected l s t c j k) where
     pub row_patched : PatchedRow l t c j k defaults
     row_patched =
         record {
@@ -76,21 +72,21 @@ module _ (l : Layout) (s pos : List ℕ) (c j p0 p1 defaults : ℕ) (a : RowLent
           meets = meets_alike l s t a.ready x.tables (collected_alike l s t c j k a.ready x) c 0 defaults a.copy a.meets;
         }
 
-    pub row_met : (n : ℕ) → EdgesMeet l t c j n → RowMet l s t c j k n
-    row_met n m =
+    pub row_met : {n : ℕ} → EdgesMeet l t c j n → RowMet l s t c j k n
+    row_met {n} m =
         record {
           collected = x;
           meets = meets_back l s t a.ready x.tables (collected_alike l s t c j k a.ready x) c j n a.copy m;
         }
 
   -- a slot that is not reached
-  pub row_off : (copies edges : ℕ) → edges ≤ copies * 65536 → flag_in l s c j ≡ 0 → RowShown l s s c j defaults copies edges copies edges
-  row_off copies edges few z =
-      record { shown = not_reached l s c j copies edges few z; idle = a.idle; meets = a.meets }
+  pub row_off : {copies edges : ℕ} → edges ≤ copies * 65536 → get_or s (get_or s (l.base + c) 0 + j) 0 ≡ 0 → RowShown l s s c j defaults copies edges copies edges
+  row_off {copies} {edges} few z =
+      record { shown = not_reached l s c j copies edges few (sym flag_read ∙ z); idle = a.idle; meets = a.meets }
 
   -- and one that is
-  module _ (t : List ℕ) (k n copies edges : ℕ) (x : RowMet l s t c j k n) where
-    pub row_room : (flag_in l s c j ≡ 0 → ⊥) → copies ≤ slot_base (slots_in l (take l.slots s)) c + j → edges ≤ copies * 65536
+  module _ {t : List ℕ} {k n : ℕ} (x : RowMet l s t c j k n) {copies edges : ℕ} where
+    pub row_room : (get_or s (get_or s (l.base + c) 0 + j) 0 ≡ 0 → ⊥) → copies ≤ slot_base (slots_in l (take l.slots s)) c + j → edges ≤ copies * 65536
         → SlotRoom l t c j p0 p1 copies edges × EdgesMeet l t c j n
     row_room f few_copies few_edges =
         let y = x.collected in
@@ -101,16 +97,17 @@ module _ (l : Layout) (s pos : List ℕ) (c j p0 p1 defaults : ℕ) (a : RowLent
             slot = subst (λ (p : List ℕ). j < slots (slots_in l p) c) (sym y.tables) a.slot;
             from = subst (λ (p : List ℕ). p0 ≡ run_from l p c) (sym y.tables) a.from;
             to = subst (λ (p : List ℕ). p1 ≡ run_to l p c) (sym y.tables) a.to;
-            reached = omega (arith, f, flags_alike l s t a.ready y.tables alike c j a.copy a.slot);
+            reached =
+                let g : flag_in l s c j ≡ 0 → ⊥ = λ e. f (flag_read ∙ e) in
+                omega (arith, g, flags_alike l s t a.ready y.tables alike c j a.copy a.slot);
             few_copies = subst (λ (p : List ℕ). copies ≤ slot_base (slots_in l p) c + j) (sym y.tables) few_copies;
             few_edges = few_edges;
           },
           meets_alike l s t a.ready y.tables alike c j n a.copy x.meets,
         )
 
-    pub row_shown : (u : List ℕ) (more links : ℕ) → SlotShown l t u c j copies edges more links → WorkKept l t u
-        → RowShown l s u c j defaults copies edges more links
-    row_shown u more links y w =
+    pub row_shown : {u : List ℕ} {more links : ℕ} → SlotShown l t u c j copies edges more links × WorkKept l t u → RowShown l s u c j defaults copies edges more links
+    row_shown {u} {more} {links} (y, w) =
         let z = x.collected in
         let alike = collected_alike l s t c j k a.ready z in
         record {
@@ -124,48 +121,25 @@ module _ (l : Layout) (s pos : List ℕ) (c j p0 p1 defaults : ℕ) (a : RowLent
 
 -- what is read of a copy
 pub record CopyWords (l : Layout) (s : List ℕ) (c : ℕ) : Type 0 where
-  pub into : l.into + c < length s
-  pub base : l.base + c + 1 < length s
   pub into_is : get_or s (l.into + c) 0 ≡ run_to l (take l.slots s) c
-  pub into_few : get_or s (l.into + c) 0 ≤ 65536
-  pub first_few : get_or s (l.base + c) 0 < 4294967296
-  pub next_few : get_or s (l.base + c + 1) 0 < 4294967296
   pub next_is : get_or s (l.base + c + 1) 0 ≡ get_or s (l.base + c) 0 + slots (slots_in l (take l.slots s)) c
 
-pub copy_words : (l : Layout) (s : List ℕ) (c : ℕ) → Ready l s → c < l.copies → CopyWords l s c
-copy_words l s c r h =
+pub copy_words : {l : Layout} {s : List ℕ} {c : ℕ} → Ready l s → c < l.copies → CopyWords l s c
+copy_words {l} {s} {c} r h =
     let e : l.base + c + 1 ≡ l.base + suc c = omega arith in
-    let n = ap (λ (i : ℕ). get_or s i 0) e in
-    let q = count_read l s r c h in
-    let b = base_read l s r (suc c) (omega arith) in
     let laid = r.tabled.laid in
-    let low : l.into + c < l.slots = omega (arith, laid.into, laid.start, laid.name, laid.default) in
-    let into_is = read l s r (l.into + c) low in
-    let up = slot_base_up (slots_in l (take l.slots s)) (suc c) l.copies (omega arith) in
     record {
-      into = omega (arith, low, words l s r);
-      base = omega (arith, laid.base, laid.into, laid.start, laid.name, laid.default, words l s r);
-      into_is = into_is;
-      into_few = omega (arith, into_is, r.tabled.within c h, r.tabled.few_edges);
-      first_few = omega (arith, q, b, up, r.few);
-      next_few = omega (arith, n, b, up, r.few);
-      next_is = omega (arith, n, q);
+      into_is = read l s r (l.into + c) (omega (arith, laid.into, laid.start, laid.name, laid.default));
+      next_is = ap (λ (i : ℕ). get_or s i 0) e ∙ count_read l s r c h;
     }
-  where
-    slot_base_up : (B : ℕ → ℕ) (c n : ℕ) → c ≤ n → slot_base B c ≤ slot_base B n
-    slot_base_up B c n h =
-        elim (dec_lt c n) [
-          | yes l ↦ omega (arith, base_up B c n l)
-          | no f ↦ let e : c ≡ n = omega arith in omega (arith, ap (slot_base B) e)
-        ]
 
 -- what the next row asks
-pub row_next : (l : Layout) (s t pos : List ℕ) (c j p0 p1 defaults copies edges more links : ℕ) → Ready l s → NamesIn l s (length pos)
+pub row_next : {l : Layout} {s t pos : List ℕ} {c j p0 p1 defaults copies edges more links : ℕ} → Ready l s → NamesIn l s (length pos)
     → (0 < j → Noted l s pos c) → c < l.copies → j < slots (slots_in l (take l.slots s)) c → p0 ≡ run_from l (take l.slots s) c
     → p1 ≡ run_to l (take l.slots s) c → PassedTo l s t c copies edges c j more links → Idle l t → EdgesMeet l t c 0 defaults
     → RowLent l t pos c j p0 p1 defaults × (more ≤ slot_base (slots_in l (take l.slots t)) c + j) × (links ≤ more * 65536)
-row_next l s t pos c j p0 p1 defaults copies edges more links ready names noted copy slot from to x idle meets =
-    let next = to_next l s t c copies edges c j more links x in (
+row_next {l} {s} {t} {pos} {c} {j} {p0} {p1} {defaults} {copies} {edges} {more} {links} ready names noted copy slot from to x idle meets =
+    let next = to_next x in (
       record {
         ready = ready_same l s t x.size x.tables ready;
         idle = idle;

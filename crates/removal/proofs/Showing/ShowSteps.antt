@@ -17,7 +17,7 @@ use Rattle.removal.specs.declared.rows.Layout.{Layout}
 use Rattle.removal.specs.Slots.{slots, slot_base, slot_marks}
 use Rattle.removal.specs.Rows.{slots_in, Tabled, Ready, slot_place, flag_in, run_from, run_to, edge_in}
 use Rattle.removal.specs.Show.{reached_by, shown_by, edges_to, shows, Passed, EdgesMeet, SlotRoom, SlotRule, SlotShown, WorkKept, PassedTo, AllShown}
-use Rattle.removal.proofs.Reaching.RowLaws.{base_next, slots_apart, place_inside, ready_same}
+use Rattle.removal.proofs.Reaching.RowLaws.{base_next, base_up, base_read, slots_apart, place_inside, ready_same}
 use Rattle.removal.proofs.Reaching.SlotLaws.{setting_of}
 use Rattle.removal.proofs.Showing.ShowLaws.{edges_same, shows_same, pass_start, pass_slot, pass_copy, end_rows, end_numbers, end_copies, end_edges}
 
@@ -108,22 +108,25 @@ not_reached l s c j copies edges few z =
     (λ D L G t. rule_none (flag_in l s c j) (starts_at G c || ltb 0 (edges_to G L (slot_marks D L G) (bounds_of l s) (shown_by (flag_in l s)) c j)) z)
 
 -- a slot, shown or not
-module _ (l : Layout) (s : List ℕ) (c j p0 p1 copies edges : ℕ) (room : SlotRoom l s c j p0 p1 copies edges) where
-  pub slot_place_lem : slot_place l (take l.slots s) c j < l.seen
+module _ {l : Layout} {s : List ℕ} {c j p0 p1 copies edges : ℕ} (room : SlotRoom l s c j p0 p1 copies edges) where
+  pub few_numbers : copies + 2 < 4294967296
+  few_numbers = omega (arith, room.few_copies, room.slot, room.ready.few, base_up (bounds_of l s) c l.copies room.copy)
+
+  slot_place_lem : slot_place l (take l.slots s) c j < l.seen
   slot_place_lem = place_inside l s room.ready c j room.copy room.slot
 
-  pub slot_word : slot_place l (take l.slots s) c j < length s
+  slot_word : slot_place l (take l.slots s) c j < length s
   slot_word = omega (arith, slot_place_lem, room.ready.work.seen, room.ready.work.cover, room.ready.work.patch, room.ready.work.lead, room.ready.work.comes)
 
-  pub not_shown : (n : ℕ) → EdgesMeet l s c j n → n ≡ 0 → p0 < p1 → SlotShown l s s c j copies edges copies edges
+  pub not_shown : {n : ℕ} → EdgesMeet l s c j n → n ≡ 0 → p0 < p1 → SlotShown l s s c j copies edges copies edges
   unfolding shows
-  not_shown n m z f =
+  not_shown {n} m z f =
       kept l s c j copies edges room.few_edges
       (λ D L G t.
       rule_cut (reached_by (flag_in l s) c j) (starts_at G c) (edges_to G L (slot_marks D L G) (bounds_of l s) (shown_by (flag_in l s)) c j)
       (starts_not D L G l (take l.slots s) t c room.copy (omega (arith, room.from, room.to))) (sym (m.counts D L G t) ∙ z))
 
-  pub is_shown : (n : ℕ) → EdgesMeet l s c j n → ((n ≡ 0 → ⊥) ⊎ (p1 ≤ p0))
+  is_shown : (n : ℕ) → EdgesMeet l s c j n → ((n ≡ 0) × (p1 ≤ p0)) ⊎ (n ≡ 0 → ⊥)
       → SlotShown l s (set s (slot_place l (take l.slots s) c j) (copies + 2)) c j copies edges (copies + 1) (edges + n)
   unfolding shows
   is_shown n m g =
@@ -138,17 +141,25 @@ module _ (l : Layout) (s : List ℕ) (c j p0 p1 copies edges : ℕ) (room : Slot
         meets = λ D L G t.
             rule_on G L (slot_marks D L G) B (flag_in l s) c j copies edges (get_or (set s p (copies + 2)) p 0) (copies + 1) (edges + n) n
             (⊎_elim
+            (λ (q : (n ≡ 0) × (p1 ≤ p0)).
+            rule_starts (flag_in l s c j) (edges_to G L (slot_marks D L G) B (shown_by (flag_in l s)) c j) (starts_at G c) room.reached
+            (starts_here D L G l (take l.slots s) t c room.copy (omega (arith, q.1, room.from, room.to))))
             (λ (q : n ≡ 0 → ⊥).
             rule_edges (flag_in l s c j) (edges_to G L (slot_marks D L G) B (shown_by (flag_in l s)) c j) (starts_at G c) room.reached (λ z. q (m.counts D L G t ∙ z)))
-            (λ (q : p1 ≤ p0).
-            rule_starts (flag_in l s c j) (edges_to G L (slot_marks D L G) B (shown_by (flag_in l s)) c j) (starts_at G c) room.reached
-            (starts_here D L G l (take l.slots s) t c room.copy (omega (arith, room.from, room.to))))
             g)
             (get_or-set_same s p (copies + 2) 0 slot_word) refl refl (m.counts D L G t);
       }
 
-  pub work_kept : (v : ℕ) → WorkKept l s (set s (slot_place l (take l.slots s) c j) v)
+  work_kept : (v : ℕ) → WorkKept l s (set s (slot_place l (take l.slots s) c j) v)
   work_kept v i h = get_or-set_other s (slot_place l (take l.slots s) c j) i v 0 (λ e. omega (arith, slot_place_lem))
+
+  -- the base of the copy tells where the slot's flag stands
+  pub flag_set : {n : ℕ} → EdgesMeet l s c j n → ((n ≡ 0) × (p1 ≤ p0)) ⊎ (n ≡ 0 → ⊥)
+      → SlotShown l s (set s (get_or s (l.base + c) 0 + j) (copies + 2)) c j copies edges (copies + 1) (edges + n)
+      × WorkKept l s (set s (get_or s (l.base + c) 0 + j) (copies + 2))
+  flag_set {n} m g =
+      let here : get_or s (l.base + c) 0 + j ≡ slot_place l (take l.slots s) c j = omega (arith, base_read l s room.ready c (omega (arith, room.copy))) in
+      rw here (is_shown n m g, work_kept (copies + 2))
 
 -- slots have places of their own
 apart : (l : Layout) (p : List ℕ) (c d i j : ℕ) → i < slots (slots_in l p) d → j < slots (slots_in l p) c → (d ≡ c → i ≡ j → ⊥)
@@ -214,22 +225,6 @@ module _ (l : Layout) (s t : List ℕ) (r : Ready l s) (tables : take l.slots t 
             (y.meets D L G (subst (λ (w : List ℕ). Tabled D L G l w) (sym tables) g)));
       }
 
--- and what changes in the tables of work afterwards is nothing to it
-pub slot_before : (l : Layout) (s t u : List ℕ) (c j copies edges more links : ℕ) → Ready l s → c < l.copies → j < slots (bounds_of l s) c
-    → length u ≡ length t → take l.slots u ≡ take l.slots t → ((i : ℕ) → i < l.seen → get_or u i 0 ≡ get_or t i 0)
-    → SlotShown l s t c j copies edges more links → SlotShown l s u c j copies edges more links
-slot_before l s t u c j copies edges more links r h k size tables alike y =
-    record {
-      size = size ∙ y.size;
-      tables = tables ∙ y.tables;
-      others = λ i a f. alike i a ∙ y.others i a f;
-      few_copies = y.few_copies;
-      few_edges = y.few_edges;
-      meets = λ D L G g.
-          subst (λ (v : ℕ). SlotRule G L (slot_marks D L G) (bounds_of l s) (flag_in l s) v c j copies edges more links)
-          (sym (alike (slot_place l (take l.slots s) c j) (place_inside l s r c j h k))) (y.meets D L G g);
-    }
-
 -- what comes to a slot of the copy is the same after one of its slots is shown or not
 module _ (l : Layout) (s t : List ℕ) (c j copies edges more links : ℕ) (r : Ready l s) (copy : c < l.copies) (slot : j < slots (bounds_of l s) c)
     (y : SlotShown l s t c j copies edges more links) where
@@ -241,73 +236,52 @@ module _ (l : Layout) (s t : List ℕ) (c j copies edges more links : ℕ) (r : 
   pub meets_shown : (i n : ℕ) → EdgesMeet l s c i n → EdgesMeet l t c i n
   meets_shown i n m = meets_same l s t c i n y.tables (λ d i a b. flags_other d i (omega arith) b (λ p q. omega arith)) m
 
-module _ (l : Layout) (s : List ℕ) where
-  pub to_start : (c copies edges : ℕ) → copies ≤ slot_base (bounds_of l s) c → edges ≤ copies * 65536
-      → PassedTo l s s c copies edges c 0 copies edges
-  to_start c copies edges h k =
-      record { size = refl; tables = refl; few_copies = omega arith; few_edges = k; meets = λ D L G t first p. p }
+module _ {l : Layout} {s t : List ℕ} {c copies edges : ℕ} where
+  -- one slot more
+  pub to_slot : {u : List ℕ} {j more links most all : ℕ} → Ready l s → c < l.copies → j < slots (bounds_of l s) c
+      → PassedTo l s t c copies edges c j more links
+      → SlotShown l t u c j more links most all
+      → PassedTo l s u c copies edges c (j + 1) most all
+  to_slot {u} {j} {more} {links} {most} {all} ready inside slot x y =
+      let here : j < slots (bounds_of l t) c = subst (λ (p : List ℕ). j < slots (slots_in l p) c) (sym x.tables) slot in
+      record {
+        size = y.size ∙ x.size;
+        tables = y.tables ∙ x.tables;
+        few_copies = omega (arith, x.few_copies, y.few_copies);
+        few_edges = y.few_edges;
+        meets = λ D L G g first p.
+            let h : Tabled D L G l (take l.slots t) = subst (λ (w : List ℕ). Tabled D L G l w) (sym x.tables) g in
+            let n : suc j ≡ j + 1 = omega arith in
+            let z : Passed G L (slot_marks D L G) (bounds_of l t) first (flag_in l t) c j more links =
+            subst (λ (w : List ℕ). Passed G L (slot_marks D L G) (slots_in l w) first (flag_in l t) c j more links) (sym x.tables) (x.meets D L G g first p) in
+            let rule = y.meets D L G h in
+            subst (λ (w : List ℕ). Passed G L (slot_marks D L G) (slots_in l w) first (flag_in l u) c (j + 1) most all) x.tables
+            (subst (λ (k : ℕ). Passed G L (slot_marks D L G) (bounds_of l t) first (flag_in l u) c k most all) n
+            (pass_slot D G L (slot_marks D L G) (bounds_of l t) (setting_of D L G l (take l.slots t) h) first (flag_in l t) (flag_in l u) c j more links
+            (omega (arith, g.copies)) here z most all
+            (λ d i a b f. flags_other l t u c j more links most all (ready_same l s t x.size x.tables ready) inside here y d i (omega (arith, a, g.copies)) b f)
+            (ap (λ (w : List ℕ). get_or u (slot_place l w c j) 0) y.tables ∙ rule.flag_is)
+            rule.more_is rule.links_is));
+      }
 
-  module _ (t u : List ℕ) (c copies edges : ℕ) where
-    -- one slot more
-    pub to_slot : (j more links most all : ℕ) → Ready l s → c < l.copies → j < slots (bounds_of l s) c
-        → PassedTo l s t c copies edges c j more links
-        → SlotShown l t u c j more links most all
-        → PassedTo l s u c copies edges c (j + 1) most all
-    to_slot j more links most all ready inside slot x y =
-        let here : j < slots (bounds_of l t) c = subst (λ (p : List ℕ). j < slots (slots_in l p) c) (sym x.tables) slot in
-        record {
-          size = y.size ∙ x.size;
-          tables = y.tables ∙ x.tables;
-          few_copies = omega (arith, x.few_copies, y.few_copies);
-          few_edges = y.few_edges;
-          meets = λ D L G g first p.
-              let h : Tabled D L G l (take l.slots t) = subst (λ (w : List ℕ). Tabled D L G l w) (sym x.tables) g in
-              let n : suc j ≡ j + 1 = omega arith in
-              let z : Passed G L (slot_marks D L G) (bounds_of l t) first (flag_in l t) c j more links =
-              subst (λ (w : List ℕ). Passed G L (slot_marks D L G) (slots_in l w) first (flag_in l t) c j more links) (sym x.tables) (x.meets D L G g first p) in
-              let rule = y.meets D L G h in
-              subst (λ (w : List ℕ). Passed G L (slot_marks D L G) (slots_in l w) first (flag_in l u) c (j + 1) most all) x.tables
-              (subst (λ (k : ℕ). Passed G L (slot_marks D L G) (bounds_of l t) first (flag_in l u) c k most all) n
-              (pass_slot D G L (slot_marks D L G) (bounds_of l t) (setting_of D L G l (take l.slots t) h) first (flag_in l t) (flag_in l u) c j more links
-              (omega (arith, g.copies)) here z most all
-              (λ d i a b f. flags_other l t u c j more links most all (ready_same l s t x.size x.tables ready) inside here y d i (omega (arith, a, g.copies)) b f)
-              (ap (λ (w : List ℕ). get_or u (slot_place l w c j) 0) y.tables ∙ rule.flag_is)
-              rule.more_is rule.links_is));
-        }
-
-    -- one copy more
-    pub to_copy : (j more links : ℕ) → j ≡ slots (bounds_of l s) c → PassedTo l s t c copies edges c j more links
-        → PassedTo l s t c copies edges (c + 1) 0 more links
-    to_copy j more links e x =
-        let n : suc c ≡ c + 1 = omega arith in
-        record {
-          size = x.size;
-          tables = x.tables;
-          few_copies = omega (arith, x.few_copies, base_next (bounds_of l s) c, ap (slot_base (bounds_of l s)) n);
-          few_edges = x.few_edges;
-          meets = λ D L G g first p.
-              subst (λ (k : ℕ). Passed G L (slot_marks D L G) (bounds_of l s) first (flag_in l t) k 0 more links) n
-              (pass_copy D G L (slot_marks D L G) (bounds_of l s) (setting_of D L G l (take l.slots s) g) first (flag_in l t) c more links
-              (subst (λ (k : ℕ). Passed G L (slot_marks D L G) (bounds_of l s) first (flag_in l t) c k more links) e (x.meets D L G g first p)));
-        }
-
-    -- and on from there
-    pub to_more : (d more links b most all : ℕ) → PassedTo l s t c copies edges d 0 more links → PassedTo l t u d more links b 0 most all
-        → PassedTo l s u c copies edges b 0 most all
-    to_more d more links b most all x y =
-        record {
-          size = y.size ∙ x.size;
-          tables = y.tables ∙ x.tables;
-          few_copies = subst (λ (p : List ℕ). most ≤ slot_base (slots_in l p) b + 0) x.tables y.few_copies;
-          few_edges = y.few_edges;
-          meets = λ D L G g first p.
-              subst (λ (w : List ℕ). Passed G L (slot_marks D L G) (slots_in l w) first (flag_in l u) b 0 most all) x.tables
-              (y.meets D L G (subst (λ (w : List ℕ). Tabled D L G l w) (sym x.tables) g) first
-              (subst (λ (w : List ℕ). Passed G L (slot_marks D L G) (slots_in l w) first (flag_in l t) d 0 more links) (sym x.tables) (x.meets D L G g first p)));
-        }
+  -- one copy more
+  pub to_copy : {j more links : ℕ} → j ≡ slots (bounds_of l s) c → PassedTo l s t c copies edges c j more links
+      → PassedTo l s t c copies edges (c + 1) 0 more links
+  to_copy {j} {more} {links} e x =
+      let n : suc c ≡ c + 1 = omega arith in
+      record {
+        size = x.size;
+        tables = x.tables;
+        few_copies = omega (arith, x.few_copies, base_next (bounds_of l s) c, ap (slot_base (bounds_of l s)) n);
+        few_edges = x.few_edges;
+        meets = λ D L G g first p.
+            subst (λ (k : ℕ). Passed G L (slot_marks D L G) (bounds_of l s) first (flag_in l t) k 0 more links) n
+            (pass_copy D G L (slot_marks D L G) (bounds_of l s) (setting_of D L G l (take l.slots s) g) first (flag_in l t) c more links
+            (subst (λ (k : ℕ). Passed G L (slot_marks D L G) (bounds_of l s) first (flag_in l t) c k more links) e (x.meets D L G g first p)));
+      }
 
 -- at the end
-module _ (l : Layout) (s t : List ℕ) (c copies edges : ℕ) (e : c ≡ l.copies) (x : PassedTo l s t 0 0 0 c 0 copies edges) where
+module _ {l : Layout} {s t : List ℕ} {c copies edges : ℕ} (e : c ≡ l.copies) (x : PassedTo l s t 0 0 0 c 0 copies edges) where
   abbrev LowFlags : Type 0
   LowFlags = (c j : ℕ) → c < l.copies → j < slots (bounds_of l s) c → flag_in l s c j ≤ 1
 
@@ -344,9 +318,6 @@ module _ (l : Layout) (s t : List ℕ) (c copies edges : ℕ) (e : c ≡ l.copie
       }
 
 -- what the next slot and the next copy ask
-module _ (l : Layout) (s t : List ℕ) (c copies edges d j more links : ℕ) (x : PassedTo l s t c copies edges d j more links) where
-  pub to_ready : Ready l s → Ready l t
-  to_ready r = ready_same l s t x.size x.tables r
-
+module _ {l : Layout} {s t : List ℕ} {c copies edges d j more links : ℕ} (x : PassedTo l s t c copies edges d j more links) where
   pub to_next : (more ≤ slot_base (bounds_of l t) d + j) × (links ≤ more * 65536)
   to_next = (subst (λ (p : List ℕ). more ≤ slot_base (slots_in l p) d + j) (sym x.tables) x.few_copies, x.few_edges)

@@ -154,46 +154,53 @@ module _ (D : Design) (L : PathList) (G : Graph) (l : Layout) (s : List ℕ) (t 
       (λ i h. ap (shown_at s) (x.leads D L G t i h))
       (λ none. ap (shown_at s) (x.rest D L G t q (in_run q a b) none))))
 
-module _ (l : Layout) (s : List ℕ) (r : Ready l s) (c : ℕ) (copy : c < l.copies) where
+-- all flags lie in the scratch
+pub seen_inside : {l : Layout} {s : List ℕ} → Ready l s → l.seen ≤ length s
+seen_inside r = omega (arith, r.work.seen, r.work.cover, r.work.patch, r.work.lead, r.work.comes)
+
+module _ {l : Layout} {s : List ℕ} (r : Ready l s) {c : ℕ} (copy : c < l.copies) where
   -- no more than there are edges
-  pub few_run : (f : ℕ → Bool) → count_of f (run l (take l.slots s) c) ≤ l.edges
+  few_run : (f : ℕ → Bool) → count_of f (run l (take l.slots s) c) ≤ l.edges
   few_run f =
       let p = take l.slots s in
       omega (arith, count_few f (run_to l p c - run_from l p c) (run_from l p c), r.tabled.within c copy)
 
-  pub default_meets : (n : ℕ) → n ≡ count_of (default_test l s) (run l (take l.slots s) c) → EdgesMeet l s c 0 n
+  default_meets : (n : ℕ) → n ≡ count_of (default_test l s) (run l (take l.slots s) c) → EdgesMeet l s c 0 n
   default_meets n e =
       record {
         few = omega (arith, few_run (default_test l s));
         counts = λ D L G t. e ∙ sym (edges_default D L G l s t c copy);
       }
 
-  pub default_end : (p0 p1 q n : ℕ) → p0 ≡ run_from l (take l.slots s) c → p1 ≡ run_to l (take l.slots s) c → q ≡ p1
+  pub default_end : {p0 p1 q n : ℕ} → p0 ≡ run_from l (take l.slots s) c → p1 ≡ run_to l (take l.slots s) c → q ≡ p1
       → n ≡ count_of (default_test l s) (upto (q - p0) p0) → EdgesMeet l s c 0 n
-  default_end p0 p1 q n from to e count =
+  default_end {p0} {p1} {q} {n} from to e count =
       let p = take l.slots s in
       let z : q - p0 ≡ run_to l p c - run_from l p c = omega arith in
       default_meets n (count ∙ ap₂ (λ (k i : ℕ). count_of (default_test l s) (upto k i)) z from)
 
-  pub meets_default : (n : ℕ) → EdgesMeet l s c 0 n → n ≡ count_of (default_test l s) (run l (take l.slots s) c)
+  meets_default : (n : ℕ) → EdgesMeet l s c 0 n → n ≡ count_of (default_test l s) (run l (take l.slots s) c)
   meets_default n m = m.counts r.design r.list r.graph r.tabled ∙ edges_default r.design r.list r.graph l s r.tabled c copy
 
-  pub patched_meets : (j k n : ℕ) → Patched l (take l.slots s) s c j k → n ≡ count_of (patched_test l s k) (run l (take l.slots s) c) → EdgesMeet l s c j n
+  patched_meets : (j k n : ℕ) → Patched l (take l.slots s) s c j k → n ≡ count_of (patched_test l s k) (run l (take l.slots s) c) → EdgesMeet l s c j n
   patched_meets j k n x e =
       record {
         few = omega (arith, few_run (patched_test l s k));
         counts = λ D L G t. e ∙ sym (edges_patched D L G l s t c copy j k x);
       }
 
+  pub run_edge : {p0 p1 q : ℕ} → p0 ≡ run_from l (take l.slots s) c → p1 ≡ run_to l (take l.slots s) c → p0 ≤ q → q < p1 → InRun l (take l.slots s) c q
+  run_edge from to h k = record { from = omega arith; to = omega arith }
+
   -- a turn over the defaults: the words that it reads, and the count
-  module _ (q : ℕ) (edge : InRun l (take l.slots s) c q) where
-    pub default_word : l.default + q < l.slots
+  module _ {q : ℕ} (edge : InRun l (take l.slots s) c q) where
+    default_word : l.default + q < l.slots
     default_word = omega (arith, edge.to, r.tabled.within c copy, r.tabled.laid.default)
 
-    pub default_read : get_or s (l.default + q) 0 ≡ default_in l (take l.slots s) q
+    default_read : get_or s (l.default + q) 0 ≡ default_in l (take l.slots s) q
     default_read = read l s r (l.default + q) default_word
 
-    pub default_place : get_or s (l.default + q) 0 < l.seen
+    default_place : get_or s (l.default + q) 0 < l.seen
     default_place =
         omega (
           arith,
@@ -202,51 +209,41 @@ module _ (l : Layout) (s : List ℕ) (r : Ready l s) (c : ℕ) (copy : c < l.cop
           target_below r.design r.list r.graph l s r.tabled c q 0 copy edge r,
         )
 
-  -- all words of work lie in the scratch
-  pub work_words : (l.seen ≤ length s) × (l.slots ≤ l.seen) × (l.patch + l.edges ≤ length s) × (l.lead + l.edges ≤ length s)
-  work_words = (
-    omega (arith, r.work.seen, r.work.cover, r.work.patch, r.work.lead, r.work.comes),
-    omega (arith, r.work.slots),
-    omega (arith, r.work.patch, r.work.lead, r.work.comes),
-    omega (arith, r.work.lead, r.work.comes),
-  )
+    pub default_inside : get_or s (l.default + q) 0 < length s
+    default_inside = omega (arith, default_place, seen_inside r)
 
-pub record PatchWords (l : Layout) (s : List ℕ) (i : ℕ) : Type 0 where
-  pub patch : l.patch + i < length s
-  pub default : l.default + patch_at l s i < length s
-  pub default_place : get_or s (l.default + patch_at l s i) 0 < length s
-  pub lead : l.lead + i < length s
-  pub lead_place : lead_at l s i < length s
+    pub default_turn : {p0 n : ℕ} → p0 ≤ q → n ≡ count_of (default_test l s) (upto (q - p0) p0)
+        → n + one_if (shown_at s (get_or s (l.default + q) 0)) ≡ count_of (default_test l s) (upto (q + 1 - p0) p0)
+    default_turn {p0} h e = omega (arith, turn_next (default_test l s) p0 q h, ap (λ (z : ℕ). one_if (shown_at s z)) default_read)
+
+    pub default_few : {p0 n : ℕ} → p0 ≤ q → n ≡ count_of (default_test l s) (upto (q - p0) p0) → n + one_if (shown_at s (get_or s (l.default + q) 0)) ≤ 65536
+    default_few {p0} h e =
+        omega (arith, default_turn h e, count_few (default_test l s) (q + 1 - p0) p0, edge.to, r.tabled.within c copy, r.tabled.few_edges)
 
 -- a turn over the patches
-module _ (l : Layout) (s : List ℕ) (c j k defaults : ℕ) (x : PatchedRow l s c j k defaults) where
-  pub few_patches : k ≤ l.edges
-  few_patches = omega (arith, x.patched.few, x.ready.tabled.within c x.copy)
-
+module _ {l : Layout} {s : List ℕ} {c j k defaults : ℕ} (x : PatchedRow l s c j k defaults) where
   pub patch_start : defaults ≡ count_of (patched_test l s 0) (run l (take l.slots s) c)
-  patch_start = meets_default l s x.ready c x.copy defaults x.meets
+  patch_start = meets_default x.ready x.copy defaults x.meets
 
-  module _ (i : ℕ) (h : i < k) where
-    pub patch_words : PatchWords l s i
-    patch_words =
-        let e = x.patched.edges i h in
-        let w = work_words l s x.ready c x.copy in
-        record {
-          patch = omega (arith, few_patches);
-          default = omega (arith, default_word l s x.ready c x.copy (patch_at l s i) e);
-          default_place = omega (arith, default_place l s x.ready c x.copy (patch_at l s i) e);
-          lead = omega (arith, few_patches);
-          lead_place =
-              omega (
-                arith,
-                x.patched.leads x.ready.design x.ready.list x.ready.graph x.ready.tabled i h,
-                target_below x.ready.design x.ready.list x.ready.graph l s x.ready.tabled c (patch_at l s i) j x.copy e x.ready,
-              );
-        }
+  pub patch_few : (i : ℕ) {n : ℕ} → n ≡ count_of (patched_test l s i) (run l (take l.slots s) c) → n ≤ 65536
+  patch_few i e = omega (arith, few_run x.ready x.copy (patched_test l s i), x.ready.tabled.few_edges)
 
-    pub patch_turn : (count : ℕ) → count ≡ count_of (patched_test l s i) (run l (take l.slots s) c)
+  module _ {i : ℕ} (h : i < k) where
+    pub patch_default : get_or s (l.default + patch_at l s i) 0 < length s
+    patch_default = default_inside x.ready x.copy (x.patched.edges i h)
+
+    pub patch_lead : lead_at l s i < length s
+    patch_lead =
+        omega (
+          arith,
+          seen_inside x.ready,
+          x.patched.leads x.ready.design x.ready.list x.ready.graph x.ready.tabled i h,
+          target_below x.ready.design x.ready.list x.ready.graph l s x.ready.tabled c (patch_at l s i) j x.copy (x.patched.edges i h) x.ready,
+        )
+
+    pub patch_turn : {count : ℕ} → count ≡ count_of (patched_test l s i) (run l (take l.slots s) c)
         → count_of (patched_test l s (i + 1)) (run l (take l.slots s) c) + one_if (shown_at s (get_or s (l.default + patch_at l s i) 0)) ≡ count + one_if (shown_at s (lead_at l s i))
-    patch_turn count e =
+    patch_turn e =
         let p = take l.slots s in
         let d = x.patched.edges i h in
         let n : i + 1 ≡ suc i = omega arith in
@@ -255,9 +252,9 @@ module _ (l : Layout) (s : List ℕ) (c j k defaults : ℕ) (x : PatchedRow l s 
           patch_next (default_test l s) (patch_at l s) (lead_test l s) (run_to l p c - run_from l p c) (run_from l p c) i d.from (omega (arith, d.from, d.to))
               (λ a b. x.patched.apart a i b h),
           ap (λ (z : ℕ). count_of (patched_test l s z) (run l p c)) n,
-          ap (λ (z : ℕ). one_if (shown_at s z)) (default_read l s x.ready c x.copy (patch_at l s i) d),
+          ap (λ (z : ℕ). one_if (shown_at s z)) (default_read x.ready x.copy d),
         )
 
-  pub patch_end : (i n : ℕ) → i ≡ k → n ≡ count_of (patched_test l s i) (run l (take l.slots s) c) → EdgesMeet l s c j n
-  patch_end i n e q =
-      patched_meets l s x.ready c x.copy j k n x.patched (q ∙ ap (λ (z : ℕ). count_of (patched_test l s z) (run l (take l.slots s) c)) e)
+  pub patch_end : {i n : ℕ} → i ≡ k → n ≡ count_of (patched_test l s i) (run l (take l.slots s) c) → EdgesMeet l s c j n
+  patch_end {i} {n} e q =
+      patched_meets x.ready x.copy j k n x.patched (q ∙ ap (λ (z : ℕ). count_of (patched_test l s z) (run l (take l.slots s) c)) e)

@@ -1,10 +1,8 @@
--- `write_full` meets its contract. The invariant: the edges of the row before q are written, and each of them comes from a shown slot.
-use Prim.Native.Nat.{◌-◌, ◌≤◌}
+-- `write_full` meets its contract. The invariant: the first i edges of the row are written.
+use Prim.Native.Nat.{◌+◌}
 use Rattle.removal.proofs.Filling.FlagRows.{RowSoFar}
 use Rattle.removal.proofs.fill.write_full.Given as goal
 
-abbrev pub invariant-loop-q : goal.invariant-loop-q
-invariant-loop-q l = RowSoFar l.l l.scratch l.p0 l.number l.initial.room_from l.initial.room_to l.initial.room_via l.room_from l.room_to l.room_via l.k l.at l.q × (l.p0 ≤ l.q) × (l.q ≤ l.p1)
-
-abbrev pub decreases-loop-q : goal.decreases-loop-q
-decreases-loop-q l = l.p1 - l.q
+abbrev pub invariant-loop-i : goal.invariant-loop-i
+invariant-loop-i l =
+    RowSoFar l.l l.scratch l.p0 l.number l.initial.room_from l.initial.room_to l.initial.room_via l.room_from l.room_to l.room_via l.k (l.k + l.i) (l.p0 + l.i)

@@ -1,10 +1,6 @@
--- The invariant: the flags before i are 0 or 1, and nothing else has changed. The measure is how many flags are left.
-use Prim.Native.Nat.{◌-◌, ◌≤◌}
+-- The invariant: the flags before the one at hand are 0 or 1, and those from it on are as they were.
 use Rattle.removal.proofs.Showing.ResetLaws.{Resetting}
 use Rattle.removal.proofs.show.reset_flags.Given as goal
 
-abbrev pub invariant-loop-i : goal.invariant-loop-i
-invariant-loop-i l = (l.initial.i ≤ l.i) × (l.i ≤ l.end) × Resetting l.initial.scratch l.scratch l.initial.i l.i
-
-abbrev pub decreases-loop-i : goal.decreases-loop-i
-decreases-loop-i l = l.end - l.i
+abbrev pub invariant-loop-flag : goal.invariant-loop-flag
+invariant-loop-flag l = Resetting l.initial.flag-items l.flag-items l.flag-index

@@ -1,14 +1,7 @@
--- The invariant: the pass has come to copy c, and no row is at hand. The measure is how many copies are left.
-use Prim.Native.Nat.{◌-◌, ◌≤◌}
-use mathlib.Core.Path.{◌≡◌}
-use lib.ListN.{length}
+-- The invariant: the pass has come to copy c, and no row is at hand.
 use Rattle.removal.specs.Rows.{Idle}
 use Rattle.removal.specs.Show.{PassedTo}
 use Rattle.removal.proofs.show.show_all.Given as goal
 
 abbrev pub invariant-loop-c : goal.invariant-loop-c
-invariant-loop-c l =
-    (l.c ≤ l.l.copies) × PassedTo l.l l.initial.scratch l.scratch 0 0 0 l.c 0 l.counts.copies l.counts.edges × Idle l.l l.scratch × (length l.pos ≡ length l.initial.pos)
-
-abbrev pub decreases-loop-c : goal.decreases-loop-c
-decreases-loop-c l = l.l.copies - l.c
+invariant-loop-c l = PassedTo l.l l.initial.scratch l.scratch 0 0 0 l.c 0 l.counts.copies l.counts.edges × Idle l.l l.scratch

@@ -1,12 +1,9 @@
--- The invariant: count is how many edges before q come from shown slots at their defaults. The measure is how many are left.
-use Prim.Native.Nat.{◌-◌, ◌≤◌}
+-- The invariant: count is how many edges before q come from shown slots at their defaults.
+use Prim.Native.Nat.{◌-◌}
 use mathlib.Core.Path.{◌≡◌}
 use Rattle.timing.specs.Lists.{count_of, upto}
 use Rattle.removal.proofs.Showing.ShowTables.{default_test}
 use Rattle.removal.proofs.show.shown_defaults.Given as goal
 
 abbrev pub invariant-loop-q : goal.invariant-loop-q
-invariant-loop-q l = (l.p0 ≤ l.q) × (l.q ≤ l.p1) × (l.count ≡ count_of (default_test l.l l.scratch) (upto (l.q - l.p0) l.p0))
-
-abbrev pub decreases-loop-q : goal.decreases-loop-q
-decreases-loop-q l = l.p1 - l.q
+invariant-loop-q l = l.count ≡ count_of (default_test l.l l.scratch) (upto (l.q - l.p0) l.p0)
