@@ -4,7 +4,7 @@
 // belong together, and a long one takes few bytes.
 #![tactic(auto)]
 
-ghost use Rattle.std.specs.Prelude.{◌+◌, ◌-◌, min, ◌≡◌, map, length, take};
+ghost use Rattle.std.specs.Prelude.{min, ◌≡◌, map, length, take};
 ghost use Rattle.std.proofs.lemmas.List.Edits.{sets};
 ghost use Rattle.timing.specs.Delays.{delay_of};
 ghost use Rattle.cases.specs.Slices.{step_value, step_next, Filled, IsSlice, IsRising};
@@ -21,17 +21,6 @@ pub struct Slice {
     pub next: usize,
 }
 
-// The number above another by a rise, or the largest where the sum would not fit.
-fn raised(value: u32, rise: u32) -> u32
-    ensures { result ≡ min (value + rise) 4294967295 }
-{
-    if rise <= 4294967295 - value {
-        value + rise
-    } else {
-        4294967295
-    }
-}
-
 // The next stored number, or where none is left the one above the value.
 fn step(s: &[u8], rise: u32, left: usize, value: u32, next: usize) -> Taken
     ensures { (result.value ≡ step_value s.now rise left value next)
@@ -39,18 +28,12 @@ fn step(s: &[u8], rise: u32, left: usize, value: u32, next: usize) -> Taken
 {
     if left == 0 {
         Taken {
-            value: raised(value, rise),
+            value: value.saturating_add(rise),
             next,
         }
     } else {
         take_number(s, next)
     }
-}
-
-fn less_one(left: usize) -> usize
-    ensures { result ≡ left - 1 }
-{
-    if left == 0 { 0 } else { left - 1 }
 }
 
 // The stored numbers at a place, and more behind them.
@@ -61,14 +44,12 @@ fn fill_from(s: &[u8], at: usize, stored: u32, more: u32, rise: u32, table: &mut
     let len = least(left + more as usize, table.len());
     let mut next = at;
     let mut value: u32 = 0;
-    let mut k = 0;
-    while k < len {
+    for k in 0..len {
         let x = step(s, rise, left, value, next);
         value = x.value;
         next = x.next;
-        left = less_one(left);
+        left = left.saturating_sub(1);
         table[k] = value;
-        k += 1;
     }
     Slice { len, next }
 }
@@ -98,9 +79,7 @@ pub fn unpack(codes: &[u32], delays: &mut [i32])
         delays.new ≡ sets delays.old 0 (map delay_of (take len codes.now)) }
 {
     let len = least(codes.len(), delays.len());
-    let mut i = 0;
-    while i < len {
+    for i in 0..len {
         delays[i] = unpack_delay(codes[i]);
-        i += 1;
     }
 }

@@ -7,16 +7,16 @@ use mathlib.Core.Path.{◌≡◌, refl, sym, ◌∙◌, ap}
 use mathlib.Core.Logic.{⊎_elim}
 use mathlib.Core.Bool.{Bool, true, false, not, ◌&&◌, ◌||◌}
 use mathlib.Core.List.{List, [], ◌∷◌, ◌++◌}
-use lib.Dec.{T, eqb, ltb, leb, eqb→eq, ltb→lt, eqb_refl}
+use lib.Dec.{T, eqb, ltb, eqb→eq, ltb→lt, eqb_refl}
 use lib.ListN.{length, get_or}
 use borrow.Author.Count.{below_more}
 use borrow.Author.Tests.{ltb-true, eqb-false}
 use Rattle.timing.specs.Lists.{one_if, count_of, upto}
 use Rattle.timing.proofs.Verdicts.{both_true}
-use Rattle.theorems.proofs.Lists.{and_intro, and_left, or_cases, holds, fails, mem_upto, length_upto}
+use Rattle.theorems.proofs.Lists.{and_intro, and_left, or_cases, holds, mem_upto, length_upto}
 use Rattle.theorems.proofs.Counting.{count_cons, count_append, count_positive, count_all}
 use Rattle.theorems.proofs.Splits.{upto_next}
-use Rattle.graph.specs.Passes.{stands, rises_at, Ordered, turns, Matches, end_fits, end_rises, copy_ends}
+use Rattle.graph.specs.Passes.{stands, rises_at, Ordered, turns, Matches}
 use Rattle.graph.proofs.Walk.{any_at, at_any}
 
 -- how many pass a test, by those that pass a narrower one
@@ -31,30 +31,12 @@ count_split p q f [] = refl
 count_split p q f (x ∷ l) =
     omega (arith, count_cons q x l, count_cons p x l, count_cons (λ x. q x && not (p x)) x l, one_split (p x) (q x) (f x), count_split p q f l)
 
-pub and_true : (a : Bool) → (a && true) ≡ a
-and_true true = refl
-and_true false = refl
-
 -- one place more
 pub count_next : (p : ℕ → Bool) (n : ℕ) → count_of p (upto (n + 1) 0) ≡ count_of p (upto n 0) + one_if (p n)
 count_next p n =
     let z : 0 + n ≡ n = omega arith in
     let e : upto (n + 1) 0 ≡ upto n 0 ++ (n ∷ []) = rw (add-one n) (upto_next n 0 ∙ ap (λ (k : ℕ). upto n 0 ++ (k ∷ [])) z) in
     omega (arith, ap (count_of p) e, count_append p (upto n 0) (n ∷ []), count_cons p n [])
-
--- a copy that passes is of a node
-first_of : (a b c d e : Bool) → (a && b && c && d && e) ≡ true → a ≡ true
-first_of true b c d e t = refl
-first_of false b c d e t = t
-
-pub copy_node : (n : ℕ) (nodes endpoint : List ℕ) (node_out marked copy_out : ℕ → Bool) (lowest c : ℕ) → copy_ends n nodes endpoint node_out marked copy_out lowest c ≡ true → get_or nodes c 0 < n
-copy_node n nodes endpoint node_out marked copy_out lowest c e =
-    let v = get_or nodes c 0 in
-    let end = eqb (get_or endpoint c 0) 1 in
-    ltb-true v n (first_of (ltb v n) (leb (length nodes) (c + 1) || leb v (get_or nodes (c + 1) 0)) true (end_fits end (node_out v) (marked v) (copy_out c)) (end_rises end lowest v) e)
-
-pub never : false ≡ true → ⊥
-never e = fails true (sym e) tt
 
 not_here : (b : Bool) → (T b → ⊥) → T (not b)
 not_here true f = f tt
@@ -65,14 +47,6 @@ here_not true f = tt
 here_not false f = f tt
 
 module _ (copies known : ℕ) (from to via : List ℕ) where
-  pub ordered_none : Ordered copies known from to via 0
-  ordered_none = record {
-    starts = λ j l. absurd (omega arith);
-    ends = λ j l. absurd (omega arith);
-    names = λ j l. absurd (omega arith);
-    rise = λ j l. absurd (omega arith);
-  }
-
   -- one edge more
   pub ordered_more : (i : ℕ) → Ordered copies known from to via i → (ltb (get_or from i 0) copies && ltb (get_or to i 0) copies && ltb (get_or via i 0) known) ≡ true → T (rises_at from to via i) → Ordered copies known from to via (i + 1)
   ordered_more i o e r =

@@ -38,13 +38,11 @@ fn ends_counted(copies: u32, names: u32, from: &[u32], to: &[u32], via: &[u32]) 
 {
     let mut pass = in_range(copies, names, from[0], to[0], via[0]);
     let mut count = 1;
-    let mut i = 1;
-    while i < from.len() {
+    for i in 1..from.len() {
         let last = i - 1;
         let ordered = comes_before(to[last], via[last], to[i], via[i]);
-        pass = pass & in_range(copies, names, from[i], to[i], via[i]) & ordered;
+        pass &= in_range(copies, names, from[i], to[i], via[i]) & ordered;
         count += one_unless(to[last] == to[i]);
-        i += 1;
     }
     if pass { count } else { 0 }
 }
@@ -68,8 +66,7 @@ fn edges_match(
         from.now to.now via.now j)
         × FlagsSet cout.old from.now m cout.new) }
 {
-    let mut i = 0;
-    while i < from.len() {
+    for i in 0..from.len() {
         let s = wide(from[i]);
         let t = wide(to[i]);
         let k = wide(via[i]);
@@ -80,7 +77,6 @@ fn edges_match(
             return false;
         }
         cout[s] = true;
-        i += 1;
     }
     true
 }
@@ -138,17 +134,15 @@ fn copies_end(
         (result ≡ true → (walked passes (lowest_after nodes.now endpoint.now) copies 0 0 ≡ true)
         × (sources + entered ≡ copies)) }
 {
-    let mut c = 0;
     let mut lowest = 0;
     let mut sources = 0;
-    while c < nodes.len() {
+    for c in 0..nodes.len() {
         if !copy_ends(n, nodes, endpoint, nout, nmarked, cout, lowest, c) {
             return false;
         }
         let v = wide(nodes[c]);
         sources += one_unless(nin[v]);
         lowest = lowest_after(nodes, endpoint, lowest, c);
-        c += 1;
     }
     wide(sources) + wide(entered) == nodes.len()
 }
@@ -322,10 +316,8 @@ pub(crate) fn all_pass(
     if from.len() == 0 {
         return false;
     }
-    if n <= 1024 {
-        if nodes.len() <= 1024 {
-            return small_passes(n, starts, ends, marked, nodes, endpoint, from, to, via);
-        }
+    if n <= 1024 && nodes.len() <= 1024 {
+        return small_passes(n, starts, ends, marked, nodes, endpoint, from, to, via);
     }
     large_passes(n, starts, ends, marked, nodes, endpoint, from, to, via)
 }

@@ -11,11 +11,7 @@ use extremes::larger;
 fn ends_at(to: &[u32], k: usize, c: usize) -> bool
     ensures { result ≡ ends_here to.now k c }
 {
-    if k < to.len() {
-        wide(to[k]) == c
-    } else {
-        false
-    }
+    k < to.len() && wide(to[k]) == c
 }
 
 // A time and a delay: the sum of 64 bits is that of ℤ.

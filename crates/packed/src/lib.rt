@@ -89,7 +89,7 @@ fn put_groups(room: &mut [u8], at: usize, x: u32) -> usize
     let mut v = x;
     while 128 <= v {
         room[next] = (v % 128 + 128) as u8;
-        v = v / 128;
+        v /= 128;
         next += 1;
     }
     room[next] = v as u8;

@@ -2,10 +2,10 @@
 use Prim.Native.Nat.{ℕ, suc, ◌+◌, ◌*◌, ◌≤◌, ◌<◌}
 use native.Mathlib.Omega.{arith}
 use native.Mathlib.Numerals.{add-one}
-use mathlib.Core.Path.{◌≡◌, refl, sym, ◌∙◌, ap}
+use mathlib.Core.Path.{◌≡◌, refl, sym}
 use mathlib.Core.List.{List, [], ◌∷◌, ◌++◌, flat_map, append_assoc}
-use lib.ListN.{length, get_or, take, drop, length-append, take-append-drop, drop_of_length-le}
-use lib.Seq.{drop-cons, drop-drop}
+use lib.ListN.{length, get_or, drop, length-append, drop_of_length-le}
+use lib.Seq.{drop-cons}
 use Rattle.timing.specs.Numbers.{packed}
 use Rattle.packed.proofs.Numbers.{packed_size}
 
@@ -32,10 +32,6 @@ size_drop s k h = rw (drop-cons s k 0 h, add-one k) (size_cons (get_or s k 0) (d
 
 pub size_done : (s : List ℕ) (k : ℕ) → length s ≤ k → length (flat_map packed (drop k s)) ≡ 0
 size_done s k h = rw (drop_of_length-le s h) size_none
-
--- and part by part
-pub size_part : (s : List ℕ) (k n : ℕ) → length (flat_map packed (drop k s)) ≡ length (flat_map packed (take n (drop k s))) + length (flat_map packed (drop (k + n) s))
-size_part s k n = ap (λ (l : List ℕ). length (flat_map packed l)) (sym (take-append-drop n (drop k s))) ∙ rw (← drop-drop n k s) (size_append (take n (drop k s)) (drop n (drop k s)))
 
 -- five bytes at most for each
 pub size_most : (s : List ℕ) → length (flat_map packed s) ≤ 5 * length s

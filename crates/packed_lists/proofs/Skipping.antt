@@ -16,12 +16,7 @@ use Rattle.packed.proofs.Numbers.{read_one, read_two}
 use Rattle.packed_lists.proofs.Looking.{looks_turn, number_found}
 use Rattle.packed_lists.specs.Skips.{Skips, Scanned, ending, unended}
 
--- none, and some behind others
-pub skips_none : (s : List ℕ) (at : ℕ) → Skips s at 0 at
-skips_none s at k =
-    let d : 0 + k ≡ k = omega arith in
-    rw d
-
+-- some behind others
 pub skips_then : (s : List ℕ) (at m mid n next : ℕ) → Skips s at m mid → Skips s mid n next → Skips s at (m + n) next
 skips_then s at m mid n next f g k =
     let d : m + n + k ≡ m + (n + k) = omega arith in
@@ -56,12 +51,7 @@ unended_fits b c h e = go (eqb c 0) (ltb c 128) refl refl (rw (le-ltb b 128 h) a
     go false true p q z = (omega (arith, eqb-false c 0 p), ltb-true c 128 q)
     go false false p q z = absurd (omega arith)
 
--- no byte, and one byte more
-pub scanned_none : (s : List ℕ) (at : ℕ) → Scanned s at 0 0
-scanned_none s at =
-    let d : at + 0 ≡ at = omega arith in
-    inl ((λ h. absurd (omega arith)), rw d (skips_none s at))
-
+-- one byte more
 pub scanned_step : (s : List ℕ) (at i count : ℕ) → at + i + 1 < length s → unended (get_or s (at + i) 0) (get_or s (at + i + 1) 0) ≡ 0
     → Scanned s at i count → Scanned s at (i + 1) (count + ending (get_or s (at + i) 0))
 scanned_step s at i count h e w = go (ltb (get_or s (at + i) 0) 128) refl w

@@ -8,7 +8,7 @@ ghost use Rattle.timing.specs.Parsing.{number, repeated};
 ghost use Rattle.timing.specs.Looks.{looked, value_at, next_at};
 
 use crate::skips::skip_blocks;
-use entries::{least, wide};
+use entries::wide;
 use packed::{number_size, read_number};
 use timing::{Refusal, Taken};
 
@@ -23,10 +23,8 @@ fn block_size(s: &[u32]) -> u32
     ensures { result ≡ length (flat_map packed s.now) }
 {
     let mut total: u32 = 0;
-    let mut i = 0;
-    while i < s.len() {
-        total += number_size(s[i]) as u32;
-        i += 1;
+    for x in s {
+        total += number_size(*x) as u32;
     }
     total
 }
@@ -36,11 +34,8 @@ pub fn numbers_size(s: &[u32]) -> usize
     ensures { result ≡ length (flat_map packed s.now) }
 {
     let mut total: usize = 0;
-    let mut from = 0;
-    while from < s.len() {
-        let to = from + least(s.len() - from, BLOCK);
-        total += wide(block_size(&s[from..to]));
-        from = to;
+    for block in s.chunks(BLOCK) {
+        total += wide(block_size(block));
     }
     total
 }
@@ -51,13 +46,11 @@ pub fn look_numbers(s: &[u8], at: usize, k: usize) -> Result<usize, Refusal>
 {
     let front = skip_blocks(s, at, k);
     let mut here = front.next;
-    let mut n = front.numbers;
-    while n < k {
+    for _ in front.numbers..k {
         let r = read_number(s, here);
         match r {
             Ok(Taken { value: _, next }) => {
                 here = next;
-                n += 1;
             }
             Err(e) => {
                 return Err(e);

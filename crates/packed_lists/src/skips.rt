@@ -42,11 +42,9 @@ fn skip_block(s: &[u8], at: usize) -> Skipped
 {
     let mut count: u8 = 0;
     let mut unended: u8 = 0;
-    let mut i = 0;
-    while i < BLOCK {
+    for i in 0..BLOCK {
         count += ending_byte(s[at + i]);
         unended += unended_byte(s[at + i], s[at + i + 1]);
-        i += 1;
     }
     if 0 < unended {
         return Skipped {
@@ -67,23 +65,13 @@ pub(crate) fn skip_blocks(s: &[u8], at: usize, k: usize) -> Skipped
 {
     let mut here = at;
     let mut n = 0;
-    while BLOCK <= k - n {
-        if has_left(s.len(), here, 33) {
-            let block = skip_block(s, here);
-            if block.numbers == 0 {
-                return Skipped {
-                    numbers: n,
-                    next: here,
-                };
-            }
-            here = block.next;
-            n += block.numbers;
-        } else {
-            return Skipped {
-                numbers: n,
-                next: here,
-            };
+    while BLOCK <= k - n && has_left(s.len(), here, 33) {
+        let block = skip_block(s, here);
+        if block.numbers == 0 {
+            break;
         }
+        here = block.next;
+        n += block.numbers;
     }
     Skipped {
         numbers: n,

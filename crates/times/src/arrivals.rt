@@ -15,11 +15,7 @@ use extremes::{larger, smaller};
 fn ends_at(to: &[u32], k: usize, c: usize) -> bool
     ensures { result ≡ ends_here to.now k c }
 {
-    if k < to.len() {
-        wide(to[k]) == c
-    } else {
-        false
-    }
+    k < to.len() && wide(to[k]) == c
 }
 
 // What edge `k` gives its end.
@@ -94,10 +90,8 @@ pub(crate) fn fill_arrivals(
         (arrivals.new ≡ map (arrival_at (delay_of late.now) (pos 0) (graph_of S)) copies)
         × (earliests.new ≡ map (earliest_at (delay_of early.now) (graph_of S)) copies) }
 {
-    let mut c = 0;
     let mut first = 0;
-    while c < nodes.len() {
+    for c in 0..nodes.len() {
         first = arrive(early, late, from, to, via, arrivals, earliests, c, first);
-        c += 1;
     }
 }

@@ -10,7 +10,7 @@ use crate::numbers::{negated, signed, sum};
 use entries::wide;
 use extremes::smaller;
 
-const NO_REQUIRED: i64 = 9223372036854775807;
+const NO_REQUIRED: i64 = i64::MAX;
 
 // T where paths end, and elsewhere no time yet.
 fn first_required(endpoint: u32, allowed: i64) -> i64
@@ -25,11 +25,8 @@ fn first_requireds(endpoint: &[u32], allowed: i64, requireds: &mut [i64])
     ensures { let first : ℕ → ℤ = λ c. first_required (get_or endpoint.now c 0) allowed in
         requireds.new ≡ map first (upto (length requireds.old) 0) }
 {
-    let mut i = 0;
-    while i < requireds.len() {
-        let t = first_required(endpoint[i], allowed);
-        requireds[i] = t;
-        i += 1;
+    for i in 0..requireds.len() {
+        requireds[i] = first_required(endpoint[i], allowed);
     }
 }
 
@@ -54,8 +51,7 @@ fn lower_edge(
     let b = wide(to[k]);
     let name = wide(via[k]);
     let t = sum(requireds[b], negated(delays[name]));
-    let u = smaller(t, requireds[a]);
-    requireds[a] = u;
+    requireds[a] = smaller(t, requireds[a]);
 }
 
 // From the last edge to the first: where an edge is met, the required time at its end is final. From
@@ -80,9 +76,7 @@ pub(crate) fn fill_requireds(
         requireds.new ≡ map (required_at delay (pos allowed) (graph_of S)) (upto (length S.nodes) 0) }
 {
     first_requireds(endpoint, signed(allowed), requireds);
-    let mut k = from.len();
-    while 0 < k {
-        k -= 1;
+    for k in (0..from.len()).rev() {
         lower_edge(delays, from, to, via, requireds, k);
     }
 }

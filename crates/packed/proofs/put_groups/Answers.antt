@@ -51,35 +51,14 @@ inside {room₀} {at} {x} {room} {next} {v} h l = omega (arith, l.end, l.long, (
 pub loop-v-init : goal.loop-v-init
 loop-v-init c = let a = c.args in left-all a.room.now a.at a.x (omega arith)
 
-pub overflow_add-room : goal.overflow_add-room
-overflow_add-room c = omega arith
-
-pub overflow_cast-room : goal.overflow_cast-room
-overflow_cast-room c = omega arith
-
 pub bounds-room-next : goal.bounds-room-next
 bounds-room-next c = inside c.requires c.loop-v.invariant
-
-pub overflow_add-next : goal.overflow_add-next
-overflow_add-next c = omega arith
-
-pub loop-v-smaller : goal.loop-v-smaller
-loop-v-smaller c = omega arith
 
 pub loop-v-preserved : goal.loop-v-preserved
 loop-v-preserved c = left-turn c.loop-v-test.true c.loop-v.invariant
 
-pub overflow_cast-room-2 : goal.overflow_cast-room-2
-overflow_cast-room-2 c = omega arith
-
 pub bounds-room-next-2 : goal.bounds-room-next-2
 bounds-room-next-2 c = inside c.requires c.loop-v.invariant
-
-pub overflow_add-result : goal.overflow_add-result
-overflow_add-result c = omega arith
-
-pub shape_of-room : goal.shape_of-room
-shape_of-room c = simp length-set c.loop-v.invariant.long
 
 pub returns : goal.returns
 returns c =

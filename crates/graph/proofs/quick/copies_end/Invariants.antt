@@ -10,10 +10,6 @@ use Rattle.graph.proofs.quick.copies_end.Given as goal
 abbrev pub invariant-loop-c : goal.invariant-loop-c
 invariant-loop-c l =
     let passes = copy_ends l.n l.nodes l.endpoint (flag l.nout) (flag l.nmarked) (flag l.cout) in
-    (l.c ≤ length l.nodes)
-    × (walked passes (lowest_after l.nodes l.endpoint) (length l.nodes - l.c) l.c l.lowest ≡ walked passes (lowest_after l.nodes l.endpoint) (length l.nodes) 0 0)
+    (walked passes (lowest_after l.nodes l.endpoint) (length l.nodes - l.c) l.c l.lowest ≡ walked passes (lowest_after l.nodes l.endpoint) (length l.nodes) 0 0)
     × (l.sources ≤ l.c)
     × (l.sources ≡ count_of (λ k. not (flag l.nin (get_or l.nodes k 0))) (upto l.c 0))
-
-abbrev pub decreases-loop-c : goal.decreases-loop-c
-decreases-loop-c l = length l.nodes - l.c

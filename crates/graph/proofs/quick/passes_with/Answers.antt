@@ -1,13 +1,6 @@
 -- The edges pass, and the copies end where they may; the flags hold what the lists say.
-use native.Mathlib.Omega.{arith}
 use Rattle.graph.proofs.Found.{found}
 use Rattle.graph.proofs.quick.passes_with.Goals as goal
-
-pub copies_end-requires : goal.copies_end-requires
-copies_end-requires c =
-    let p = c.requires in
-    let f = c.set_node_flags.ensures in
-    (omega (arith, p.1.room, f.0.size), omega (arith, p.2.room, f.1.size), omega (arith, p.3.room, f.2.size), p.4.room, p.0.counted.copies)
 
 pub returns : goal.returns
 returns c =

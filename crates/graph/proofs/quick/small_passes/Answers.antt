@@ -3,16 +3,12 @@ use Prim.Native.Nat.{◌<◌}
 use native.Mathlib.Omega.{arith}
 use lib.ListN.{length}
 use Rattle.graph.proofs.Flags.{clear_array}
-use Rattle.graph.proofs.Turns.{never}
 use Rattle.graph.proofs.quick.small_passes.Goals as goal
 
 pub edges_found-entered-requires : goal.edges_found-entered-requires
 edges_found-entered-requires c =
     let l = c.requires.2 in
     (l.counted.copies, l.few, l.design, l.some, omega (arith, l.counted.edges, l.ends_lent, l.names_lent), l.ends_lent, l.names_lent, clear_array (length c.args.nodes.now) 1024 c.requires.1)
-
-pub returns-then-entered-eq0 : goal.returns-then-entered-eq0
-returns-then-entered-eq0 c = λ e. absurd (never e)
 
 pub passes_with-requires : goal.passes_with-requires
 passes_with-requires c =

@@ -1,5 +1,4 @@
 -- Invariant: each copy holds the smallest time over the edges out of it from edge k on and, where paths end, T.
-use Prim.Native.Nat.{◌≤◌}
 use mathlib.Core.Path.{◌≡◌}
 use mathlib.Core.List.{map}
 use lib.ListN.{length}
@@ -10,7 +9,4 @@ use Rattle.times.proofs.requireds.fill_requireds.Given as goal
 
 abbrev pub invariant-loop-k : goal.invariant-loop-k
 invariant-loop-k l =
-    (l.k ≤ length l.from) × (l.requireds ≡ map (required_from l.delays (graph_slices l.nodes l.endpoint l.from l.to l.via) l.allowed l.k) (upto (length l.nodes) 0))
-
-abbrev pub decreases-loop-k : goal.decreases-loop-k
-decreases-loop-k l = l.k
+    l.requireds ≡ map (required_from l.delays (graph_slices l.nodes l.endpoint l.from l.to l.via) l.allowed l.k) (upto (length l.nodes) 0)
