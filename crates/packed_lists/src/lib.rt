@@ -47,15 +47,7 @@ pub fn look_numbers(s: &[u8], at: usize, k: usize) -> Result<usize, Refusal>
     let front = skip_blocks(s, at, k);
     let mut here = front.next;
     for _ in front.numbers..k {
-        let r = read_number(s, here);
-        match r {
-            Ok(Taken { value: _, next }) => {
-                here = next;
-            }
-            Err(e) => {
-                return Err(e);
-            }
-        }
+        here = read_number(s, here)?.next;
     }
     Ok(here)
 }
@@ -74,9 +66,8 @@ pub fn take_number(s: &[u8], at: usize) -> Taken
     ensures { (result.value ≡ value_at s.now at)
         × (result.next ≡ next_at s.now at) }
 {
-    let r = read_number(s, at);
-    match r {
-        Ok(Taken { value, next }) => Taken { value, next },
+    match read_number(s, at) {
+        Ok(taken) => taken,
         Err(_) => Taken { value: 0, next: at },
     }
 }

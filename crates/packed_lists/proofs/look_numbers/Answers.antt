@@ -1,4 +1,8 @@
-use mathlib.Core.Path.{sym, ◌∙◌}
+use Prim.Native.Nat.{ℕ}
+use mathlib.Core.Path.{◌≡◌, sym, ◌∙◌}
+use Rattle.std.specs.Prelude.{Result, Err}
+use Rattle.std.proofs.Common.{rules}
+use Rattle.timing.specs.declared.Refusal.{Refusal}
 use Rattle.timing.specs.Parsing.{number}
 use Rattle.packed_lists.proofs.Looking.{looks_turn, looks_stop, looks_end, number_found, number_stopped}
 use Rattle.packed_lists.proofs.Skipping.{skips_rest}
@@ -11,13 +15,15 @@ loop-init c =
 
 pub loop-preserved : goal.loop-preserved
 loop-preserved c =
-    let f = number_found _ c.loop.here _ _ (sym c.read_number-r.ensures ∙ c.in-Ok.is) in
+    let f = number_found _ c.loop.here _ _ (sym c.in_ok-here.ensures) in
     looks_turn (number c.args.s.now) _ _ _ _ c.loop-test.true f ∙ c.loop.invariant
 
-pub returns-in-Err : goal.returns-in-Err
-returns-in-Err c =
-    let f = number_stopped _ c.loop.here _ (sym c.read_number-r.ensures ∙ c.in-Err.is) in
-    looks_stop (number c.args.s.now) _ _ _ _ c.loop-test.true f ∙ c.loop.invariant
+pub returns-in_err-here : goal.returns-in_err-here
+returns-in_err-here c =
+    let why = c.in_err-here.field-0.0 in
+    let same : ◌≡◌ {A = Result ℕ Refusal} c.from_residual.result (Err why) = search rules in
+    let f = number_stopped _ c.loop.here why (sym c.in_err-here.ensures) in
+    same ∙ looks_stop (number c.args.s.now) _ _ _ _ c.loop-test.true f ∙ c.loop.invariant
 
 pub returns : goal.returns
 returns c = looks_end (number c.args.s.now) _ _ _ c.loop-test.false ∙ c.loop.invariant

@@ -6,11 +6,11 @@ use Rattle.packed_lists.proofs.take_number.Goals as goal
 pub returns-in-Ok : goal.returns-in-Ok
 unfolding value_at next_at
 returns-in-Ok c =
-    let e = sym c.read_number-r.ensures ∙ c.in-Ok.is in
+    let e = sym c.read_number.ensures ∙ c.in-Ok.is in
     rw e (refl, refl)
 
 pub returns-in-Err : goal.returns-in-Err
 unfolding value_at next_at
 returns-in-Err c =
-    let e = sym c.read_number-r.ensures ∙ c.in-Err.is in
+    let e = sym c.read_number.ensures ∙ c.in-Err.is in
     rw e (refl, refl)
