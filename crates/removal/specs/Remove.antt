@@ -1,5 +1,5 @@
 -- What the passes find together, and what a whole removal answers and leaves behind.
-use Rattle.std.specs.Prelude.{ℕ, ◌+◌, ◌≤◌, ◌≡◌, length, take, Result, Err}
+use Rattle.std.specs.Prelude.{ℕ, ◌+◌, ◌≤◌, ◌≡◌, length, take, Option, Result, Ok, Err, Some, None}
 use mathlib.Core.List.{List}
 use Rattle.timing.specs.Answers.{Verdict, Passed}
 use Rattle.timing.specs.declared.GraphCounts.{GraphCounts}
@@ -11,10 +11,6 @@ use Rattle.timing.specs.Tests.{candidates, words_test, Room, room_tests}
 use Rattle.timing.specs.Calls.{Outcome, outcome, removal, removal_tests, graph_slices, room_of, largest_room, graph_answer, nodes_after, endpoints_after, starts_after, ends_after, names_after, scratch_after}
 use Rattle.theorems.proofs.Tested.{DesignFits}
 use Rattle.removal.specs.declared.rows.Layout.{Layout}
-use Rattle.removal.specs.declared.remove.Searched.{Searched}
-use Rattle.removal.specs.declared.remove.Searched.TheVariants.{Found as SearchFound}
-use Rattle.removal.specs.declared.remove.Searched.TheVariants.{Nothing as SearchNothing}
-use Rattle.removal.specs.declared.remove.Searched.TheVariants.{Refused as SearchRefused}
 use Rattle.removal.specs.Counts.{of_starts, of_nodes}
 use Rattle.removal.specs.Rows.{Tabled, Ready, Idle}
 use Rattle.removal.specs.Patches.{NamesIn}
@@ -65,13 +61,13 @@ words_for starts listed lengths nodes from s =
 
 -- what a search answers, and t is the scratch then: what was found, or nothing where there is no copy, or 31; the scratch is as it was
 -- then
-abbrev pub AllSearched : List ℕ → List ℕ → List ℕ → List ℕ → List ℕ → List ℕ → List ℕ → List ℕ → List ℕ → List ℕ → Searched → Type 0
-AllSearched starts listed lengths nodes endpoint from to via s t (SearchFound f) =
+abbrev pub AllSearched : List ℕ → List ℕ → List ℕ → List ℕ → List ℕ → List ℕ → List ℕ → List ℕ → List ℕ → List ℕ → Result (Option Layout) Refusal → Type 0
+AllSearched starts listed lengths nodes endpoint from to via s t (Ok (Some f)) =
     (words_for starts listed lengths nodes from s ≡ Passed)
     × Found starts listed lengths nodes endpoint from to via s t f
-AllSearched starts listed lengths nodes endpoint from to via s t SearchNothing =
+AllSearched starts listed lengths nodes endpoint from to via s t (Ok None) =
     (words_for starts listed lengths nodes from s ≡ Passed) × (length nodes ≡ 0) × (t ≡ s)
-AllSearched starts listed lengths nodes endpoint from to via s t (SearchRefused r) = (words_for starts listed lengths nodes from s ≡ Err r) × (t ≡ s)
+AllSearched starts listed lengths nodes endpoint from to via s t (Err r) = (words_for starts listed lengths nodes from s ≡ Err r) × (t ≡ s)
 
 -- the answer and the room are those of an outcome
 pub record Answered (o : Outcome Graph) (r : Result GraphCounts Refusal) (room-nodes room-endpoint room-from room-to room-via room-nodes' room-endpoint' room-from' room-to' room-via' : List ℕ) : Type 0 where

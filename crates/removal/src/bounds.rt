@@ -5,7 +5,7 @@ ghost use Rattle.removal.specs.Fill.{Fits};
 ghost use Rattle.removal.specs.Bounds.{reached_to};
 
 use crate::rows::Layout;
-use crate::show::Counts;
+use timing::GraphCounts;
 
 // How many slots of copy c are reached.
 fn count_reached(l: Layout, scratch: &[u32], c: usize) -> usize
@@ -25,7 +25,7 @@ fn count_reached(l: Layout, scratch: &[u32], c: usize) -> usize
 }
 
 // No more slots are shown than are reached, and no more edges come to each than come into its copy.
-pub(crate) fn bound_all(l: Layout, scratch: &[u32]) -> Counts
+pub(crate) fn bound_all(l: Layout, scratch: &[u32]) -> GraphCounts
     requires { Ready l scratch.now }
     ensures { Fits l scratch.now result.copies result.edges }
 {
@@ -39,5 +39,5 @@ pub(crate) fn bound_all(l: Layout, scratch: &[u32]) -> Counts
         edges += reached * (to - from);
         from = to;
     }
-    Counts { copies, edges }
+    GraphCounts { copies, edges }
 }

@@ -11,7 +11,8 @@ ghost use Rattle.removal.specs.Fill.{Filling, RowHeld, RowKept, Filled, one_slot
 
 use crate::patches::note_places;
 use crate::rows::{Layout, run_from};
-use crate::show::{Counts, row_of, show_slot, shown_defaults};
+use crate::show::{row_of, show_slot, shown_defaults};
+use timing::GraphCounts;
 
 // The flag of the slot at a place if it is shown, and else 0.
 fn shown_flag(scratch: &[u32], place: usize) -> u32
@@ -199,8 +200,8 @@ fn fill_slot(
     room_from: &mut [u32],
     room_to: &mut [u32],
     room_via: &mut [u32],
-    counts: Counts,
-) -> Counts
+    counts: GraphCounts,
+) -> GraphCounts
     requires filling { Filling l nodes.now endpoint.now scratch.old (length pos.now)
         room_nodes.old room_endpoint.old room_from.old room_to.old room_via.old
         c j counts.copies counts.edges }
@@ -254,8 +255,8 @@ fn fill_copy(
     room_from: &mut [u32],
     room_to: &mut [u32],
     room_via: &mut [u32],
-    counts: Counts,
-) -> Counts
+    counts: GraphCounts,
+) -> GraphCounts
     requires filling { Filling l nodes.now endpoint.now scratch.old (length pos.old)
         room_nodes.old room_endpoint.old room_from.old room_to.old room_via.old
         c 0 counts.copies counts.edges }
@@ -311,7 +312,7 @@ pub(crate) fn fill_all(
     room_from: &mut [u32],
     room_to: &mut [u32],
     room_via: &mut [u32],
-) -> Counts
+) -> GraphCounts
     requires fillable { Fillable l nodes.now endpoint.now scratch.old pos.old
         room_nodes.old room_endpoint.old room_from.old room_to.old room_via.old }
     requires rows_flagged { RowsFlagged l scratch.old endpoint.now }
@@ -321,7 +322,7 @@ pub(crate) fn fill_all(
         room_to.old room_via.old room_nodes.new room_endpoint.new
         room_from.new room_to.new room_via.new }
 {
-    let mut counts = Counts {
+    let mut counts = GraphCounts {
         copies: 0,
         edges: 0,
     };

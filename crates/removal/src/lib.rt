@@ -149,7 +149,7 @@ fn remove_within<const NODES: usize, const EDGES: usize>(
 ) -> Result<GraphCounts, Refusal>
     requires { Numberable starts.now ends.now marked.now listed.now lengths.now n
         × RoomsAlike room_nodes.old room_endpoint.old room_from.old room_to.old room_via.old
-        × (n ≤ NODES) × (length starts.now ≤ EDGES) }
+        × (n ≤ NODES) × (NODES ≤ 4096) × (length starts.now ≤ EDGES) × (EDGES ≤ 16384) }
     ensures { DesignRemoved starts.now ends.now marked.now listed.now
         lengths.now n result room_nodes.old room_endpoint.old
         room_from.old room_to.old room_via.old scratch.old
@@ -330,7 +330,7 @@ fn size_within<const NODES: usize, const EDGES: usize>(
     scratch: &mut [u32],
 ) -> Result<GraphCounts, Refusal>
     requires { Numberable starts.now ends.now marked.now listed.now lengths.now n
-        × (n ≤ NODES) × (length starts.now ≤ EDGES) }
+        × (n ≤ NODES) × (NODES ≤ 4096) × (length starts.now ≤ EDGES) × (EDGES ≤ 16384) }
     ensures { DesignSized starts.now ends.now marked.now listed.now
         lengths.now n result scratch.old scratch.new }
 {

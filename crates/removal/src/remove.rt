@@ -251,7 +251,7 @@ fn remove_within<const PLACES: usize>(
 ) -> Result<GraphCounts, Refusal>
     requires { Workable starts.now listed.now lengths.now nodes.now endpoint.now from.now to.now via.now
         × RoomsAlike room_nodes.old room_endpoint.old room_from.old room_to.old room_via.old
-        × (length starts.now ≤ PLACES) }
+        × (length starts.now ≤ PLACES) × (PLACES ≤ 16384) }
     ensures { AllRemoved starts.now listed.now lengths.now nodes.now endpoint.now
         from.now to.now via.now result room_nodes.old room_endpoint.old
         room_from.old room_to.old room_via.old scratch.old
@@ -382,7 +382,7 @@ fn size_within<const PLACES: usize>(
     scratch: &mut [u32],
 ) -> Result<GraphCounts, Refusal>
     requires { Workable starts.now listed.now lengths.now nodes.now endpoint.now from.now to.now via.now
-        × (length starts.now ≤ PLACES) }
+        × (length starts.now ≤ PLACES) × (PLACES ≤ 16384) }
     ensures { AllSized starts.now listed.now lengths.now nodes.now endpoint.now
         from.now to.now via.now result scratch.old scratch.new }
 {

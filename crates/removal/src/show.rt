@@ -8,13 +8,7 @@ ghost use Rattle.removal.specs.Show.{shown_at, EdgesMeet, RowLent, PatchedRow, R
 
 use crate::patches::{collect, note_places};
 use crate::rows::{Layout, run_from};
-
-// How many slots are shown, and how many edges come to them from shown ones.
-#[derive(Clone, Copy)]
-pub(crate) struct Counts {
-    pub(crate) copies: usize,
-    pub(crate) edges: usize,
-}
+use timing::GraphCounts;
 
 // 1 if the slot at a place is shown, and else 0.
 fn shown(scratch: &[u32], place: usize) -> usize
@@ -93,8 +87,8 @@ pub(crate) fn show_slot(
     p0: usize,
     p1: usize,
     edges: usize,
-    counts: Counts,
-) -> Counts
+    counts: GraphCounts,
+) -> GraphCounts
     requires { SlotRoom l scratch.old c j p0 p1 counts.copies counts.edges × EdgesMeet l scratch.old c j edges }
     ensures { SlotShown l scratch.old scratch.new c j counts.copies counts.edges result.copies result.edges
         × WorkKept l scratch.old scratch.new }
@@ -104,7 +98,7 @@ pub(crate) fn show_slot(
     }
     let at = scratch[l.base + c] as usize + j;
     scratch[at] = (counts.copies + 2) as u32;
-    Counts {
+    GraphCounts {
         copies: counts.copies + 1,
         edges: counts.edges + edges,
     }
@@ -120,8 +114,8 @@ fn show_row(
     p0: usize,
     p1: usize,
     defaults: usize,
-    counts: Counts,
-) -> Counts
+    counts: GraphCounts,
+) -> GraphCounts
     requires { RowLent l scratch.old pos.now c j p0 p1 defaults
         × (counts.copies ≤ slot_base (slots_in l (take l.slots scratch.old)) c + j)
         × (counts.edges ≤ counts.copies * 65536) }
@@ -137,7 +131,7 @@ fn show_row(
 }
 
 // Shows the slots of copy c; those of the lower copies are done.
-fn show_copy(l: Layout, scratch: &mut [u32], pos: &mut [u16], c: usize, counts: Counts) -> Counts
+fn show_copy(l: Layout, scratch: &mut [u32], pos: &mut [u16], c: usize, counts: GraphCounts) -> GraphCounts
     requires { Ready l scratch.old × Idle l scratch.old × NamesIn l scratch.old (length pos.old)
         × (c < l.copies)
         × (counts.copies ≤ slot_base (slots_in l (take l.slots scratch.old)) c)
@@ -162,13 +156,13 @@ fn show_copy(l: Layout, scratch: &mut [u32], pos: &mut [u16], c: usize, counts: 
 }
 
 // Shows the slots of all copies, and numbers them: the flag of a shown slot is 2 and its number.
-pub(crate) fn show_all(l: Layout, scratch: &mut [u32], pos: &mut [u16]) -> Counts
+pub(crate) fn show_all(l: Layout, scratch: &mut [u32], pos: &mut [u16]) -> GraphCounts
     requires { Ready l scratch.old × Idle l scratch.old × NamesIn l scratch.old (length pos.old) }
     ensures { AllShown l scratch.old scratch.new result.copies result.edges
         × Idle l scratch.new
         × (length pos.new ≡ length pos.old) }
 {
-    let mut counts = Counts {
+    let mut counts = GraphCounts {
         copies: 0,
         edges: 0,
     };

@@ -1,8 +1,0 @@
--- The arrays are room enough for so few.
-use Rattle.removal.proofs.Whole.TestLaws.{numbered_room}
-use Rattle.removal.proofs.size_small.Goals as goal
-
-pub size_numbered-requires : goal.size_numbered-requires
-size_numbered-requires c =
-    let a = c.args in
-    (c.requires.0, numbered_room a.starts.now a.ends.now a.marked.now a.listed.now a.lengths.now a.n 1024 1024 c.requires.0 c.requires.1 c.requires.2)
