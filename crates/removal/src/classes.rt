@@ -51,8 +51,7 @@ pub(crate) fn clear(s: &mut [u32], base: usize, n: usize)
     ensures { (table s.new base n ≡ replicate n 0)
         × Frame s.old s.new base n }
 {
-    let end = base + n;
-    zero(&mut s[base..end]);
+    zero(&mut s[base..base + n]);
 }
 
 // The classes of at most 64 paths, with a few words for each path to work in: to clear these for 2,048 takes longer than all else in a short list.

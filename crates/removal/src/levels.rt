@@ -23,8 +23,8 @@ fn path_ends(lengths: &[u32], ends: &mut [u32], who: &mut [u32])
     ensures { Begun lengths.now ends.new who.new }
 {
     let mut at: u32 = 0;
-    for (k, edges) in lengths.iter().enumerate() {
-        at += *edges;
+    for (k, &edges) in lengths.iter().enumerate() {
+        at += edges;
         ends[k] = at;
         who[k] = k as u32;
     }
@@ -36,10 +36,10 @@ fn level_items(listed: &[u32], ends: &[u32], who: &[u32], items: &mut [u64], d: 
     ensures { (i : ℕ) → i < length who.now
         → get_or items.new i 0 ≡ item_of listed.now ends.now d (get_or who.now i 0) }
 {
-    for (i, w) in who.iter().enumerate() {
-        let k = (*w % 2048) as usize;
+    for (i, &w) in who.iter().enumerate() {
+        let k = (w % 2048) as usize;
         let e = listed[ends[k] as usize - d];
-        items[i] = e as u64 * 67108864 + *w as u64;
+        items[i] = e as u64 * 67108864 + w as u64;
     }
 }
 
@@ -62,14 +62,14 @@ fn number_level(
     let mut left = 0;
     let mut id = from;
     let mut last: u64 = 18446744073709551615;
-    for x in items {
-        let key = *x / 2048;
+    for &x in items {
+        let key = x / 2048;
         if key != last {
             id += 1;
             s[l.one + id] = key as u32;
             last = key;
         }
-        let k = (*x % 2048) as usize;
+        let k = (x % 2048) as usize;
         if lengths[k] as usize == d {
             s[l.loc + id] = 32767;
         } else {

@@ -19,8 +19,8 @@ fn store_at(t: &mut [u32], places: &[u32], v: u32)
     requires { NodesBelow (length t.old) places.now }
     ensures { t.new ≡ stored_at places.now v t.old }
 {
-    for at in places {
-        t[*at as usize] = v;
+    for &at in places {
+        t[at as usize] = v;
     }
 }
 
