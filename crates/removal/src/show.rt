@@ -172,7 +172,7 @@ pub(crate) fn show_all(l: Layout, scratch: &mut [u32], pos: &mut [u16]) -> Graph
     counts
 }
 
-// From what is shown back to what is reached: every flag that is not 0 is 1 again.
+// From what is shown back to what is reached: every flag that is not 0 is 1 again. A loop with no branch, so that it is compiled to vector code.
 pub(crate) fn reset_flags(l: Layout, scratch: &mut [u32])
     requires { Ready l scratch.old }
     ensures { FlagsReset l scratch.old scratch.new }
