@@ -4,7 +4,7 @@ use native.Mathlib.Omega.{arith}
 use native.Mathlib.Numerals.{add-one}
 use mathlib.Core.Path.{◌≡◌, refl, sym, ◌∙◌, ap}
 use mathlib.Core.List.{List, ◌∷◌, map}
-use Rattle.std.specs.Prelude.{Result, Err}
+use Rattle.std.specs.Prelude.{Result, Ok, Err}
 use Rattle.timing.specs.Answers.{Verdict, Passed, Value}
 use Rattle.timing.specs.declared.Taken.{Taken}
 use lib.Dec.{leb}
@@ -98,7 +98,7 @@ unfolding value_at next_at
 number_here s at x b e = one (read_number s at) e
   where
     one : (r : Result Taken Refusal) → parsed_number r ≡ found x b → (x ≡ value_of r) × (b ≡ next_of at r)
-    one (Value v next) f = (cc, cc)
+    one (Ok t) f = (cc, cc)
     one (Err r) f = never r f
 
 row_here : (s : List ℕ) (at : ℕ) (x : Row) (b : ℕ) → row s at ≡ found x b → (x ≡ row_at s at) × (b ≡ row_end s at)

@@ -16,7 +16,7 @@ use Rattle.timing.specs.GraphBytes.{CopyRow, copy_row, graph_from, read_graph}
 use Rattle.timing.specs.Refusals.{refusal, unless, ◌then◌}
 use Rattle.timing.specs.Parsing.{Parsed, found, stopped, Reader, onward, ◌>>=◌, ◌>>◌, return, tested, parsed_number, number, repeated, Row, row, ended}
 use Rattle.timing.specs.Calls.{parsed, graph_answer}
-use Rattle.timing.specs.Looks.{looked, number_of}
+use Rattle.timing.specs.Looks.{looked, number_of, value_of, next_of}
 use Rattle.packed_lists.proofs.Looking.{rows_numbers}
 use Rattle.graph_reader.specs.Reading.{count_in, endpoint_in, edges_in, made_of}
 
@@ -34,8 +34,8 @@ count_none s limit full room at r e = rw e
 -- What a look says of what was found.
 pub number_is : {n at : ℕ} (p : Parsed ℕ) → number_of p ≡ Value n at → p ≡ found n at
 number_is {n} {at} (found x a) q =
-    let d : x ≡ n = cc in
-    let b : a ≡ at = cc in
+    let d : x ≡ n = ap value_of q in
+    let b : a ≡ at = ap (next_of 0) q in
     rw (d, b)
 number_is (stopped r) q = absurd (let z : ◌≡◌ {A = ℕ} 0 1 = cc in omega arith)
 
@@ -102,7 +102,7 @@ module _ (s : List ℕ) (at v next : ℕ) (e : read_number s at ≡ Value v next
 
       one : (r : Result Taken Refusal) → looked (onward (parsed_number r) (λ x. tested (unless 32 (leb x 1)) >> return x))
           ≡ looked (onward (parsed_number r) (λ x. tested (unless 32 (leb x 1)) >> return {A = CopyRow} (record { node = v; endpoint = x })))
-      one (Value x a) = two x a (unless 32 (leb x 1))
+      one (Ok t) = two t.value t.next (unless 32 (leb t.value 1))
       one (Err r) = refl
 
 pub endpoint_none : (s : List ℕ) (at : ℕ) (r : Refusal) → read_number s at ≡ Err r → Err r ≡ looked (endpoint_in s at)
@@ -146,7 +146,7 @@ edges_made s edges at n copies l = one (read_number s at)
     one : (r : Result Taken Refusal)
         → graph_answer (parsed (onward (parsed_number r) (λ m. tested (unless 32 (leb m 65536) then unless 34 (leb m edges)) >> (repeated m (row s) >>= (λ rows. ended s >> return (graph_from copies rows))))))
         ≡ made_of n (onward (onward (parsed_number r) (λ m. tested (unless 32 (leb m 65536) then unless 34 (leb m edges)) >> return m)) (λ m. repeated m (row s) >>= (λ rows. ended s >> return m)))
-    one (Value m a) = two m a (unless 32 (leb m 65536) then unless 34 (leb m edges))
+    one (Ok t) = two t.value t.next (unless 32 (leb t.value 65536) then unless 34 (leb t.value edges))
     one (Err r) = refl
 
 -- a count that passed, and what the reader does with it
@@ -164,7 +164,7 @@ count_parts s limit full room at n next e = one (read_number s at) refl e
 
     one : (r : Result Taken Refusal) → read_number s at ≡ r → onward (parsed_number r) (λ m. tested (unless 32 (leb m limit) then unless full (leb m room)) >> return m) ≡ found n next
         → (read_number s at ≡ Value n next) × ((unless 32 (leb n limit) then unless full (leb n room)) ≡ Passed)
-    one (Value m a) q f = two m a (unless 32 (leb m limit) then unless full (leb m room)) q refl f
+    one (Ok t) q f = two t.value t.next (unless 32 (leb t.value limit) then unless full (leb t.value room)) q refl f
     one (Err r) q f = absurd (let z : ◌≡◌ {A = ℕ} 0 1 = cc in omega arith)
 
 counted : {B : Type 0} (s : List ℕ) (limit full room at : ℕ) (r : Refusal) (f : ℕ → Reader B) → count_in s limit full room at ≡ stopped r
@@ -177,7 +177,7 @@ counted {B} s limit full room at r f e = one (read_number s at) e
 
     one : (q : Result Taken Refusal) → onward (parsed_number q) (λ m. tested (unless 32 (leb m limit) then unless full (leb m room)) >> return m) ≡ stopped r
         → onward (parsed_number q) (λ n. tested (unless 32 (leb n limit) then unless full (leb n room)) >> f n) ≡ stopped r
-    one (Value m a) q = two m a (unless 32 (leb m limit) then unless full (leb m room)) q
+    one (Ok t) q = two t.value t.next (unless 32 (leb t.value limit) then unless full (leb t.value room)) q
     one (Err r') q = let d : r' ≡ r = cc in rw d
 
 -- what the reader answers, by what the looks do

@@ -3,7 +3,7 @@ use Prim.Native.Nat.{ℕ, ◌+◌, ◌≤◌}
 use native.Mathlib.Omega.{arith}
 use mathlib.Core.Path.{◌≡◌, refl, sym, ◌∙◌, ap}
 use mathlib.Core.List.{List, [], ◌∷◌, ◌++◌, map}
-use Rattle.std.specs.Prelude.{Result, Err}
+use Rattle.std.specs.Prelude.{Result, Ok, Err}
 use Rattle.timing.specs.Answers.{Verdict, Passed, Counts}
 use Rattle.timing.specs.declared.GraphCounts.{GraphCounts}
 use lib.Dec.{leb}
@@ -23,6 +23,15 @@ use Rattle.timing.specs.Looks.{next_at, row_end, row_at}
 use Rattle.graph_reader.specs.Reading.{copy_at, copy_end, copies_from, rows_from, rows_place}
 use Rattle.graph_reader.proofs.Looking.{edge_of_row, edges_reader, repeated_length}
 use Rattle.graph_reader.proofs.Filling.{things_length, copies_from_lem, rows_from_lem, number_here}
+
+-- the counts in an answer, 0 in a refusal
+abbrev copies_in : Result GraphCounts Refusal → ℕ
+copies_in (Ok g) = g.copies
+copies_in (Err r) = 0
+
+abbrev edges_in : Result GraphCounts Refusal → ℕ
+edges_in (Ok g) = g.edges
+edges_in (Err r) = 0
 
 no_counts : {X : Type 0} (r : Refusal) (c m : ℕ) → Err r ≡ Counts c m → X
 no_counts r c m e = absurd (let z : ◌≡◌ {A = ℕ} 0 1 = cc in omega arith)
@@ -46,8 +55,8 @@ edges_read s edges copies at c m e = one (number s at) refl e
         → EdgesMade s edges copies at c m (parsed (onward p (λ u. return (graph_from copies rows))))
     four k b rows a q h t (found u b') f =
         let l = repeated_length (row s) k b rows a t in
-        let i : length (map (λ q. q.node) copies) ≡ c = cc in
-        let j : length (map edge_of_row rows) ≡ m = cc in
+        let i : length (map (λ q. q.node) copies) ≡ c = ap copies_in f in
+        let j : length (map edge_of_row rows) ≡ m = ap edges_in f in
         let d : k ≡ m = sym l ∙ sym (length-map rows edge_of_row) ∙ j in
         let r : rows ≡ rows_from s k b = (rows_from_lem s k b rows a t).0 in
         let n : b ≡ next_at s at = (number_here s at k b q).1 in
