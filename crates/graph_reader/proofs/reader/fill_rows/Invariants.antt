@@ -1,5 +1,4 @@
 -- Each slice is filled below i, and what is left comes from here on.
-use Prim.Native.Nat.{◌-◌}
 use Rattle.timing.specs.Looks.{row_at, row_end}
 use Rattle.graph_reader.proofs.Filling.{Column}
 use Rattle.graph_reader.proofs.reader.fill_rows.Given as goal
