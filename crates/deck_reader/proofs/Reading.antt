@@ -4,7 +4,7 @@ use native.Mathlib.Omega.{arith}
 use native.Mathlib.Numerals.{add-one}
 use mathlib.Core.Path.{◌≡◌, refl, sym, ◌∙◌, ap}
 use mathlib.Core.List.{List, ◌∷◌, ◌++◌, map}
-use Rattle.std.specs.Prelude.{Result, Err}
+use Rattle.std.specs.Prelude.{Result, Ok, Err}
 use Rattle.timing.specs.Answers.{Verdict, Passed, Value, DeckFound}
 use Rattle.timing.specs.declared.Taken.{Taken}
 use Rattle.timing.specs.declared.DeckCounts.{DeckCounts}
@@ -45,7 +45,7 @@ unfolding value_at next_at
 is_number s at = by (read_number s at)
   where
     by : (r : Result Taken Refusal) → Is (λ x next. (x ≡ value_of r) × (next ≡ next_of at r)) (parsed_number r)
-    by (Value v next) = (refl, refl)
+    by (Ok t) = (refl, refl)
     by (Err r) = tt
 
 abbrev pub TestIs : Verdict → ℕ → Unit {0} → ℕ → Type 0
@@ -200,10 +200,10 @@ read_passed s tables e = by (read_deck s tables) e (is_deck s tables)
   where
     by : (p : Parsed Deck) → verdict_of p ≡ Passed → Is (DeckIs s tables) p → (parsed p ≡ made (deck_from s 0)) × Fits s 0 tables
     by (found d at) q h = (ap made h.0, h.1)
-    by (stopped r) q h = absurd (let z : ◌≡◌ {A = ℕ} 0 1 = cc in omega arith)
+    by (stopped r) q h = cc
 
 pub read_refused : (p : Parsed Deck) (r : Refusal) → verdict_of p ≡ Err r → parsed p ≡ refused r
-read_refused (found d at) r e = absurd (let z : ◌≡◌ {A = ℕ} 0 1 = cc in omega arith)
+read_refused (found d at) r e = cc
 read_refused (stopped q) r e = let d : q ≡ r = cc in ap refused d
 
 -- Filling: two numbers at a place.
