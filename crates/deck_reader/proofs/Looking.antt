@@ -36,10 +36,6 @@ count_passed test sum n limit table e =
     let p = then_passed (unless test (leb (sum + n) limit)) (unless 36 (leb (sum + n) table)) e in
     (leb-true (sum + n) limit (unless_passed test (leb (sum + n) limit) p.0), leb-true (sum + n) table (unless_passed 36 (leb (sum + n) table) p.1))
 
-pub count_is : (s : List ℕ) (sum test limit table at v next total : ℕ) (u w : Verdict) → read_number s at ≡ Value v next → total ≡ sum + v
-    → u ≡ unless test (leb total limit) → w ≡ (u then unless 36 (leb total table)) → number_of (onward (tested w next) (λ x. return v)) ≡ number_of (count_in s sum test limit table at)
-count_is s sum test limit table at v next total u w e f g h = rw (h, g, f, e)
-
 -- a length that passed its tests leaves the sum small
 pub path_small : (s : List ℕ) (table sum at v next : ℕ) → number_of (path_in s table sum at) ≡ Value v next → sum + v ≤ 8192
 path_small s table sum at v next e = one (read_number s at) e
@@ -58,33 +54,6 @@ path_small s table sum at v next e = one (read_number s at) e
     one : (r : Result Taken Refusal) → number_of (onward (onward (parsed_number r) (λ n. tested (unless 21 (leb (sum + n) 8192) then unless 36 (leb (sum + n) table)) >> return n)) (λ n. repeated n (number s) >>= (λ p. return n))) ≡ Value v next → sum + v ≤ 8192
     one (Ok t) q = two t.value t.next (unless 21 (leb (sum + t.value) 8192) then unless 36 (leb (sum + t.value) table)) refl q
     one (Err r) q = cc
-
--- a path from its length and the place behind its edges
-pub path_is : (s : List ℕ) (table sum at v next : ℕ) → number_of (count_in s sum 21 8192 table at) ≡ Value v next
-    → number_of (onward (repeated v (number s) next) (λ p. return v)) ≡ number_of (path_in s table sum at)
-path_is s table sum at v next e = by (count_in s sum 21 8192 table at) e
-  where
-    by : (p : Parsed ℕ) → number_of p ≡ Value v next → number_of (onward (repeated v (number s) next) (λ p. return v)) ≡ number_of (onward p (λ n. repeated n (number s) >>= (λ p. return n)))
-    by (found n a) q =
-        let f : n ≡ v = ap value_of q in
-        let g : a ≡ next = ap (next_of 0) q in
-        rw (f, g)
-    by (stopped r) q = cc
-
-pub path_at : (v after : ℕ) (p : Parsed (List ℕ)) → Ok after ≡ looked p → Value v after ≡ number_of (onward p (λ xs. return v))
-path_at v after (found xs a) e = let f : after ≡ a = cc in rw f
-path_at v after (stopped r) e = cc
-
-pub path_stop : (v : ℕ) (q : Refusal) (p : Parsed (List ℕ)) → Err q ≡ looked p → Err q ≡ number_of (onward p (λ xs. return v))
-path_stop v q (found xs a) e = cc
-path_stop v q (stopped r) e = let f : q ≡ r = cc in rw f
-
-pub path_none : (s : List ℕ) (table sum at : ℕ) (q : Refusal) → number_of (count_in s sum 21 8192 table at) ≡ Err q → Err q ≡ number_of (path_in s table sum at)
-path_none s table sum at q e = by (count_in s sum 21 8192 table at) e
-  where
-    by : (p : Parsed ℕ) → number_of p ≡ Err q → Err q ≡ number_of (onward p (λ n. repeated n (number s) >>= (λ p. return n)))
-    by (found n a) f = cc
-    by (stopped r) f = let g : q ≡ r = cc in rw g
 
 -- Paths: the first, then the rest from the sum on.
 path_first : (r : Result Taken Refusal) (test : ℕ → Verdict) (edges : ℕ → Reader (List ℕ)) (rest : ℕ → Reader PathList)
@@ -118,44 +87,13 @@ paths_turn s table count k sum at v next h e =
         rw (f, g)
     by (stopped r) q = cc
 
-pub paths_stop : (s : List ℕ) (table count k sum at : ℕ) (r : Refusal) → k < count → number_of (path_in s table sum at) ≡ Err r
-    → Err r ≡ looked (paths s table (count - k) sum at)
-paths_stop s table count k sum at r h e =
-    let d : count - k ≡ suc (count - (k + 1)) = omega arith in
-    rw d (by (path_in s table sum at) e ∙ sym (paths_first s table (count - (k + 1)) sum at))
-  where
-    by : (p : Parsed ℕ) → number_of p ≡ Err r → Err r ≡ looked (onward p (λ n. paths s table (count - (k + 1)) (sum + n)))
-    by (found n a) q = cc
-    by (stopped q') q = let f : r ≡ q' = cc in rw f
-
-pub paths_all : (s : List ℕ) (table count at : ℕ) → looked (paths s table (count - 0) 0 at) ≡ looked (paths s table count 0 at)
-paths_all s table count at =
-    let d : count - 0 ≡ count = omega arith in
-    rw d
-
-pub paths_end : (s : List ℕ) (table count k sum at : ℕ) → count ≤ k → Ok at ≡ looked (paths s table (count - k) sum at)
-paths_end s table count k sum at h =
-    let d : count - k ≡ 0 = omega arith in
-    rw d
-
 -- what stands behind a count, by what the look at the count answered
-module _ {B : Type 0} (p : Parsed ℕ) (f : ℕ → Reader B) where
-  pub number_at : (n at : ℕ) (l : Result ℕ Refusal) → number_of p ≡ Value n at → l ≡ looked (f n at) → l ≡ looked (onward p f)
-  number_at n at l e g = by p e
-    where
-      by : (p : Parsed ℕ) → number_of p ≡ Value n at → l ≡ looked (onward p f)
-      by (found x a) q =
-          let d : n ≡ x = sym (ap value_of q) in
-          let b : at ≡ a = sym (ap (next_of 0) q) in
-          rw (← d, ← b) g
-      by (stopped r) q = cc
-
-  pub number_stop : (r : Refusal) → number_of p ≡ Err r → Err r ≡ looked (onward p f)
-  number_stop r e = by p e
-    where
-      by : (p : Parsed ℕ) → number_of p ≡ Err r → Err r ≡ looked (onward p f)
-      by (found x a) q = cc
-      by (stopped r') q = let d : r ≡ r' = cc in rw d
+number_at : {B : Type 0} (p : Parsed ℕ) (f : ℕ → Reader B) (n at : ℕ) (l : Result ℕ Refusal) → number_of p ≡ Value n at → l ≡ looked (f n at) → l ≡ looked (onward p f)
+number_at (found x a) f n at l q g =
+    let d : n ≡ x = sym (ap value_of q) in
+    let b : at ≡ a = sym (ap (next_of 0) q) in
+    rw (← d, ← b) g
+number_at (stopped r) f n at l q g = cc
 
 -- the edges, whose rows were looked at as numbers
 edge_spans : (s : List ℕ) → Spans s 4 (edge_row s)
@@ -165,56 +103,15 @@ pub edges_at : (s : List ℕ) (table at m next : ℕ) (l : Result ℕ Refusal) �
 edges_at s table at m next l e h =
     number_at (count_in s 0 11 16384 table at) (λ m. repeated m (edge_row s)) m next l e (h ∙ sym (spans_rows s 4 (edge_row s) (edge_spans s) m next))
 
--- n, by what was read
-pub nodes_is : (s : List ℕ) (at v next : ℕ) (w : Verdict) → read_number s at ≡ Value v next → w ≡ unless 10 (leb v 4096)
-    → number_of (onward (tested w next) (λ x. return v)) ≡ number_of (nodes_in s at)
-nodes_is s at v next w e f = rw (f, e)
-
-pub nodes_none : (s : List ℕ) (at : ℕ) (r : Refusal) → read_number s at ≡ Err r → Err r ≡ number_of (nodes_in s at)
-nodes_none s at r e = rw e
-
--- the count of marked nodes, by what was read
-pub marked_is : (s : List ℕ) (n table at v next count : ℕ) (u w : Verdict) → read_number s at ≡ Value v next → count ≡ v
-    → u ≡ marked_count n count → w ≡ (u then unless 36 (leb count table)) → number_of (onward (tested w next) (λ x. return v)) ≡ number_of (marked_count_in s n table at)
-marked_is s n table at v next count u w e f g h = rw (h, g, f, e)
-
-pub marked_none : (s : List ℕ) (n table at : ℕ) (r : Refusal) → read_number s at ≡ Err r → Err r ≡ number_of (marked_count_in s n table at)
-marked_none s n table at r e = rw e
-
--- what stands behind a part, by what the look at the part answered
-module _ {A B : Type 0} (p : Parsed A) (f : Reader B) where
-  pub part_at : (at : ℕ) (l : Result ℕ Refusal) → looked p ≡ Ok at → l ≡ looked (f at) → l ≡ looked (onward p (λ x. f))
-  part_at at l e g = by p e
-    where
-      by : (p : Parsed A) → looked p ≡ Ok at → l ≡ looked (onward p (λ x. f))
-      by (found x a) q =
-          let b : at ≡ a = cc in
-          rw (← b) g
-      by (stopped r) q = cc
-
-  pub part_stop : (r : Refusal) → looked p ≡ Err r → Err r ≡ looked (onward p (λ x. f))
-  part_stop r e = by p e
-    where
-      by : (p : Parsed A) → looked p ≡ Err r → Err r ≡ looked (onward p (λ x. f))
-      by (found x a) q = cc
-      by (stopped r') q = let d : r ≡ r' = cc in rw d
-
 -- The look at the whole is the reader's verdict.
 -- what stands behind a part, by what the look at the part answered
-module _ {A B : Type 0} (p : Parsed A) (f : Reader B) where
-  pub behind : (at : ℕ) → looked p ≡ Ok at → verdict_of (f at) ≡ verdict_of (onward p (λ x. f))
-  behind at e = by p e
-    where
-      by : (p : Parsed A) → looked p ≡ Ok at → verdict_of (f at) ≡ verdict_of (onward p (λ x. f))
-      by (found x a) q = let b : at ≡ a = cc in rw b
-      by (stopped r) q = cc
+behind : {A B : Type 0} (p : Parsed A) (f : Reader B) (at : ℕ) → looked p ≡ Ok at → verdict_of (f at) ≡ verdict_of (onward p (λ x. f))
+behind (found x a) f at q = let b : at ≡ a = cc in rw b
+behind (stopped r) f at q = cc
 
-  pub behind_none : (r : Refusal) → looked p ≡ Err r → Err r ≡ verdict_of (onward p (λ x. f))
-  behind_none r e = by p e
-    where
-      by : (p : Parsed A) → looked p ≡ Err r → Err r ≡ verdict_of (onward p (λ x. f))
-      by (found x a) q = cc
-      by (stopped r') q = cc
+behind_none : {A B : Type 0} (p : Parsed A) (f : Reader B) (r : Refusal) → looked p ≡ Err r → Err r ≡ verdict_of (onward p (λ x. f))
+behind_none (found x a) f r q = cc
+behind_none (stopped r') f r q = cc
 
 counted : {A B : Type 0} (s : List ℕ) (test limit table at : ℕ) (f : ℕ → Reader A) (g : ℕ → Reader B) → ((n a : ℕ) → verdict_of (f n a) ≡ verdict_of (g n a))
     → verdict_of (onward (count_in s 0 test limit table at) f) ≡ verdict_of (onward (number s at) (λ n. tested (unless test (leb n limit) then unless 36 (leb n table)) >> g n))
@@ -310,16 +207,3 @@ module _ (s : List ℕ) (tables : Tables) where
         behind (lists_reader (value_at s 0) at) (tail_in s) next f
         ∙ behind (design_in s tables.edges 0) rest_look at e
         ∙ look_is
-
--- T and the end, by what was read.
-pub tail_end : (s : List ℕ) (at v next : ℕ) → read_number s at ≡ Value v next → length s ≤ next → Passed ≡ verdict_of (tail_in s at)
-tail_end s at v next e h = rw (e, le-leb (length s) next h)
-
-pub tail_more : (s : List ℕ) (at v next : ℕ) (q : Refusal) → read_number s at ≡ Value v next → next < length s → q ≡ refusal 3 next → Err q ≡ verdict_of (tail_in s at)
-tail_more s at v next q e h f = rw (e, lt-leb (length s) next h, f)
-
-pub tail_stop : (s : List ℕ) (at : ℕ) (r : Refusal) → read_number s at ≡ Err r → Err r ≡ verdict_of (tail_in s at)
-tail_stop s at r e = rw e
-
-pub count_none : (s : List ℕ) (sum test limit table at : ℕ) (r : Refusal) → read_number s at ≡ Err r → Err r ≡ number_of (count_in s sum test limit table at)
-count_none s sum test limit table at r e = rw e

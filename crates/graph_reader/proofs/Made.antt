@@ -25,13 +25,13 @@ use Rattle.graph_reader.proofs.Looking.{edge_of_row, edges_reader, repeated_leng
 use Rattle.graph_reader.proofs.Filling.{things_length, copies_from_lem, rows_from_lem, number_here}
 
 -- the counts in an answer, 0 in a refusal
-abbrev copies_in : Result GraphCounts Refusal → ℕ
-copies_in (Ok g) = g.copies
-copies_in (Err r) = 0
+abbrev copies_counted : Result GraphCounts Refusal → ℕ
+copies_counted (Ok g) = g.copies
+copies_counted (Err r) = 0
 
-abbrev edges_in : Result GraphCounts Refusal → ℕ
-edges_in (Ok g) = g.edges
-edges_in (Err r) = 0
+abbrev edges_counted : Result GraphCounts Refusal → ℕ
+edges_counted (Ok g) = g.edges
+edges_counted (Err r) = 0
 
 room_test : (limit full n room : ℕ) → (unless 32 (leb n limit) then unless full (leb n room)) ≡ Passed → n ≤ room
 room_test limit full n room e =
@@ -52,8 +52,8 @@ edges_read s edges copies at c m e = one (number s at) refl e
         → EdgesMade s edges copies at c m (parsed (onward p (λ u. return (graph_from copies rows))))
     four k b rows a q h t (found u b') f =
         let l = repeated_length (row s) k b rows a t in
-        let i : length (map (λ q. q.node) copies) ≡ c = ap copies_in f in
-        let j : length (map edge_of_row rows) ≡ m = ap edges_in f in
+        let i : length (map (λ q. q.node) copies) ≡ c = ap copies_counted f in
+        let j : length (map edge_of_row rows) ≡ m = ap edges_counted f in
         let d : k ≡ m = sym l ∙ sym (length-map rows edge_of_row) ∙ j in
         let r : rows ≡ rows_from s k b = (rows_from_lem s k b rows a t).0 in
         let n : b ≡ next_at s at = (number_here s at k b q).1 in
