@@ -7,12 +7,11 @@ use Rattle.std.specs.Prelude.{Result, Ok, Err}
 use Rattle.timing.specs.Answers.{Verdict, Passed, Value}
 use Rattle.timing.specs.declared.Taken.{Taken}
 use lib.Dec.{leb}
-use lib.ListN.{length}
-use borrow.Author.Tests.{leb-true, le-leb, lt-leb}
+use borrow.Author.Tests.{leb-true}
 use Rattle.timing.specs.declared.Refusal.{Refusal}
 use Rattle.timing.specs.Marks.{PathList, path_list}
 use Rattle.timing.specs.Numbers.{read_number}
-use Rattle.timing.specs.Refusals.{refusal, unless, ◌then◌}
+use Rattle.timing.specs.Refusals.{unless, ◌then◌}
 use Rattle.timing.specs.Parsing.{Parsed, found, stopped, Reader, onward, ◌>>=◌, ◌>>◌, return, tested, parsed_number, number, repeated, ended}
 use Rattle.timing.specs.Tests.{marked_count}
 use Rattle.timing.specs.Decks.{Deck, Tables, edge_row, design_of, paths, read_deck}

@@ -5,7 +5,7 @@ use native.Mathlib.Numerals.{add-one}
 use mathlib.Core.Path.{◌≡◌, refl, sym, ◌∙◌, ap}
 use mathlib.Core.List.{List, ◌∷◌, ◌++◌, map}
 use Rattle.std.specs.Prelude.{Result, Ok, Err}
-use Rattle.timing.specs.Answers.{Verdict, Passed, Value, DeckFound}
+use Rattle.timing.specs.Answers.{Verdict, Passed, DeckFound}
 use Rattle.timing.specs.declared.Taken.{Taken}
 use Rattle.timing.specs.declared.DeckCounts.{DeckCounts}
 use lib.Dec.{leb}
@@ -22,7 +22,7 @@ use Rattle.timing.specs.Decks.{Deck, Tables, EdgeRow, edge_row, design_of, paths
 use Rattle.timing.specs.Tests.{edge_sizes, marked_count}
 use Rattle.timing.specs.Calls.{Outcome, made, refused, parsed, filled, deck_read, deck_answer}
 use Rattle.timing.specs.Looks.{value_of, next_of, value_at, next_at}
-use Rattle.deck_reader.specs.Reading.{verdict_of, numbers_from, numbers_end, behind_two, edge_row_at, edge_row_end, rows_from, rows_end, starts_from, counted_from, counted_end, edges_from, lengths_from, paths_end, edges_place, edge_count, design_from, count_place, list_from, list_end, marked_from, lists_end, deck_from, Fits}
+use Rattle.deck_reader.specs.Reading.{verdict_of, numbers_from, numbers_end, edge_row_at, edge_row_end, rows_from, rows_end, starts_from, counted_from, counted_end, edges_from, lengths_from, paths_end, edges_place, edge_count, design_from, count_place, list_from, list_end, marked_from, lists_end, deck_from, Fits}
 use Rattle.timing.proofs.Verdicts.{then_passed, unless_passed}
 use Rattle.deck_reader.proofs.Looking.{count_passed}
 use Rattle.packed.proofs.Rooms.{sets_append}

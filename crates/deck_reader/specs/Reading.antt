@@ -1,7 +1,6 @@
 -- Reading in two goes, a look and a fill (`Looks` of `timing`).
 use Rattle.std.specs.Prelude.{ℕ, zero, suc, ◌+◌, ◌≤◌, List, [], ◌∷◌, ◌++◌, map, leb, ℤ, length, Err}
 use Rattle.timing.specs.Answers.{Verdict, Passed}
-use Rattle.timing.specs.declared.Refusal.{Refusal}
 use Rattle.timing.specs.Graphs.{Design}
 use Rattle.timing.specs.Marks.{PathList, path_list}
 use Rattle.timing.specs.Delays.{delay_of}

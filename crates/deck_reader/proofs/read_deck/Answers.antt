@@ -1,5 +1,5 @@
 -- 30, then the look, then the fill: a refusal by the first two leaves every table.
-use mathlib.Core.Path.{◌≡◌, sym, ◌∙◌}
+use mathlib.Core.Path.{◌≡◌, sym}
 use Rattle.std.specs.Prelude.{Result, Err}
 use Rattle.std.proofs.Common.{rules}
 use lib.ListN.{length}

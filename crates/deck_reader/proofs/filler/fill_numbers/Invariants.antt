@@ -1,7 +1,6 @@
 -- The numbers from i on, stored from `filled + i` on, give the table that storing all gives.
 use Prim.Native.Nat.{◌+◌, ◌-◌}
 use mathlib.Core.Path.{◌≡◌}
-use lib.ListN.{length}
 use lib.Seq.{sets}
 use Rattle.deck_reader.specs.Reading.{numbers_from, numbers_end}
 use Rattle.deck_reader.proofs.filler.fill_numbers.Given as goal

@@ -1,7 +1,6 @@
 -- The rows from i on, stored from i on, give the tables that storing all gives.
 use Prim.Native.Nat.{◌-◌}
 use mathlib.Core.Path.{◌≡◌}
-use lib.ListN.{length}
 use lib.Seq.{sets}
 use Rattle.deck_reader.specs.Reading.{rows_end, starts_from, ends_from, early_from, late_from}
 use Rattle.deck_reader.proofs.filler.fill_rows.Given as goal
