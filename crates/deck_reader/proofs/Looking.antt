@@ -7,17 +7,16 @@ use Rattle.std.specs.Prelude.{Result, Ok, Err}
 use Rattle.timing.specs.Answers.{Verdict, Passed, Value}
 use Rattle.timing.specs.declared.Taken.{Taken}
 use lib.Dec.{leb}
-use lib.ListN.{length}
-use borrow.Author.Tests.{leb-true, le-leb, lt-leb}
+use borrow.Author.Tests.{leb-true}
 use Rattle.timing.specs.declared.Refusal.{Refusal}
 use Rattle.timing.specs.Marks.{PathList, path_list}
 use Rattle.timing.specs.Numbers.{read_number}
-use Rattle.timing.specs.Refusals.{refusal, unless, ◌then◌}
+use Rattle.timing.specs.Refusals.{unless, ◌then◌}
 use Rattle.timing.specs.Parsing.{Parsed, found, stopped, Reader, onward, ◌>>=◌, ◌>>◌, return, tested, parsed_number, number, repeated, ended}
 use Rattle.timing.specs.Tests.{marked_count}
 use Rattle.timing.specs.Decks.{Deck, Tables, edge_row, design_of, paths, read_deck}
-use Rattle.timing.specs.Looks.{looked, number_of, value_of, value_at}
-use Rattle.deck_reader.specs.Reading.{verdict_of, nodes_in, count_in, path_in, edges_in, design_in, list_in, marked_count_in, marked_in, lists_in, tail_in, place_of, behind, verdict_behind}
+use Rattle.timing.specs.Looks.{looked, number_of, value_of, next_of, value_at}
+use Rattle.deck_reader.specs.Reading.{verdict_of, nodes_in, count_in, path_in, edges_in, design_in, list_in, marked_count_in, marked_in, lists_in, tail_in}
 use Rattle.timing.proofs.Verdicts.{then_passed, unless_passed}
 use Rattle.packed_lists.proofs.Looking.{looked_made, Spans, spans_number, spans_rows}
 
@@ -36,58 +35,24 @@ count_passed test sum n limit table e =
     let p = then_passed (unless test (leb (sum + n) limit)) (unless 36 (leb (sum + n) table)) e in
     (leb-true (sum + n) limit (unless_passed test (leb (sum + n) limit) p.0), leb-true (sum + n) table (unless_passed 36 (leb (sum + n) table) p.1))
 
-pub count_is : (s : List ℕ) (sum test limit table at v next total : ℕ) (u w : Verdict) → read_number s at ≡ Value v next → total ≡ sum + v
-    → u ≡ unless test (leb total limit) → w ≡ (u then unless 36 (leb total table)) → number_of (onward (tested w next) (λ x. return v)) ≡ number_of (count_in s sum test limit table at)
-count_is s sum test limit table at v next total u w e f g h = rw (h, g, f, e)
-
 -- a length that passed its tests leaves the sum small
 pub path_small : (s : List ℕ) (table sum at v next : ℕ) → number_of (path_in s table sum at) ≡ Value v next → sum + v ≤ 8192
 path_small s table sum at v next e = one (read_number s at) e
   where
     kept : (n : ℕ) (p : Parsed (List ℕ)) → number_of (onward p (λ xs. return n)) ≡ Value v next → n ≡ v
-    kept n (found xs a) q = cc
-    kept n (stopped r) q = absurd (never r q)
-      where
-        never : (r : Refusal) → Err r ≡ Value v next → ⊥
-        never r q = let z : ◌≡◌ {A = ℕ} 0 1 = cc in omega arith
+    kept n (found xs a) q = ap value_of q
+    kept n (stopped r) q = cc
 
     two : (n a : ℕ) (w : Verdict) → (unless 21 (leb (sum + n) 8192) then unless 36 (leb (sum + n) table)) ≡ w
         → number_of (onward (onward (tested w a) (λ u. return n)) (λ n. repeated n (number s) >>= (λ p. return n))) ≡ Value v next → sum + v ≤ 8192
     two n a Passed f q =
         let k = kept n (repeated n (number s) a) q in
         omega (arith, count_passed 21 sum n 8192 table f)
-    two n a (Err r) f q = absurd (let z : ◌≡◌ {A = ℕ} 0 1 = cc in omega arith)
+    two n a (Err r) f q = cc
 
     one : (r : Result Taken Refusal) → number_of (onward (onward (parsed_number r) (λ n. tested (unless 21 (leb (sum + n) 8192) then unless 36 (leb (sum + n) table)) >> return n)) (λ n. repeated n (number s) >>= (λ p. return n))) ≡ Value v next → sum + v ≤ 8192
-    one (Value n a) q = two n a (unless 21 (leb (sum + n) 8192) then unless 36 (leb (sum + n) table)) refl q
-    one (Err r) q = absurd (let z : ◌≡◌ {A = ℕ} 0 1 = cc in omega arith)
-
--- a path from its length and the place behind its edges
-pub path_is : (s : List ℕ) (table sum at v next : ℕ) → number_of (count_in s sum 21 8192 table at) ≡ Value v next
-    → number_of (onward (repeated v (number s) next) (λ p. return v)) ≡ number_of (path_in s table sum at)
-path_is s table sum at v next e = by (count_in s sum 21 8192 table at) e
-  where
-    by : (p : Parsed ℕ) → number_of p ≡ Value v next → number_of (onward (repeated v (number s) next) (λ p. return v)) ≡ number_of (onward p (λ n. repeated n (number s) >>= (λ p. return n)))
-    by (found n a) q =
-        let f : n ≡ v = cc in
-        let g : a ≡ next = cc in
-        rw (f, g)
-    by (stopped r) q = absurd (let z : ◌≡◌ {A = ℕ} 0 1 = cc in omega arith)
-
-pub path_at : (v after : ℕ) (p : Parsed (List ℕ)) → Ok after ≡ looked p → Value v after ≡ number_of (onward p (λ xs. return v))
-path_at v after (found xs a) e = let f : after ≡ a = cc in rw f
-path_at v after (stopped r) e = absurd (let z : ◌≡◌ {A = ℕ} 0 1 = cc in omega arith)
-
-pub path_stop : (v : ℕ) (q : Refusal) (p : Parsed (List ℕ)) → Err q ≡ looked p → Err q ≡ number_of (onward p (λ xs. return v))
-path_stop v q (found xs a) e = absurd (let z : ◌≡◌ {A = ℕ} 0 1 = cc in omega arith)
-path_stop v q (stopped r) e = let f : q ≡ r = cc in rw f
-
-pub path_none : (s : List ℕ) (table sum at : ℕ) (q : Refusal) → number_of (count_in s sum 21 8192 table at) ≡ Err q → Err q ≡ number_of (path_in s table sum at)
-path_none s table sum at q e = by (count_in s sum 21 8192 table at) e
-  where
-    by : (p : Parsed ℕ) → number_of p ≡ Err q → Err q ≡ number_of (onward p (λ n. repeated n (number s) >>= (λ p. return n)))
-    by (found n a) f = absurd (let z : ◌≡◌ {A = ℕ} 0 1 = cc in omega arith)
-    by (stopped r) f = let g : q ≡ r = cc in rw g
+    one (Ok t) q = two t.value t.next (unless 21 (leb (sum + t.value) 8192) then unless 36 (leb (sum + t.value) table)) refl q
+    one (Err r) q = cc
 
 -- Paths: the first, then the rest from the sum on.
 path_first : (r : Result Taken Refusal) (test : ℕ → Verdict) (edges : ℕ → Reader (List ℕ)) (rest : ℕ → Reader PathList)
@@ -101,7 +66,7 @@ path_first (Ok t) test edges rest = two (test t.value)
     three (stopped e) = refl
 
     two : (w : Verdict) → looked (onward (tested w t.next) (λ u. edges t.value >>= (λ p. rest t.value >>= (λ l. return (path_list (p ++ l.edges) (t.value ∷ l.lengths))))))
-        ≡ looked (onward (onward (onward (tested w t.next) (λ u. return t.value)) (λ t.value. edges t.value >>= (λ p. return t.value))) rest)
+        ≡ looked (onward (onward (onward (tested w t.next) (λ u. return t.value)) (λ n. edges n >>= (λ p. return n))) rest)
     two Passed = three (edges t.value t.next)
     two (Err e) = refl
 
@@ -116,49 +81,18 @@ paths_turn s table count k sum at v next h e =
   where
     by : (p : Parsed ℕ) → number_of p ≡ Value v next → looked (paths s table (count - (k + 1)) (sum + v) next) ≡ looked (onward p (λ n. paths s table (count - (k + 1)) (sum + n)))
     by (found n a) q =
-        let f : v ≡ n = cc in
-        let g : next ≡ a = cc in
+        let f : v ≡ n = sym (ap value_of q) in
+        let g : next ≡ a = sym (ap (next_of 0) q) in
         rw (f, g)
-    by (stopped r) q = absurd (let z : ◌≡◌ {A = ℕ} 0 1 = cc in omega arith)
-
-pub paths_stop : (s : List ℕ) (table count k sum at : ℕ) (r : Refusal) → k < count → number_of (path_in s table sum at) ≡ Err r
-    → Err r ≡ looked (paths s table (count - k) sum at)
-paths_stop s table count k sum at r h e =
-    let d : count - k ≡ suc (count - (k + 1)) = omega arith in
-    rw d (by (path_in s table sum at) e ∙ sym (paths_first s table (count - (k + 1)) sum at))
-  where
-    by : (p : Parsed ℕ) → number_of p ≡ Err r → Err r ≡ looked (onward p (λ n. paths s table (count - (k + 1)) (sum + n)))
-    by (found n a) q = absurd (let z : ◌≡◌ {A = ℕ} 0 1 = cc in omega arith)
-    by (stopped q') q = let f : r ≡ q' = cc in rw f
-
-pub paths_all : (s : List ℕ) (table count at : ℕ) → looked (paths s table (count - 0) 0 at) ≡ looked (paths s table count 0 at)
-paths_all s table count at =
-    let d : count - 0 ≡ count = omega arith in
-    rw d
-
-pub paths_end : (s : List ℕ) (table count k sum at : ℕ) → count ≤ k → Ok at ≡ looked (paths s table (count - k) sum at)
-paths_end s table count k sum at h =
-    let d : count - k ≡ 0 = omega arith in
-    rw d
+    by (stopped r) q = cc
 
 -- what stands behind a count, by what the look at the count answered
-module _ {B : Type 0} (p : Parsed ℕ) (f : ℕ → Reader B) where
-  pub number_at : (n at : ℕ) (l : Result ℕ Refusal) → number_of p ≡ Value n at → l ≡ looked (f n at) → l ≡ looked (onward p f)
-  number_at n at l e g = by p e
-    where
-      by : (p : Parsed ℕ) → number_of p ≡ Value n at → l ≡ looked (onward p f)
-      by (found x a) q =
-          let d : n ≡ x = cc in
-          let b : at ≡ a = cc in
-          rw (← d, ← b) g
-      by (stopped r) q = absurd (let z : ◌≡◌ {A = ℕ} 0 1 = cc in omega arith)
-
-  pub number_stop : (r : Refusal) → number_of p ≡ Err r → Err r ≡ looked (onward p f)
-  number_stop r e = by p e
-    where
-      by : (p : Parsed ℕ) → number_of p ≡ Err r → Err r ≡ looked (onward p f)
-      by (found x a) q = absurd (let z : ◌≡◌ {A = ℕ} 0 1 = cc in omega arith)
-      by (stopped r') q = let d : r ≡ r' = cc in rw d
+number_at : {B : Type 0} (p : Parsed ℕ) (f : ℕ → Reader B) (n at : ℕ) (l : Result ℕ Refusal) → number_of p ≡ Value n at → l ≡ looked (f n at) → l ≡ looked (onward p f)
+number_at (found x a) f n at l q g =
+    let d : n ≡ x = sym (ap value_of q) in
+    let b : at ≡ a = sym (ap (next_of 0) q) in
+    rw (← d, ← b) g
+number_at (stopped r) f n at l q g = cc
 
 -- the edges, whose rows were looked at as numbers
 edge_spans : (s : List ℕ) → Spans s 4 (edge_row s)
@@ -168,50 +102,15 @@ pub edges_at : (s : List ℕ) (table at m next : ℕ) (l : Result ℕ Refusal) �
 edges_at s table at m next l e h =
     number_at (count_in s 0 11 16384 table at) (λ m. repeated m (edge_row s)) m next l e (h ∙ sym (spans_rows s 4 (edge_row s) (edge_spans s) m next))
 
--- n, by what was read
-pub nodes_is : (s : List ℕ) (at v next : ℕ) (w : Verdict) → read_number s at ≡ Value v next → w ≡ unless 10 (leb v 4096)
-    → number_of (onward (tested w next) (λ x. return v)) ≡ number_of (nodes_in s at)
-nodes_is s at v next w e f = rw (f, e)
-
-pub nodes_none : (s : List ℕ) (at : ℕ) (r : Refusal) → read_number s at ≡ Err r → Err r ≡ number_of (nodes_in s at)
-nodes_none s at r e = rw e
-
--- the count of marked nodes, by what was read
-pub marked_is : (s : List ℕ) (n table at v next count : ℕ) (u w : Verdict) → read_number s at ≡ Value v next → count ≡ v
-    → u ≡ marked_count n count → w ≡ (u then unless 36 (leb count table)) → number_of (onward (tested w next) (λ x. return v)) ≡ number_of (marked_count_in s n table at)
-marked_is s n table at v next count u w e f g h = rw (h, g, f, e)
-
-pub marked_none : (s : List ℕ) (n table at : ℕ) (r : Refusal) → read_number s at ≡ Err r → Err r ≡ number_of (marked_count_in s n table at)
-marked_none s n table at r e = rw e
-
--- what stands behind a part, by what the look at the part answered
-module _ {A B : Type 0} (p : Parsed A) (f : Reader B) where
-  pub part_at : (at : ℕ) (l : Result ℕ Refusal) → looked p ≡ Ok at → l ≡ looked (f at) → l ≡ looked (onward p (λ x. f))
-  part_at at l e g = by p e
-    where
-      by : (p : Parsed A) → looked p ≡ Ok at → l ≡ looked (onward p (λ x. f))
-      by (found x a) q =
-          let b : at ≡ a = cc in
-          rw (← b) g
-      by (stopped r) q = absurd (let z : ◌≡◌ {A = ℕ} 0 1 = cc in omega arith)
-
-  pub part_stop : (r : Refusal) → looked p ≡ Err r → Err r ≡ looked (onward p (λ x. f))
-  part_stop r e = by p e
-    where
-      by : (p : Parsed A) → looked p ≡ Err r → Err r ≡ looked (onward p (λ x. f))
-      by (found x a) q = absurd (let z : ◌≡◌ {A = ℕ} 0 1 = cc in omega arith)
-      by (stopped r') q = let d : r ≡ r' = cc in rw d
-
 -- The look at the whole is the reader's verdict.
--- part by part, each from the place that the one before it got to
-steps : {A B C : Type 0} (p : Parsed A) (f : Reader B) (g : Reader C)
-    → (let d = looked p in let l = behind d (looked (f (place_of d))) in verdict_behind l (verdict_of (g (place_of l)))) ≡ verdict_of (onward p (λ x. f >>= (λ y. g)))
-steps {A} {B} {C} (found x at) f g = by (f at)
-  where
-    by : (q : Parsed B) → verdict_behind (looked q) (verdict_of (g (place_of (looked q)))) ≡ verdict_of (onward q (λ y. g))
-    by (found y a) = refl
-    by (stopped r) = refl
-steps (stopped r) f g = refl
+-- what stands behind a part, by what the look at the part answered
+behind : {A B : Type 0} (p : Parsed A) (f : Reader B) (at : ℕ) → looked p ≡ Ok at → verdict_of (f at) ≡ verdict_of (onward p (λ x. f))
+behind (found x a) f at q = let b : at ≡ a = cc in rw b
+behind (stopped r) f at q = cc
+
+behind_none : {A B : Type 0} (p : Parsed A) (f : Reader B) (r : Refusal) → looked p ≡ Err r → Err r ≡ verdict_of (onward p (λ x. f))
+behind_none (found x a) f r q = cc
+behind_none (stopped r') f r q = cc
 
 counted : {A B : Type 0} (s : List ℕ) (test limit table at : ℕ) (f : ℕ → Reader A) (g : ℕ → Reader B) → ((n a : ℕ) → verdict_of (f n a) ≡ verdict_of (g n a))
     → verdict_of (onward (count_in s 0 test limit table at) f) ≡ verdict_of (onward (number s at) (λ n. tested (unless test (leb n limit) then unless 36 (leb n table)) >> g n))
@@ -223,9 +122,10 @@ counted {A} {B} s test limit table at f g h = one (read_number s at)
 
     one : (r : Result Taken Refusal) → verdict_of (onward (onward (parsed_number r) (λ n. tested (unless test (leb (0 + n) limit) then unless 36 (leb (0 + n) table)) >> return n)) f)
         ≡ verdict_of (onward (parsed_number r) (λ n. tested (unless test (leb n limit) then unless 36 (leb n table)) >> g n))
-    one (Value n a) =
+    one (Ok t) =
+        let n = t.value in
         let d : 0 + n ≡ n = omega arith in
-        rw d (two n a (unless test (leb n limit) then unless 36 (leb n table)))
+        rw d (two n t.next (unless test (leb n limit) then unless 36 (leb n table)))
     one (Err r) = refl
 
 -- a number with a test of its own, which is the number that stands there
@@ -239,7 +139,7 @@ judged {A} {B} s at test f g h = one (read_number s at) refl
     two n a (Err r) e = refl
 
     one : (r : Result Taken Refusal) → read_number s at ≡ r → verdict_of (onward (onward (parsed_number r) (λ n. tested (test n) >> return n)) f) ≡ verdict_of (onward (parsed_number r) (λ n. tested (test n) >> g n))
-    one (Value n a) q = two n a (test n) (ap value_of q)
+    one (Ok t) q = two t.value t.next (test t.value) (ap value_of q)
     one (Err r) q = refl
 
 tail_made : {A : Type 0} (s : List ℕ) (at : ℕ) (f : ℕ → A) → verdict_of (tail_in s at) ≡ verdict_of ((number s >>= (λ t. ended s >> return (f t))) at)
@@ -273,30 +173,36 @@ rest_made s tables n f at =
     ∙ judged s c (λ k. marked_count n k then unless 36 (leb k tables.marked)) _ _
     (λ k d e. verdict_onward (repeated k (number s) d) _ _ (λ marked g. tail_made s g (f list marked)))))
 
-pub look_is : (s : List ℕ) (tables : Tables)
-    → (let d = looked (design_in s tables.edges 0) in let l = behind d (looked (lists_in s (value_at s 0) tables.listed tables.paths tables.marked (place_of d))) in verdict_behind l (verdict_of (tail_in s (place_of l))))
-    ≡ verdict_of (read_deck s tables)
-unfolding read_deck
-look_is s tables =
-    let lists : ℕ → Reader (List ℕ) = λ n. lists_in s n tables.listed tables.paths tables.marked in
-    let rest : Reader (Unit {0}) = lists (value_at s 0) >>= (λ l. tail_in s) in
-    steps (design_in s tables.edges 0) (lists (value_at s 0)) (tail_in s)
-    ∙ ap verdict_of (onward_assoc (nodes_in s 0) (λ n. edges_in s tables.edges) (λ rows. rest))
-    ∙ judged s 0 (λ n. unless 10 (leb n 4096)) _ _
-    (λ n a e. ap verdict_of (onward_assoc (count_in s 0 11 16384 tables.edges a) (λ m. repeated m (edge_row s)) (λ rows. rest)) ∙ counted s 11 16384 tables.edges a _ _
-    (λ m b. verdict_onward (repeated m (edge_row s) b) _ _
-    (λ rows c. ap (λ (k : ℕ). verdict_of ((lists k >>= (λ l. tail_in s)) c)) e
-    ∙ rest_made s tables n (λ list marked allowed. record { design = design_of n rows marked; list = list; allowed = allowed }) c)))
+module _ (s : List ℕ) (tables : Tables) where
+  abbrev lists_reader : ℕ → Reader (List ℕ)
+  lists_reader n = lists_in s n tables.listed tables.paths tables.marked
 
--- T and the end, by what was read.
-pub tail_end : (s : List ℕ) (at v next : ℕ) → read_number s at ≡ Value v next → length s ≤ next → Passed ≡ verdict_of (tail_in s at)
-tail_end s at v next e h = rw (e, le-leb (length s) next h)
+  -- the lists, T and the end
+  abbrev rest_look : Reader (Unit {0})
+  rest_look = lists_reader (value_at s 0) >>= (λ l. tail_in s)
 
-pub tail_more : (s : List ℕ) (at v next : ℕ) (q : Refusal) → read_number s at ≡ Value v next → next < length s → q ≡ refusal 3 next → Err q ≡ verdict_of (tail_in s at)
-tail_more s at v next q e h f = rw (e, lt-leb (length s) next h, f)
+  look_is : verdict_of (onward (design_in s tables.edges 0) (λ d. rest_look)) ≡ verdict_of (read_deck s tables)
+  unfolding read_deck
+  look_is =
+      ap verdict_of (onward_assoc (nodes_in s 0) (λ n. edges_in s tables.edges) (λ rows. rest_look))
+      ∙ judged s 0 (λ n. unless 10 (leb n 4096)) _ _
+      (λ n a e. ap verdict_of (onward_assoc (count_in s 0 11 16384 tables.edges a) (λ m. repeated m (edge_row s)) (λ rows. rest_look)) ∙ counted s 11 16384 tables.edges a _ _
+      (λ m b. verdict_onward (repeated m (edge_row s) b) _ _
+      (λ rows c. ap (λ (k : ℕ). verdict_of ((lists_reader k >>= (λ l. tail_in s)) c)) e
+      ∙ rest_made s tables n (λ list marked allowed. record { design = design_of n rows marked; list = list; allowed = allowed }) c)))
 
-pub tail_stop : (s : List ℕ) (at : ℕ) (r : Refusal) → read_number s at ≡ Err r → Err r ≡ verdict_of (tail_in s at)
-tail_stop s at r e = rw e
+  pub look_stop : (r : Refusal) → looked (design_in s tables.edges 0) ≡ Err r → Err r ≡ verdict_of (read_deck s tables)
+  look_stop r e = behind_none (design_in s tables.edges 0) rest_look r e ∙ look_is
 
-pub count_none : (s : List ℕ) (sum test limit table at : ℕ) (r : Refusal) → read_number s at ≡ Err r → Err r ≡ number_of (count_in s sum test limit table at)
-count_none s sum test limit table at r e = rw e
+  module _ (at : ℕ) (e : looked (design_in s tables.edges 0) ≡ Ok at) where
+    pub look_stop_lists : (r : Refusal) → looked (lists_reader (value_at s 0) at) ≡ Err r → Err r ≡ verdict_of (read_deck s tables)
+    look_stop_lists r f =
+        behind_none (lists_reader (value_at s 0) at) (tail_in s) r f
+        ∙ behind (design_in s tables.edges 0) rest_look at e
+        ∙ look_is
+
+    pub look_rest : (next : ℕ) → looked (lists_reader (value_at s 0) at) ≡ Ok next → verdict_of (tail_in s next) ≡ verdict_of (read_deck s tables)
+    look_rest next f =
+        behind (lists_reader (value_at s 0) at) (tail_in s) next f
+        ∙ behind (design_in s tables.edges 0) rest_look at e
+        ∙ look_is

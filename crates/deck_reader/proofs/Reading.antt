@@ -4,8 +4,8 @@ use native.Mathlib.Omega.{arith}
 use native.Mathlib.Numerals.{add-one}
 use mathlib.Core.Path.{◌≡◌, refl, sym, ◌∙◌, ap}
 use mathlib.Core.List.{List, ◌∷◌, ◌++◌, map}
-use Rattle.std.specs.Prelude.{Result, Err}
-use Rattle.timing.specs.Answers.{Verdict, Passed, Value, DeckFound}
+use Rattle.std.specs.Prelude.{Result, Ok, Err}
+use Rattle.timing.specs.Answers.{Verdict, Passed, DeckFound}
 use Rattle.timing.specs.declared.Taken.{Taken}
 use Rattle.timing.specs.declared.DeckCounts.{DeckCounts}
 use lib.Dec.{leb}
@@ -22,7 +22,7 @@ use Rattle.timing.specs.Decks.{Deck, Tables, EdgeRow, edge_row, design_of, paths
 use Rattle.timing.specs.Tests.{edge_sizes, marked_count}
 use Rattle.timing.specs.Calls.{Outcome, made, refused, parsed, filled, deck_read, deck_answer}
 use Rattle.timing.specs.Looks.{value_of, next_of, value_at, next_at}
-use Rattle.deck_reader.specs.Reading.{verdict_of, numbers_from, numbers_end, behind_two, edge_row_at, edge_row_end, rows_from, rows_end, starts_from, counted_from, counted_end, edges_from, lengths_from, paths_end, edges_place, edge_count, design_from, count_place, list_from, list_end, marked_from, lists_end, deck_from, Fits}
+use Rattle.deck_reader.specs.Reading.{verdict_of, numbers_from, numbers_end, edge_row_at, edge_row_end, rows_from, rows_end, starts_from, counted_from, counted_end, edges_from, lengths_from, paths_end, edges_place, edge_count, design_from, count_place, list_from, list_end, marked_from, lists_end, deck_from, Fits}
 use Rattle.timing.proofs.Verdicts.{then_passed, unless_passed}
 use Rattle.deck_reader.proofs.Looking.{count_passed}
 use Rattle.packed.proofs.Rooms.{sets_append}
@@ -45,7 +45,7 @@ unfolding value_at next_at
 is_number s at = by (read_number s at)
   where
     by : (r : Result Taken Refusal) → Is (λ x next. (x ≡ value_of r) × (next ≡ next_of at r)) (parsed_number r)
-    by (Value v next) = (refl, refl)
+    by (Ok t) = (refl, refl)
     by (Err r) = tt
 
 abbrev pub TestIs : Verdict → ℕ → Unit {0} → ℕ → Type 0
@@ -200,18 +200,13 @@ read_passed s tables e = by (read_deck s tables) e (is_deck s tables)
   where
     by : (p : Parsed Deck) → verdict_of p ≡ Passed → Is (DeckIs s tables) p → (parsed p ≡ made (deck_from s 0)) × Fits s 0 tables
     by (found d at) q h = (ap made h.0, h.1)
-    by (stopped r) q h = absurd (let z : ◌≡◌ {A = ℕ} 0 1 = cc in omega arith)
+    by (stopped r) q h = cc
 
 pub read_refused : (p : Parsed Deck) (r : Refusal) → verdict_of p ≡ Err r → parsed p ≡ refused r
-read_refused (found d at) r e = absurd (let z : ◌≡◌ {A = ℕ} 0 1 = cc in omega arith)
+read_refused (found d at) r e = cc
 read_refused (stopped q) r e = let d : q ≡ r = cc in ap refused d
 
--- Filling: two numbers at a place.
-pub two_are : (s : List ℕ) (at v a w b : ℕ) → (v ≡ value_at s at) × (a ≡ next_at s at) → (w ≡ value_at s a) × (b ≡ next_at s a)
-    → (b ≡ behind_two s at) × (v ≡ value_at s at) × (w ≡ value_at s (next_at s at))
-two_are s at v a w b h g = (rw (g.1, h.1), h.0, rw (g.0, h.1))
-
--- numbers to a table
+-- Filling: numbers to a table.
 module _ (s : List ℕ) (count i at : ℕ) where
   pub numbers_step : (l : List ℕ) (from v next : ℕ) → i < count → (v ≡ value_at s at) × (next ≡ next_at s at)
       → (numbers_end s (count - (i + 1)) next ≡ numbers_end s (count - i) at)
@@ -221,18 +216,6 @@ module _ (s : List ℕ) (count i at : ℕ) where
       let f : from + (i + 1) ≡ suc (from + i) = omega arith in
       rw (d, f, e.0, e.1) (refl, refl)
 
-  pub numbers_none : (l : List ℕ) (from : ℕ) → count ≤ i → (numbers_end s (count - i) at ≡ at) × (sets l (from + i) (numbers_from s (count - i) at) ≡ l)
-  numbers_none l from h =
-      let d : count - i ≡ 0 = omega arith in
-      rw d (refl, refl)
-
-pub numbers_whole : (s : List ℕ) (count at : ℕ) (l : List ℕ) (from : ℕ)
-    → (numbers_end s (count - 0) at ≡ numbers_end s count at) × (sets l (from + 0) (numbers_from s (count - 0) at) ≡ sets l from (numbers_from s count at))
-numbers_whole s count at l from =
-    let d : count - 0 ≡ count = omega arith in
-    let f : from + 0 ≡ from = omega arith in
-    rw (d, f) (refl, refl)
-
 -- rows to a table: one of the four, by what it holds of a row
 module _ {A : Type 0} (f : EdgeRow → A) (s : List ℕ) (m i at : ℕ) where
   pub rows_step : (l l' : List A) (next : ℕ) → i < m → next ≡ edge_row_end s at → l' ≡ set l i (f (edge_row_at s at))
@@ -241,30 +224,10 @@ module _ {A : Type 0} (f : EdgeRow → A) (s : List ℕ) (m i at : ℕ) where
       let d : m - i ≡ suc (m - (i + 1)) = omega arith in
       rw (d, e, g, add-one i)
 
-  pub rows_none : (l : List A) → m ≤ i → sets l i (map f (rows_from s (m - i) at)) ≡ l
-  rows_none l h =
-      let d : m - i ≡ 0 = omega arith in
-      rw d
-
-pub rows_whole : {A : Type 0} (f : EdgeRow → A) (s : List ℕ) (m at : ℕ) (l : List A) → sets l 0 (map f (rows_from s (m - 0) at)) ≡ sets l 0 (map f (rows_from s m at))
-rows_whole f s m at l =
-    let d : m - 0 ≡ m = omega arith in
-    rw d
-
 pub rows_next : (s : List ℕ) (m i at next : ℕ) → i < m → next ≡ edge_row_end s at → rows_end s (m - (i + 1)) next ≡ rows_end s (m - i) at
 rows_next s m i at next h e =
     let d : m - i ≡ suc (m - (i + 1)) = omega arith in
     rw (d, e)
-
-pub rows_last : (s : List ℕ) (m i at : ℕ) → m ≤ i → rows_end s (m - i) at ≡ at
-rows_last s m i at h =
-    let d : m - i ≡ 0 = omega arith in
-    rw d
-
-pub rows_start : (s : List ℕ) (m at : ℕ) → rows_end s (m - 0) at ≡ rows_end s m at
-rows_start s m at =
-    let d : m - 0 ≡ m = omega arith in
-    rw d
 
 -- paths to the two tables
 module _ (s : List ℕ) (count k at : ℕ) (h : k < count) where
@@ -290,19 +253,6 @@ module _ (s : List ℕ) (count k at : ℕ) (h : k < count) where
   lengths_step l l' next e f =
       let d : count - k ≡ suc (count - (k + 1)) = omega arith in
       rw (d, f, e, add-one k)
-
-pub paths_whole : (s : List ℕ) (count at : ℕ) (l l' : List ℕ)
-    → (length (edges_from s (count - 0) at) ≡ length (edges_from s count at)) × (paths_end s (count - 0) at ≡ paths_end s count at)
-    × (sets l 0 (edges_from s (count - 0) at) ≡ sets l 0 (edges_from s count at)) × (sets l' 0 (lengths_from s (count - 0) at) ≡ sets l' 0 (lengths_from s count at))
-paths_whole s count at l l' =
-    let d : count - 0 ≡ count = omega arith in
-    rw d (refl, refl, refl, refl)
-
-pub paths_none : (s : List ℕ) (count k at : ℕ) (l l' : List ℕ) (from : ℕ) → count ≤ k
-    → (length (edges_from s (count - k) at) ≡ 0) × (paths_end s (count - k) at ≡ at) × (sets l from (edges_from s (count - k) at) ≡ l) × (sets l' k (lengths_from s (count - k) at) ≡ l')
-paths_none s count k at l l' from h =
-    let d : count - k ≡ 0 = omega arith in
-    rw d (refl, refl, refl, refl)
 
 -- what fits a table from its front on is placed there
 pub sets_placed : {A : Type 0} (l vs : List A) → length vs ≤ length l → sets l 0 vs ≡ placed vs l
@@ -346,9 +296,6 @@ marked_placed s from at ai l l' h e =
 
 -- The parts make the deck: the design, the lists from the place behind the design, and T from the place behind the lists.
 module _ (s : List ℕ) (next : ℕ) (behind : next ≡ count_place s 0) where
-  pub fits_lists : (tables : Tables) → Fits s 0 tables → (length (list_from s next).edges ≤ tables.listed) × (value_at s next ≤ tables.paths) × (value_at s (list_end s next) ≤ tables.marked)
-  fits_lists tables f = rw behind (f.listed, f.paths, f.marked)
-
   pub deck_filled : (nodes edges listed paths many t last : ℕ) (starts starts' ends ends' : List ℕ) (early early' late late' : List ℤ) (table table' lengths lengths' marked marked' : List ℕ)
       → (nodes ≡ (design_from s 0).nodes) × (edges ≡ edge_count s 0)
       → (paths ≡ value_at s next) × (listed ≡ length (list_from s next).edges) × (many ≡ value_at s (list_end s next)) × (last ≡ lists_end s next) → t ≡ value_at s last

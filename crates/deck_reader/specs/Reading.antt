@@ -1,7 +1,6 @@
 -- Reading in two goes, a look and a fill (`Looks` of `timing`).
-use Rattle.std.specs.Prelude.{ℕ, zero, suc, ◌+◌, ◌≤◌, List, [], ◌∷◌, ◌++◌, map, leb, ℤ, length, Result, Ok, Err}
+use Rattle.std.specs.Prelude.{ℕ, zero, suc, ◌+◌, ◌≤◌, List, [], ◌∷◌, ◌++◌, map, leb, ℤ, length, Err}
 use Rattle.timing.specs.Answers.{Verdict, Passed}
-use Rattle.timing.specs.declared.Refusal.{Refusal}
 use Rattle.timing.specs.Graphs.{Design}
 use Rattle.timing.specs.Marks.{PathList, path_list}
 use Rattle.timing.specs.Delays.{delay_of}
@@ -75,19 +74,6 @@ abbrev pub tail_in : List ℕ → Reader (Unit {0})
 tail_in s = do
   t ← number s
   ended s
-
--- the place that a look got to, and what stands behind one: nothing is looked at behind a refusal
-abbrev pub place_of : Result ℕ Refusal → ℕ
-place_of (Ok at) = at
-place_of (Err r) = 0
-
-abbrev pub behind : Result ℕ Refusal → Result ℕ Refusal → Result ℕ Refusal
-behind (Ok at) next = next
-behind (Err r) next = Err r
-
-abbrev pub verdict_behind : Result ℕ Refusal → Verdict → Verdict
-verdict_behind (Ok at) v = v
-verdict_behind (Err r) v = Err r
 
 -- k numbers from a place on, and the place behind them
 abbrev pub numbers_from : List ℕ → ℕ → ℕ → List ℕ

@@ -1,11 +1,7 @@
 // The second go of the reader: the tables are filled. The look has passed, so that every number is there. Each
 // function works on a plain slice and place.
-ghost use Rattle.std.specs.Prelude.{◌≡◌, ◌+◌, ◌≤◌, ◌<◌, length, set, Result, Ok};
+ghost use Rattle.std.specs.Prelude.{◌≡◌, ◌+◌, ◌≤◌, ◌<◌, length, set};
 ghost use Rattle.std.proofs.lemmas.List.Edits.{sets};
-ghost use Rattle.timing.specs.Answers.{DeckFound};
-ghost use Rattle.timing.specs.declared.Taken.{Taken};
-ghost use Rattle.timing.specs.declared.DeckCounts.{DeckCounts};
-ghost use Rattle.timing.specs.declared.Refusal.{Refusal};
 ghost use Rattle.timing.specs.Lists.{placed};
 ghost use Rattle.timing.specs.Delays.{delay_of};
 ghost use Rattle.timing.specs.Looks.{value_at, next_at};
@@ -16,46 +12,30 @@ ghost use Rattle.deck_reader.specs.Reading.{edge_count, count_place, design_from
 
 use super::{DesignRead, ListRead, ListsRead};
 use entries::wide;
+use packed_delays::unpack_delay;
 use packed_lists::take_number;
-use timing::{DeckCounts, Refusal, Taken};
+use timing::Taken;
 
-fn set_delay(delays: &mut [i32], i: usize, x: u32)
-    requires { i < length delays.old }
-    ensures { delays.new ≡ set delays.old i (delay_of x) }
-{
-    delays[i] = packed_delays::unpack_delay(x);
+// Two numbers, one after the other, and the place behind them.
+#[derive(Clone, Copy)]
+struct Pair {
+    first: u32,
+    second: u32,
+    next: usize,
 }
 
-// The two nodes of an edge, to index i of their tables.
-fn fill_nodes(s: &[u8], at: usize, i: usize, starts: &mut [u32], ends: &mut [u32]) -> usize
-    requires { (i < length starts.old) × (i < length ends.old) }
-    ensures { (result ≡ behind_two s.now at)
-        × (starts.new ≡ set starts.old i (value_at s.now at))
-        × (ends.new
-        ≡ set ends.old i (value_at s.now (next_at s.now at))) }
+fn take_pair(s: &[u8], at: usize) -> Pair
+    ensures { (result.first ≡ value_at s.now at)
+        × (result.second ≡ value_at s.now (next_at s.now at))
+        × (result.next ≡ behind_two s.now at) }
 {
-    let a = take_number(s, at);
-    let second = a.next;
-    let b = take_number(s, second);
-    starts[i] = a.value;
-    ends[i] = b.value;
-    b.next
-}
-
-// Its two delays.
-fn fill_delays(s: &[u8], at: usize, i: usize, early: &mut [i32], late: &mut [i32]) -> usize
-    requires { (i < length early.old) × (i < length late.old) }
-    ensures { (result ≡ behind_two s.now at)
-        × (early.new ≡ set early.old i (delay_of (value_at s.now at)))
-        × (late.new
-        ≡ set late.old i (delay_of (value_at s.now (next_at s.now at)))) }
-{
-    let a = take_number(s, at);
-    let second = a.next;
-    let b = take_number(s, second);
-    set_delay(early, i, a.value);
-    set_delay(late, i, b.value);
-    b.next
+    let first = take_number(s, at);
+    let second = take_number(s, first.next);
+    Pair {
+        first: first.value,
+        second: second.value,
+        next: second.next,
+    }
 }
 
 // An edge, to index i of its four tables.
@@ -79,8 +59,13 @@ fn fill_row(
         × (early.new ≡ set early.old i (delay_of row.early))
         × (late.new ≡ set late.old i (delay_of row.late)) }
 {
-    let delays = fill_nodes(s, at, i, starts, ends);
-    fill_delays(s, delays, i, early, late)
+    let nodes = take_pair(s, at);
+    let delays = take_pair(s, nodes.next);
+    starts[i] = nodes.first;
+    ends[i] = nodes.second;
+    early[i] = unpack_delay(delays.first);
+    late[i] = unpack_delay(delays.second);
+    delays.next
 }
 
 fn fill_rows(
@@ -103,10 +88,8 @@ fn fill_rows(
         × (late.new ≡ sets late.old 0 (late_from s.now m at)) }
 {
     let mut at = at;
-    let mut i = 0;
-    while i < m {
+    for i in 0..m {
         at = fill_row(s, at, i, starts, ends, early, late);
-        i += 1;
     }
     at
 }
@@ -118,12 +101,10 @@ fn fill_numbers(s: &[u8], at: usize, count: usize, listed: &mut [u32], filled: u
         × (listed.new ≡ sets listed.old filled (numbers_from s.now count at)) }
 {
     let mut at = at;
-    let mut i = 0;
-    while i < count {
-        let a = take_number(s, at);
-        listed[filled + i] = a.value;
-        at = a.next;
-        i += 1;
+    for i in 0..count {
+        let number = take_number(s, at);
+        listed[filled + i] = number.value;
+        at = number.next;
     }
     at
 }
@@ -135,11 +116,12 @@ fn fill_counted(s: &[u8], at: usize, table: &mut [u32], filled: usize) -> Taken
         × (result.next ≡ counted_end s.now at)
         × (table.new ≡ sets table.old filled (counted_from s.now at)) }
 {
-    let a = take_number(s, at);
-    let value = a.value;
-    let first = a.next;
-    let next = fill_numbers(s, first, wide(value), table, filled);
-    Taken { value, next }
+    let count = take_number(s, at);
+    let next = fill_numbers(s, count.next, wide(count.value), table, filled);
+    Taken {
+        value: count.value,
+        next,
+    }
 }
 
 // A path: its edges behind those that are there, its length to index k.
@@ -157,9 +139,9 @@ fn fill_path(
         × (listed.new ≡ sets listed.old filled (counted_from s.now at))
         × (lengths.new ≡ set lengths.old k (value_at s.now at)) }
 {
-    let a = fill_counted(s, at, listed, filled);
-    lengths[k] = a.value;
-    a
+    let path = fill_counted(s, at, listed, filled);
+    lengths[k] = path.value;
+    path
 }
 
 fn fill_paths(
@@ -179,12 +161,10 @@ fn fill_paths(
 {
     let mut at = at;
     let mut filled = 0;
-    let mut k = 0;
-    while k < count {
-        let a = fill_path(s, at, listed, filled, lengths, k);
-        at = a.next;
-        filled += wide(a.value);
-        k += 1;
+    for k in 0..count {
+        let path = fill_path(s, at, listed, filled, lengths, k);
+        at = path.next;
+        filled += wide(path.value);
     }
     ListRead {
         paths: count,
@@ -215,14 +195,11 @@ pub(crate) fn fill_design(
         × (early.new ≡ placed d.early early.old)
         × (late.new ≡ placed d.late late.old) }
 {
-    let n = take_number(s, at);
-    let second = n.next;
-    let m = take_number(s, second);
-    let rows = m.next;
-    let edges = wide(m.value);
-    let next = fill_rows(s, rows, edges, starts, ends, early, late);
+    let counts = take_pair(s, at);
+    let edges = wide(counts.second);
+    let next = fill_rows(s, counts.next, edges, starts, ends, early, late);
     DesignRead {
-        nodes: n.value,
+        nodes: counts.first,
         edges,
         next,
     }
@@ -240,8 +217,7 @@ fn fill_list(s: &[u8], at: usize, listed: &mut [u32], lengths: &mut [u32]) -> Li
         × (lengths.new ≡ placed list.lengths lengths.old) }
 {
     let count = take_number(s, at);
-    let first = count.next;
-    fill_paths(s, first, wide(count.value), listed, lengths)
+    fill_paths(s, count.next, wide(count.value), listed, lengths)
 }
 
 // The two lists at a place: the paths, and the marked nodes.
@@ -264,27 +240,12 @@ pub(crate) fn fill_lists(
         × (lengths.new ≡ placed list.lengths lengths.old)
         × (marked.new ≡ placed (marked_from s.now at) marked.old) }
 {
-    let l = fill_list(s, at, listed, lengths);
-    let behind = l.next;
-    let m = fill_counted(s, behind, marked, 0);
+    let list = fill_list(s, at, listed, lengths);
+    let nodes = fill_counted(s, list.next, marked, 0);
     ListsRead {
-        paths: l.paths,
-        listed: l.listed,
-        marked: wide(m.value),
-        next: m.next,
+        paths: list.paths,
+        listed: list.listed,
+        marked: wide(nodes.value),
+        next: nodes.next,
     }
-}
-
-// What the reader answers of the parts that it filled, and of T.
-pub(crate) fn answer(d: DesignRead, l: ListsRead, t: Taken) -> Result<DeckCounts, Refusal>
-    ensures { result ≡ DeckFound d.nodes d.edges l.listed l.paths l.marked t.value }
-{
-    Ok(DeckCounts {
-        nodes: d.nodes,
-        edges: d.edges,
-        listed: l.listed,
-        paths: l.paths,
-        marked: l.marked,
-        allowed: t.value,
-    })
 }

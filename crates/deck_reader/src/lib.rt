@@ -59,19 +59,7 @@ pub fn read_deck(
         × (lengths.new ≡ filled (λ d. d.list.lengths) o lengths.old)
         × (marked.new ≡ filled (λ d. d.design.marked) o marked.old) }
 {
-    let sizes = sizes::edge_sizes(starts.len(), ends.len(), early.len(), late.len());
-    match sizes {
-        Err(r) => {
-            return Err(r);
-        }
-        Ok(()) => {}
-    }
-    let look = reader::look_deck(s, starts.len(), listed.len(), lengths.len(), marked.len());
-    match look {
-        Err(r) => {
-            return Err(r);
-        }
-        Ok(()) => {}
-    }
-    reader::fill_deck(s, starts, ends, early, late, listed, lengths, marked)
+    sizes::edge_sizes(starts.len(), ends.len(), early.len(), late.len())?;
+    reader::look_deck(s, starts.len(), listed.len(), lengths.len(), marked.len())?;
+    Ok(reader::fill_deck(s, starts, ends, early, late, listed, lengths, marked))
 }

@@ -1,8 +1,8 @@
 // Document 01's form: a reader that carries the lent bytes and its place. It starts at the front, reads the part that
 // stands at its place, and goes on to the place behind it: the design, the lists, T and the end. The functions here hold
-// such a reader and are proved by hand; they are thin, and the work is in `looker` and `filler`, on a plain slice and
-// place. `read_deck` calls `look_deck` and `fill_deck`, whose parameters are plain.
-ghost use Rattle.std.specs.Prelude.{◌≡◌, length};
+// such a reader; they are thin, and the work is in `looker` and `filler`, on a plain slice and place. `read_deck` calls
+// `look_deck` and `fill_deck`, whose parameters are plain.
+ghost use Rattle.std.specs.Prelude.{◌≡◌, length, Ok};
 ghost use Rattle.timing.specs.Lists.{placed};
 ghost use Rattle.timing.specs.Decks.{Tables, read_deck};
 ghost use Rattle.timing.specs.Calls.{deck_answer, made};
@@ -10,7 +10,7 @@ ghost use Rattle.deck_reader.specs.Reading.{verdict_of, deck_from, Fits};
 
 use super::{filler, looker};
 use packed_lists::take_number;
-use timing::{DeckCounts, Refusal, Verdict};
+use timing::{DeckCounts, Verdict};
 
 #[derive(Clone, Copy)]
 pub(crate) struct DeckReader<'a> {
@@ -18,18 +18,23 @@ pub(crate) struct DeckReader<'a> {
     pub(crate) at: usize,
 }
 
-// The reader of all the bytes.
-pub(crate) fn at_front<'a>(bytes: &'a [u8]) -> DeckReader<'a>
-    ensures { (result.bytes ≡ bytes.entry) × (result.at ≡ 0) }
-{
-    DeckReader { bytes, at: 0 }
-}
+impl<'a> DeckReader<'a> {
+    // The reader of all the bytes.
+    pub(crate) fn at_front(bytes: &'a [u8]) -> DeckReader<'a>
+        ensures { (result.bytes ≡ bytes.entry) × (result.at ≡ 0) }
+    {
+        DeckReader { bytes, at: 0 }
+    }
 
-// The reader of the same bytes, moved to another place.
-pub(crate) fn onward<'a>(r: DeckReader<'a>, at: usize) -> DeckReader<'a>
-    ensures { (result.bytes ≡ r.entry.bytes) × (result.at ≡ at) }
-{
-    DeckReader { bytes: r.bytes, at }
+    // The reader of the same bytes, moved to another place.
+    pub(crate) fn onward(self, at: usize) -> DeckReader<'a>
+        ensures { (result.bytes ≡ self.entry.bytes) × (result.at ≡ at) }
+    {
+        DeckReader {
+            bytes: self.bytes,
+            at,
+        }
+    }
 }
 
 // The first go. A part behind one that was refused is not looked at.
@@ -43,12 +48,12 @@ pub(crate) fn look_deck(
     ensures { let tables : Tables = record { edges = edges; listed = listed; paths = paths; marked = marked } in
         result ≡ verdict_of (read_deck s.now tables) }
 {
-    let r = at_front(s);
-    let design = looker::look_design(r.bytes, r.at, edges);
-    let r = onward(r, looker::place_of(design));
-    let lists = looker::lists_behind(r.bytes, r.at, design, listed, paths, marked);
-    let r = onward(r, looker::place_of(lists));
-    looker::tail_behind(r.bytes, r.at, lists)
+    let r = DeckReader::at_front(s);
+    let behind_design = looker::look_design(r.bytes, r.at, edges)?;
+    let r = r.onward(behind_design);
+    let behind_lists = looker::look_lists(r.bytes, r.at, listed, paths, marked)?;
+    let r = r.onward(behind_lists);
+    looker::look_tail(r.bytes, r.at)
 }
 
 // The second go, when the first has passed.
@@ -61,7 +66,7 @@ pub(crate) fn fill_deck(
     listed: &mut [u32],
     lengths: &mut [u32],
     marked: &mut [u32],
-) -> Result<DeckCounts, Refusal>
+) -> DeckCounts
     requires { Fits s.now 0
         (record {
           edges = length starts.old;
@@ -73,7 +78,7 @@ pub(crate) fn fill_deck(
         × (length early.old ≡ length starts.old)
         × (length late.old ≡ length starts.old) }
     ensures { let d = deck_from s.now 0 in
-        (result ≡ deck_answer (made d))
+        (Ok result ≡ deck_answer (made d))
         × (starts.new ≡ placed d.design.starts starts.old)
         × (ends.new ≡ placed d.design.ends ends.old)
         × (early.new ≡ placed d.design.early early.old)
@@ -82,11 +87,18 @@ pub(crate) fn fill_deck(
         × (lengths.new ≡ placed d.list.lengths lengths.old)
         × (marked.new ≡ placed d.design.marked marked.old) }
 {
-    let r = at_front(s);
-    let d = filler::fill_design(r.bytes, r.at, starts, ends, early, late);
-    let r = onward(r, d.next);
-    let l = filler::fill_lists(r.bytes, r.at, listed, lengths, marked);
-    let r = onward(r, l.next);
-    let t = take_number(r.bytes, r.at);
-    filler::answer(d, l, t)
+    let r = DeckReader::at_front(s);
+    let design = filler::fill_design(r.bytes, r.at, starts, ends, early, late);
+    let r = r.onward(design.next);
+    let lists = filler::fill_lists(r.bytes, r.at, listed, lengths, marked);
+    let r = r.onward(lists.next);
+    let allowed = take_number(r.bytes, r.at);
+    DeckCounts {
+        nodes: design.nodes,
+        edges: design.edges,
+        listed: lists.listed,
+        paths: lists.paths,
+        marked: lists.marked,
+        allowed: allowed.value,
+    }
 }

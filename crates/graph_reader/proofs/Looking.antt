@@ -1,6 +1,5 @@
 -- How far a reader gets, whatever it finds.
 use Prim.Native.Nat.{ℕ, zero, suc, ◌*◌, ◌≤◌, ◌<◌}
-use native.Mathlib.Omega.{arith}
 use mathlib.Core.Path.{◌≡◌, refl, sym, ◌∙◌, ap}
 use mathlib.Core.List.{List, [], ◌∷◌}
 use Rattle.std.specs.Prelude.{Result, Ok, Err}
@@ -16,41 +15,30 @@ use Rattle.timing.specs.GraphBytes.{CopyRow, copy_row, graph_from, read_graph}
 use Rattle.timing.specs.Refusals.{refusal, unless, ◌then◌}
 use Rattle.timing.specs.Parsing.{Parsed, found, stopped, Reader, onward, ◌>>=◌, ◌>>◌, return, tested, parsed_number, number, repeated, Row, row, ended}
 use Rattle.timing.specs.Calls.{parsed, graph_answer}
-use Rattle.timing.specs.Looks.{looked, number_of}
+use Rattle.timing.specs.Looks.{looked, number_of, value_of, next_of}
 use Rattle.packed_lists.proofs.Looking.{rows_numbers}
-use Rattle.graph_reader.specs.Reading.{count_in, endpoint_in, edges_in, made_of}
-
--- A count, by what was read and what its test says.
-module _ (s : List ℕ) (limit full room at v next : ℕ) (e : read_number s at ≡ Value v next) where
-  pub count_value : (unless 32 (leb v limit) then unless full (leb v room)) ≡ Passed → Value v next ≡ number_of (count_in s limit full room at)
-  count_value f = rw (e, f)
-
-  pub count_refused : (r : Refusal) → (unless 32 (leb v limit) then unless full (leb v room)) ≡ Err r → Err r ≡ number_of (count_in s limit full room at)
-  count_refused r f = rw (e, f)
-
-pub count_none : (s : List ℕ) (limit full room at : ℕ) (r : Refusal) → read_number s at ≡ Err r → Err r ≡ number_of (count_in s limit full room at)
-count_none s limit full room at r e = rw e
+use Rattle.graph_reader.specs.Reading.{count_in, edges_in, made_of}
 
 -- What a look says of what was found.
 pub number_is : {n at : ℕ} (p : Parsed ℕ) → number_of p ≡ Value n at → p ≡ found n at
 number_is {n} {at} (found x a) q =
-    let d : x ≡ n = cc in
-    let b : a ≡ at = cc in
+    let d : x ≡ n = ap value_of q in
+    let b : a ≡ at = ap (next_of 0) q in
     rw (d, b)
-number_is (stopped r) q = absurd (let z : ◌≡◌ {A = ℕ} 0 1 = cc in omega arith)
+number_is (stopped r) q = cc
 
 pub number_no : {r : Refusal} (p : Parsed ℕ) → number_of p ≡ Err r → p ≡ stopped r
-number_no (found x a) q = absurd (let z : ◌≡◌ {A = ℕ} 0 1 = cc in omega arith)
-number_no {r} (stopped r') q = let d : r' ≡ r = cc in rw d
+number_no (found x a) q = cc
+number_no {r} (stopped r') q = cc
 
 module _ {A : Type 0} where
   pub looked_is : {at : ℕ} (p : Parsed A) → looked p ≡ Ok at → (x : A) × (p ≡ found x at)
   looked_is {at} (found x a) q = let d : a ≡ at = cc in (x, rw d)
-  looked_is (stopped r) q = absurd (let z : ◌≡◌ {A = ℕ} 0 1 = cc in omega arith)
+  looked_is (stopped r) q = cc
 
   pub looked_no : {r : Refusal} (p : Parsed A) → looked p ≡ Err r → p ≡ stopped r
-  looked_no (found x a) q = absurd (let z : ◌≡◌ {A = ℕ} 0 1 = cc in omega arith)
-  looked_no {r} (stopped r') q = let d : r' ≡ r = cc in rw d
+  looked_no (found x a) q = cc
+  looked_no {r} (stopped r') q = cc
 
 -- The edges, and 3. Their rows were looked at as numbers.
 module _ (s : List ℕ) (edges at m next : ℕ) (e : number_of (count_in s 65536 34 edges at) ≡ Value m next) where
@@ -67,9 +55,6 @@ module _ (s : List ℕ) (edges at m next : ℕ) (e : number_of (count_in s 65536
   pub edges_stop : (n : ℕ) (q : Refusal) → looked (repeated (3 * m) (number s) next) ≡ Err q → Err q ≡ made_of n (edges_in s edges at)
   edges_stop n q f = rw (number_is (count_in s 65536 34 edges at) e, looked_no (repeated m (row s) next) (sym (rows_numbers s m next) ∙ f))
 
-pub edges_none : (s : List ℕ) (edges at n : ℕ) (r : Refusal) → number_of (count_in s 65536 34 edges at) ≡ Err r → Err r ≡ made_of n (edges_in s edges at)
-edges_none s edges at n r e = rw (number_no (count_in s 65536 34 edges at) e)
-
 -- k things are k
 pub repeated_length : {A : Type 0} (p : Reader A) (k at : ℕ) → (xs : List A) (a : ℕ) → repeated k p at ≡ found xs a → length xs ≡ k
 repeated_length p zero at xs a e = let d : xs ≡ [] = cc in rw d
@@ -79,37 +64,11 @@ repeated_length {A} p (suc k) at xs a e = one (p at) e (λ b. repeated_length p 
     two x (found ys b) f below =
         let d : xs ≡ x ∷ ys = cc in
         rw d (ap suc (below ys b refl))
-    two x (stopped r) f below = absurd (let z : ◌≡◌ {A = ℕ} 0 1 = cc in omega arith)
+    two x (stopped r) f below = cc
 
     one : (q : Parsed A) → onward q (λ x. repeated k p >>= (λ ys. return (x ∷ ys))) ≡ found xs a → ((b : ℕ) (ys : List A) (c : ℕ) → repeated k p b ≡ found ys c → length ys ≡ k) → length xs ≡ suc k
     one (found x b) f below = two x (repeated k p b) f (below b)
-    one (stopped r) f below = absurd (let z : ◌≡◌ {A = ℕ} 0 1 = cc in omega arith)
-
--- A copy, by what was read of its node, and an endpoint number.
-module _ (s : List ℕ) (at v next : ℕ) (e : read_number s at ≡ Value v next) where
-  pub endpoint_in_lem : v ≤ 1 → Ok next ≡ looked (endpoint_in s at)
-  endpoint_in_lem h = rw (e, le-leb v 1 h)
-
-  pub endpoint_above : 1 < v → Err (refusal 32 0) ≡ looked (endpoint_in s at)
-  endpoint_above h = rw (e, lt-leb v 1 h)
-
-  pub copy_rest : looked (endpoint_in s next) ≡ looked (copy_row s at)
-  copy_rest = rw e (one (read_number s next))
-    where
-      two : (x a : ℕ) (t : Verdict) → looked (onward (tested t a) (λ u. return x)) ≡ looked (onward (tested t a) (λ u. return {A = CopyRow} (record { node = v; endpoint = x })))
-      two x a Passed = refl
-      two x a (Err r) = refl
-
-      one : (r : Result Taken Refusal) → looked (onward (parsed_number r) (λ x. tested (unless 32 (leb x 1)) >> return x))
-          ≡ looked (onward (parsed_number r) (λ x. tested (unless 32 (leb x 1)) >> return {A = CopyRow} (record { node = v; endpoint = x })))
-      one (Value x a) = two x a (unless 32 (leb x 1))
-      one (Err r) = refl
-
-pub endpoint_none : (s : List ℕ) (at : ℕ) (r : Refusal) → read_number s at ≡ Err r → Err r ≡ looked (endpoint_in s at)
-endpoint_none s at r e = rw e
-
-pub copy_none : (s : List ℕ) (at : ℕ) (r : Refusal) → read_number s at ≡ Err r → Err r ≡ looked (copy_row s at)
-copy_none s at r e = rw e
+    one (stopped r) f below = cc
 
 -- The whole graph: its copies, and then its edges.
 abbrev pub edge_of_row : Row → Edge
@@ -146,7 +105,7 @@ edges_made s edges at n copies l = one (read_number s at)
     one : (r : Result Taken Refusal)
         → graph_answer (parsed (onward (parsed_number r) (λ m. tested (unless 32 (leb m 65536) then unless 34 (leb m edges)) >> (repeated m (row s) >>= (λ rows. ended s >> return (graph_from copies rows))))))
         ≡ made_of n (onward (onward (parsed_number r) (λ m. tested (unless 32 (leb m 65536) then unless 34 (leb m edges)) >> return m)) (λ m. repeated m (row s) >>= (λ rows. ended s >> return m)))
-    one (Value m a) = two m a (unless 32 (leb m 65536) then unless 34 (leb m edges))
+    one (Ok t) = two t.value t.next (unless 32 (leb t.value 65536) then unless 34 (leb t.value edges))
     one (Err r) = refl
 
 -- a count that passed, and what the reader does with it
@@ -160,25 +119,25 @@ count_parts s limit full room at n next e = one (read_number s at) refl e
         let d : m ≡ n = cc in
         let b : a ≡ next = cc in
         (q ∙ rw (d, b), rw d at t)
-    two m a (Err r) q t f = absurd (let z : ◌≡◌ {A = ℕ} 0 1 = cc in omega arith)
+    two m a (Err r) q t f = cc
 
     one : (r : Result Taken Refusal) → read_number s at ≡ r → onward (parsed_number r) (λ m. tested (unless 32 (leb m limit) then unless full (leb m room)) >> return m) ≡ found n next
         → (read_number s at ≡ Value n next) × ((unless 32 (leb n limit) then unless full (leb n room)) ≡ Passed)
-    one (Value m a) q f = two m a (unless 32 (leb m limit) then unless full (leb m room)) q refl f
-    one (Err r) q f = absurd (let z : ◌≡◌ {A = ℕ} 0 1 = cc in omega arith)
+    one (Ok t) q f = two t.value t.next (unless 32 (leb t.value limit) then unless full (leb t.value room)) q refl f
+    one (Err r) q f = cc
 
 counted : {B : Type 0} (s : List ℕ) (limit full room at : ℕ) (r : Refusal) (f : ℕ → Reader B) → count_in s limit full room at ≡ stopped r
     → onward (number s at) (λ n. tested (unless 32 (leb n limit) then unless full (leb n room)) >> f n) ≡ stopped r
 counted {B} s limit full room at r f e = one (read_number s at) e
   where
     two : (m a : ℕ) (v : Verdict) → onward (tested v a) (λ u. return m) ≡ stopped r → onward (tested v a) (λ u. f m) ≡ stopped r
-    two m a Passed q = absurd (let z : ◌≡◌ {A = ℕ} 0 1 = cc in omega arith)
-    two m a (Err r') q = let d : r' ≡ r = cc in rw d
+    two m a Passed q = cc
+    two m a (Err r') q = cc
 
     one : (q : Result Taken Refusal) → onward (parsed_number q) (λ m. tested (unless 32 (leb m limit) then unless full (leb m room)) >> return m) ≡ stopped r
         → onward (parsed_number q) (λ n. tested (unless 32 (leb n limit) then unless full (leb n room)) >> f n) ≡ stopped r
-    one (Value m a) q = two m a (unless 32 (leb m limit) then unless full (leb m room)) q
-    one (Err r') q = let d : r' ≡ r = cc in rw d
+    one (Ok t) q = two t.value t.next (unless 32 (leb t.value limit) then unless full (leb t.value room)) q
+    one (Err r') q = cc
 
 -- what the reader answers, by what the looks do
 module _ (s : List ℕ) (copies edges n next : ℕ) (e : number_of (count_in s 16384 33 copies 0) ≡ Value n next) where

@@ -3,7 +3,7 @@ use Prim.Native.Nat.{ℕ, ◌+◌, ◌≤◌}
 use native.Mathlib.Omega.{arith}
 use mathlib.Core.Path.{◌≡◌, refl, sym, ◌∙◌, ap}
 use mathlib.Core.List.{List, [], ◌∷◌, ◌++◌, map}
-use Rattle.std.specs.Prelude.{Result, Err}
+use Rattle.std.specs.Prelude.{Result, Ok, Err}
 use Rattle.timing.specs.Answers.{Verdict, Passed, Counts}
 use Rattle.timing.specs.declared.GraphCounts.{GraphCounts}
 use lib.Dec.{leb}
@@ -24,8 +24,14 @@ use Rattle.graph_reader.specs.Reading.{copy_at, copy_end, copies_from, rows_from
 use Rattle.graph_reader.proofs.Looking.{edge_of_row, edges_reader, repeated_length}
 use Rattle.graph_reader.proofs.Filling.{things_length, copies_from_lem, rows_from_lem, number_here}
 
-no_counts : {X : Type 0} (r : Refusal) (c m : ℕ) → Err r ≡ Counts c m → X
-no_counts r c m e = absurd (let z : ◌≡◌ {A = ℕ} 0 1 = cc in omega arith)
+-- the counts in an answer, 0 in a refusal
+abbrev copies_counted : Result GraphCounts Refusal → ℕ
+copies_counted (Ok g) = g.copies
+copies_counted (Err r) = 0
+
+abbrev edges_counted : Result GraphCounts Refusal → ℕ
+edges_counted (Ok g) = g.edges
+edges_counted (Err r) = 0
 
 room_test : (limit full n room : ℕ) → (unless 32 (leb n limit) then unless full (leb n room)) ≡ Passed → n ≤ room
 room_test limit full n room e =
@@ -46,31 +52,31 @@ edges_read s edges copies at c m e = one (number s at) refl e
         → EdgesMade s edges copies at c m (parsed (onward p (λ u. return (graph_from copies rows))))
     four k b rows a q h t (found u b') f =
         let l = repeated_length (row s) k b rows a t in
-        let i : length (map (λ q. q.node) copies) ≡ c = cc in
-        let j : length (map edge_of_row rows) ≡ m = cc in
+        let i : length (map (λ q. q.node) copies) ≡ c = ap copies_counted f in
+        let j : length (map edge_of_row rows) ≡ m = ap edges_counted f in
         let d : k ≡ m = sym l ∙ sym (length-map rows edge_of_row) ∙ j in
         let r : rows ≡ rows_from s k b = (rows_from_lem s k b rows a t).0 in
         let n : b ≡ next_at s at = (number_here s at k b q).1 in
         record { is = rw (← d, ← n, ← r); count = sym (length-map copies (λ q. q.node)) ∙ i; few = omega arith }
-    four k b rows a q h t (stopped r) f = no_counts r c m f
+    four k b rows a q h t (stopped r) f = cc
 
     three : (k b : ℕ) → number s at ≡ found k b → k ≤ edges → (p : Parsed (List Row)) → repeated k (row s) b ≡ p
         → graph_answer (parsed (onward p (λ rows. ended s >> return (graph_from copies rows)))) ≡ Counts c m
         → EdgesMade s edges copies at c m (parsed (onward p (λ rows. ended s >> return (graph_from copies rows))))
     three k b q h (found rows a) t f = four k b rows a q h t (ended s a) f
-    three k b q h (stopped r) t f = no_counts r c m f
+    three k b q h (stopped r) t f = cc
 
     two : (k b : ℕ) → number s at ≡ found k b → (v : Verdict) → (unless 32 (leb k 65536) then unless 34 (leb k edges)) ≡ v
         → graph_answer (parsed (onward (tested v b) (λ u. repeated k (row s) >>= (λ rows. ended s >> return (graph_from copies rows))))) ≡ Counts c m
         → EdgesMade s edges copies at c m (parsed (onward (tested v b) (λ u. repeated k (row s) >>= (λ rows. ended s >> return (graph_from copies rows)))))
     two k b q Passed t f = three k b q (room_test 65536 34 k edges t) (repeated k (row s) b) refl f
-    two k b q (Err r) t f = no_counts r c m f
+    two k b q (Err r) t f = cc
 
     one : (p : Parsed ℕ) → number s at ≡ p
         → graph_answer (parsed (onward p (λ k. tested (unless 32 (leb k 65536) then unless 34 (leb k edges)) >> (repeated k (row s) >>= (λ rows. ended s >> return (graph_from copies rows)))))) ≡ Counts c m
         → EdgesMade s edges copies at c m (parsed (onward p (λ k. tested (unless 32 (leb k 65536) then unless 34 (leb k edges)) >> (repeated k (row s) >>= (λ rows. ended s >> return (graph_from copies rows))))))
     one (found k b) q f = two k b q (unless 32 (leb k 65536) then unless 34 (leb k edges)) refl f
-    one (stopped r) q f = no_counts r c m f
+    one (stopped r) q f = cc
 
 -- the graph that the fill puts into the room
 abbrev pub filled_graph : List ℕ → ℕ → ℕ → Graph
@@ -94,19 +100,19 @@ graph_read_lem s copies edges c m e = one (number s 0) refl e
         let n : b ≡ next_at s 0 = (number_here s 0 k b q).1 in
         let r = copies_from_lem s k b rows a t in
         record { is = g.is ∙ rw (← d, ← n, ← r.0, ← r.1); few = omega arith; few_edges = g.few }
-    three k b q h (stopped r) t f = no_counts r c m f
+    three k b q h (stopped r) t f = cc
 
     two : (k b : ℕ) → number s 0 ≡ found k b → (v : Verdict) → (unless 32 (leb k 16384) then unless 33 (leb k copies)) ≡ v
         → graph_answer (parsed (onward (tested v b) (λ u. repeated k (copy_row s) >>= edges_reader s edges))) ≡ Counts c m
         → GraphFound s copies edges c m (parsed (onward (tested v b) (λ u. repeated k (copy_row s) >>= edges_reader s edges)))
     two k b q Passed t f = three k b q (room_test 16384 33 k copies t) (repeated k (copy_row s) b) refl f
-    two k b q (Err r) t f = no_counts r c m f
+    two k b q (Err r) t f = cc
 
     one : (p : Parsed ℕ) → number s 0 ≡ p
         → graph_answer (parsed (onward p (λ k. tested (unless 32 (leb k 16384) then unless 33 (leb k copies)) >> (repeated k (copy_row s) >>= edges_reader s edges)))) ≡ Counts c m
         → GraphFound s copies edges c m (parsed (onward p (λ k. tested (unless 32 (leb k 16384) then unless 33 (leb k copies)) >> (repeated k (copy_row s) >>= edges_reader s edges))))
     one (found k b) q f = two k b q (unless 32 (leb k 16384) then unless 33 (leb k copies)) refl f
-    one (stopped r) q f = no_counts r c m f
+    one (stopped r) q f = cc
 
 -- What is put into a room from its front is placed there.
 sets_placed : (vs l : List ℕ) → length vs ≤ length l → sets l 0 vs ≡ placed vs l
@@ -175,5 +181,5 @@ unfolding graph_read
 sizes_refused s S r e = rw e
 
 pub read_stopped : (p : Outcome Graph) (r : Refusal) → graph_answer p ≡ Err r → p ≡ refused r
-read_stopped (made G) r e = absurd (let z : ◌≡◌ {A = ℕ} 0 1 = cc in omega arith)
-read_stopped (refused r') r e = let d : r' ≡ r = cc in rw d
+read_stopped (made G) r e = cc
+read_stopped (refused r') r e = cc

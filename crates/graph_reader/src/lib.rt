@@ -28,34 +28,23 @@ pub fn read_graph(
         × (room_to.new ≡ ends_after o room_to.old)
         × (room_via.new ≡ names_after o room_via.old) }
 {
-    let v = verdicts::graph_sizes(
+    verdicts::graph_sizes(
         room_nodes.len(),
         room_endpoint.len(),
         room_from.len(),
         room_to.len(),
         room_via.len(),
+    )?;
+    let counts = reader::look(s, room_nodes.len(), room_from.len())?;
+    reader::fill(
+        s,
+        counts.copies,
+        counts.edges,
+        room_nodes,
+        room_endpoint,
+        room_from,
+        room_to,
+        room_via,
     );
-    match v {
-        Err(r) => {
-            return Err(r);
-        }
-        Ok(()) => {}
-    }
-    let g = reader::look(s, room_nodes.len(), room_from.len());
-    match g {
-        Ok(GraphCounts { copies, edges }) => {
-            reader::fill(
-                s,
-                copies,
-                edges,
-                room_nodes,
-                room_endpoint,
-                room_from,
-                room_to,
-                room_via,
-            );
-            Ok(GraphCounts { copies, edges })
-        }
-        Err(r) => Err(r),
-    }
+    Ok(counts)
 }

@@ -1,8 +1,6 @@
 // Reading a packed true graph: first everything is looked at, and then the room is filled.
-ghost use Rattle.std.specs.Prelude.{◌≡◌, ◌≤◌, ◌<◌, map, length, set, leb};
+ghost use Rattle.std.specs.Prelude.{◌≡◌, ◌≤◌, ◌<◌, map, length, set};
 ghost use Rattle.std.proofs.lemmas.List.Edits.{sets};
-ghost use Rattle.timing.specs.Refusals.{◌then◌};
-ghost use Rattle.timing.specs.Refusals.{unless as passed_if};
 ghost use Rattle.timing.specs.GraphBytes.{copy_row, read_graph};
 ghost use Rattle.timing.specs.Calls.{parsed, graph_answer};
 ghost use Rattle.timing.specs.Parsing.{repeated};
@@ -11,79 +9,45 @@ ghost use Rattle.graph_reader.specs.Reading.{count_in, endpoint_in, made_of, edg
 ghost use Rattle.graph_reader.specs.Reading.{copies_from, copies_end, rows_from, rows_place};
 
 use entries::wide;
+use packed::read_number;
 use packed_lists::{look_rows, take_number};
-use timing::{GraphCounts, Refusal, Taken, Verdict};
+use timing::{GraphCounts, MAX_COPIES, MAX_COPY_EDGES, Refusal, Taken};
+use verdicts::{refuse, unless};
 
-// 32, and then the number of the room.
-fn count_test(n: u32, limit: usize, full: u32, room: usize) -> Verdict
-    ensures { result ≡ (passed_if 32 (leb n limit) then passed_if full (leb n room)) }
-{
-    let n = wide(n);
-    if n <= limit {
-        return verdicts::unless(full, n <= room);
-    }
-    verdicts::unless(32, false)
-}
-
+// A count: 32 above a limit, and then the number of the room.
 fn look_count(s: &[u8], at: usize, limit: usize, full: u32, room: usize) -> Result<Taken, Refusal>
     ensures { result ≡ number_of (count_in s.now limit full room at) }
 {
-    let r = packed::read_number(s, at);
-    match r {
-        Ok(Taken { value, next }) => {
-            let v = count_test(value, limit, full, room);
-            match v {
-                Ok(()) => Ok(Taken { value, next }),
-                Err(e) => Err(e),
-            }
-        }
-        Err(e) => Err(e),
-    }
+    let count = read_number(s, at)?;
+    let n = wide(count.value);
+    unless(32, n <= limit)?;
+    unless(full, n <= room)?;
+    Ok(count)
 }
 
 // An endpoint number: 32 above 1, as soon as it is met.
 fn look_endpoint(s: &[u8], at: usize) -> Result<usize, Refusal>
     ensures { result ≡ looked (endpoint_in s.now at) }
 {
-    let r = packed::read_number(s, at);
-    match r {
-        Ok(Taken { value, next }) => {
-            if value <= 1 {
-                return Ok(next);
-            }
-            Err(verdicts::refuse(32, 0))
-        }
-        Err(e) => Err(e),
-    }
+    let endpoint = read_number(s, at)?;
+    unless(32, endpoint.value <= 1)?;
+    Ok(endpoint.next)
 }
 
 // A copy: its node, and its endpoint number.
 fn look_copy(s: &[u8], at: usize) -> Result<usize, Refusal>
     ensures { result ≡ looked (copy_row s.now at) }
 {
-    let r = packed::read_number(s, at);
-    match r {
-        Ok(Taken { value: _, next }) => look_endpoint(s, next),
-        Err(e) => Err(e),
-    }
+    let node = read_number(s, at)?;
+    look_endpoint(s, node.next)
 }
 
 fn look_copies(s: &[u8], at: usize, n: usize) -> Result<usize, Refusal>
     ensures { result ≡ looked (repeated n (copy_row s.now) at) }
 {
     let mut here = at;
-    let mut i = 0;
-    while i < n {
-        let r = look_copy(s, here);
-        match r {
-            Ok(next) => {
-                here = next;
-                i += 1;
-            }
-            Err(e) => {
-                return Err(e);
-            }
-        }
+    for _ in 0..n {
+        here = look_copy(s, here)?;
     }
     Ok(here)
 }
@@ -92,48 +56,29 @@ fn look_copies(s: &[u8], at: usize, n: usize) -> Result<usize, Refusal>
 fn look_edges(s: &[u8], at: usize, copies: u32, edges: usize) -> Result<GraphCounts, Refusal>
     ensures { result ≡ made_of copies (edges_in s.now edges at) }
 {
-    let r = look_count(s, at, timing::MAX_COPY_EDGES, 34, edges);
-    match r {
-        Ok(Taken { value, next }) => {
-            let q = look_rows(s, next, value, 3);
-            match q {
-                Ok(after) => {
-                    if s.len() <= after {
-                        return Ok(GraphCounts {
-                            copies: wide(copies),
-                            edges: wide(value),
-                        });
-                    }
-                    Err(verdicts::refuse(3, after))
-                }
-                Err(e) => Err(e),
-            }
-        }
-        Err(e) => Err(e),
+    let count = look_count(s, at, MAX_COPY_EDGES, 34, edges)?;
+    let after = look_rows(s, count.next, count.value, 3)?;
+    if after < s.len() {
+        return Err(refuse(3, after));
     }
+    Ok(GraphCounts {
+        copies: wide(copies),
+        edges: wide(count.value),
+    })
 }
 
 pub(crate) fn look(s: &[u8], copies: usize, edges: usize) -> Result<GraphCounts, Refusal>
     ensures { result ≡ graph_answer (parsed (read_graph s.now copies edges)) }
 {
-    let r = look_count(s, 0, timing::MAX_COPIES, 33, copies);
-    match r {
-        Ok(Taken { value, next }) => {
-            let q = look_copies(s, next, wide(value));
-            match q {
-                Ok(after) => look_edges(s, after, value, edges),
-                Err(e) => Err(e),
-            }
-        }
-        Err(e) => Err(e),
-    }
+    let count = look_count(s, 0, MAX_COPIES, 33, copies)?;
+    let after = look_copies(s, count.next, wide(count.value))?;
+    look_edges(s, after, count.value, edges)
 }
 
 pub(crate) fn next_at(s: &[u8], at: usize) -> usize
     ensures { result ≡ next_at s.now at }
 {
-    let f = take_number(s, at);
-    f.next
+    take_number(s, at).next
 }
 
 // Copy i of two slices.
@@ -150,12 +95,11 @@ fn fill_copy(
         × (room_nodes.new ≡ set room_nodes.old i copy.node)
         × (room_endpoint.new ≡ set room_endpoint.old i copy.endpoint) }
 {
-    let a = take_number(s, at);
-    let second = a.next;
-    let b = take_number(s, second);
-    room_nodes[i] = a.value;
-    room_endpoint[i] = b.value;
-    b.next
+    let node = take_number(s, at);
+    let endpoint = take_number(s, node.next);
+    room_nodes[i] = node.value;
+    room_endpoint[i] = endpoint.value;
+    endpoint.next
 }
 
 fn fill_copies(
@@ -172,10 +116,8 @@ fn fill_copies(
         × (room_endpoint.new ≡ sets room_endpoint.old 0 (map (λ q. q.endpoint) copies)) }
 {
     let mut here = at;
-    let mut i = 0;
-    while i < n {
+    for i in 0..n {
         here = fill_copy(s, here, i, room_nodes, room_endpoint);
-        i += 1;
     }
     here
 }
@@ -196,15 +138,13 @@ fn fill_row(
         × (room_to.new ≡ set room_to.old i row.second)
         × (room_via.new ≡ set room_via.old i row.third) }
 {
-    let a = take_number(s, at);
-    let second = a.next;
-    let b = take_number(s, second);
-    let third = b.next;
-    let c = take_number(s, third);
-    room_from[i] = a.value;
-    room_to[i] = b.value;
-    room_via[i] = c.value;
-    c.next
+    let from = take_number(s, at);
+    let to = take_number(s, from.next);
+    let via = take_number(s, to.next);
+    room_from[i] = from.value;
+    room_to[i] = to.value;
+    room_via[i] = via.value;
+    via.next
 }
 
 fn fill_rows(
@@ -222,10 +162,8 @@ fn fill_rows(
         × (room_via.new ≡ sets room_via.old 0 (map (λ q. q.third) rows)) }
 {
     let mut here = at;
-    let mut i = 0;
-    while i < m {
+    for i in 0..m {
         here = fill_row(s, here, i, room_from, room_to, room_via);
-        i += 1;
     }
 }
 
@@ -253,8 +191,6 @@ pub(crate) fn fill(
         × (room_to.new ≡ sets room_to.old 0 (map (λ q. q.second) rows))
         × (room_via.new ≡ sets room_via.old 0 (map (λ q. q.third) rows)) }
 {
-    let copies = next_at(s, 0);
-    let count = fill_copies(s, copies, n, room_nodes, room_endpoint);
-    let rows = next_at(s, count);
-    fill_rows(s, rows, m, room_from, room_to, room_via);
+    let count = fill_copies(s, next_at(s, 0), n, room_nodes, room_endpoint);
+    fill_rows(s, next_at(s, count), m, room_from, room_to, room_via);
 }

@@ -4,11 +4,6 @@ use lib.ListN.{length}
 use Rattle.deck_reader.proofs.Reading.{listed_placed, lengths_placed, list_end_lem, list_fits}
 use Rattle.deck_reader.proofs.filler.fill_list.Goals as goal
 
-pub fill_paths-requires : goal.fill_paths-requires
-fill_paths-requires c =
-    let a = c.args in
-    list_fits a.s.now _ _ _ (c.wide.ensures ∙ c.take_number-count.ensures.0) c.take_number-count.ensures.1 (length a.listed.now) (length a.lengths.now) c.requires
-
 pub returns : goal.returns
 returns c =
     let a = c.args in

@@ -1,22 +1,16 @@
 -- The list of paths, and behind it the marked nodes.
-use native.Mathlib.Omega.{arith}
 use mathlib.Core.Path.{◌∙◌, ap}
 use Rattle.timing.specs.Looks.{value_at}
 use Rattle.deck_reader.specs.Reading.{counted_end}
 use Rattle.deck_reader.proofs.Reading.{marked_placed}
 use Rattle.deck_reader.proofs.filler.fill_lists.Goals as goal
 
-pub fill_counted-m-requires : goal.fill_counted-m-requires
-fill_counted-m-requires c =
-    let v = ap (value_at c.args.s.now) c.fill_list-l.ensures.2 in
-    omega (arith, c.requires.2, v)
-
 pub returns : goal.returns
 returns c =
     let a = c.args in
     let s = a.s.now in
-    let e = c.fill_list-l.ensures in
-    let f = c.fill_counted-m.ensures in (
+    let e = c.fill_list-list.ensures in
+    let f = c.fill_counted-nodes.ensures in (
       e.0,
       e.1,
       c.wide.ensures ∙ f.0 ∙ ap (value_at s) e.2,

@@ -5,8 +5,5 @@ use Rattle.timing.specs.Decks.{paths}
 use Rattle.timing.specs.Looks.{looked}
 use Rattle.deck_reader.proofs.looker.look_paths.Given as goal
 
-abbrev pub invariant-loop-k : goal.invariant-loop-k
-invariant-loop-k l = (l.k ≤ l.count) × (l.sum ≤ 8192) × (looked (paths l.s l.table (l.count - l.k) l.sum l.at) ≡ looked (paths l.s l.table l.count 0 l.initial.at))
-
-abbrev pub decreases-loop-k : goal.decreases-loop-k
-decreases-loop-k l = l.count - l.k
+abbrev pub invariant-loop : goal.invariant-loop
+invariant-loop l = (l.sum ≤ 8192) × (looked (paths l.s l.table (l.count - l.counter) l.sum l.at) ≡ looked (paths l.s l.table l.count 0 l.initial.at))
