@@ -1,7 +1,7 @@
 // From a packed deck to its packed true graph.
 #![tactic(auto)]
 
-ghost use Rattle.std.specs.Prelude.{◌≡◌};
+ghost use Rattle.std.specs.Prelude.{◌≡◌, ◌≤◌};
 ghost use Rattle.timing.specs.Graphs.{design};
 ghost use Rattle.timing.specs.Marks.{path_list};
 ghost use Rattle.timing.specs.Calls.{graph_slices, room_of, removal, remove_from_design};
@@ -33,67 +33,19 @@ fn write_made(
         (result ≡ made_written made S room.old)
         × (room.new ≡ made_room made S room.old) }
 {
-    match made {
-        Err(r) => Err(r),
-        Ok(GraphCounts { copies, edges }) => write_graph(
-            &nodes[..copies],
-            &endpoint[..copies],
-            &from[..edges],
-            &to[..edges],
-            &via[..edges],
-            room,
-        ),
-    }
-}
-
-// The true graph of a design and a list of paths, made in the program's scratch.
-fn remove_in_whole(
-    n: u32,
-    starts: &[u32],
-    ends: &[u32],
-    early: &[i32],
-    late: &[i32],
-    marked: &[u32],
-    listed: &[u32],
-    lengths: &[u32],
-    room_nodes: &mut [u32],
-    room_endpoint: &mut [u32],
-    room_from: &mut [u32],
-    room_to: &mut [u32],
-    room_via: &mut [u32],
-) -> Result<GraphCounts, Refusal>
-    ensures { let D = design n starts.now ends.now early.now late.now
-        marked.now in
-        let L = path_list listed.now lengths.now in
-        let R = room_of (graph_slices room_nodes.old room_endpoint.old
-        room_from.old room_to.old room_via.old) in
-        Answered (remove_from_design D (removal L R 16384)) result
-        room_nodes.old room_endpoint.old
-        room_from.old room_to.old room_via.old
-        room_nodes.new room_endpoint.new
-        room_from.new room_to.new room_via.new }
-{
-    let mut scratch = [0; 16384];
-    remove_from_design(
-        n,
-        starts,
-        ends,
-        early,
-        late,
-        marked,
-        listed,
-        lengths,
-        room_nodes,
-        room_endpoint,
-        room_from,
-        room_to,
-        room_via,
-        &mut scratch,
+    let GraphCounts { copies, edges } = made?;
+    write_graph(
+        &nodes[..copies],
+        &endpoint[..copies],
+        &from[..edges],
+        &to[..edges],
+        &via[..edges],
+        room,
     )
 }
 
-// The same in half of it.
-fn remove_in_half(
+// The true graph of a design and a list of paths, made in a scratch of so many words.
+fn remove_in<const WORDS: usize>(
     n: u32,
     starts: &[u32],
     ends: &[u32],
@@ -108,18 +60,19 @@ fn remove_in_half(
     room_to: &mut [u32],
     room_via: &mut [u32],
 ) -> Result<GraphCounts, Refusal>
+    requires { WORDS ≤ 16384 }
     ensures { let D = design n starts.now ends.now early.now late.now
         marked.now in
         let L = path_list listed.now lengths.now in
         let R = room_of (graph_slices room_nodes.old room_endpoint.old
         room_from.old room_to.old room_via.old) in
-        Answered (remove_from_design D (removal L R 8192)) result
+        Answered (remove_from_design D (removal L R WORDS)) result
         room_nodes.old room_endpoint.old
         room_from.old room_to.old room_via.old
         room_nodes.new room_endpoint.new
         room_from.new room_to.new room_via.new }
 {
-    let mut scratch = [0; 8192];
+    let mut scratch = [0; WORDS];
     remove_from_design(
         n,
         starts,
@@ -170,8 +123,8 @@ fn remove_tested(
 {
     let candidates = n as usize + listed.len() - lengths.len();
     let half = scratch_test(8192, candidates, listed.len(), starts.len());
-    match half {
-        Ok(()) => remove_in_half(
+    if half.is_ok() {
+        return remove_in::<8192>(
             n,
             starts,
             ends,
@@ -185,23 +138,23 @@ fn remove_tested(
             room_from,
             room_to,
             room_via,
-        ),
-        Err(_) => remove_in_whole(
-            n,
-            starts,
-            ends,
-            early,
-            late,
-            marked,
-            listed,
-            lengths,
-            room_nodes,
-            room_endpoint,
-            room_from,
-            room_to,
-            room_via,
-        ),
+        );
     }
+    remove_in::<16384>(
+        n,
+        starts,
+        ends,
+        early,
+        late,
+        marked,
+        listed,
+        lengths,
+        room_nodes,
+        room_endpoint,
+        room_from,
+        room_to,
+        room_via,
+    )
 }
 
 // Packs the true graph of such a design and list into the room, made in the program's room and scratch.
@@ -276,12 +229,9 @@ fn pack_tested(
         (result ≡ c_written o room.old)
         × (room.new ≡ room_after_c o room.old) }
 {
-    let verdict = test_deck(
+    test_deck(
         n, starts, ends, early, late, marked, listed, lengths, allowed,
-    );
-    if let Err(r) = verdict {
-        return Err(r);
-    }
+    )?;
     pack_graph(n, starts, ends, early, late, marked, listed, lengths, room)
 }
 
@@ -303,28 +253,19 @@ fn pack_read(
         (result ≡ c_written o room.old)
         × (room.new ≡ room_after_c o room.old) }
 {
-    match read {
-        Err(r) => Err(r),
-        Ok(DeckCounts {
-            nodes,
-            edges,
-            listed: count,
-            paths,
-            marked: marked_nodes,
-            allowed,
-        }) => pack_tested(
-            nodes,
-            &starts[..edges],
-            &ends[..edges],
-            &early[..edges],
-            &late[..edges],
-            &marked[..marked_nodes],
-            &listed[..count],
-            &lengths[..paths],
-            allowed,
-            room,
-        ),
-    }
+    let deck = read?;
+    pack_tested(
+        deck.nodes,
+        &starts[..deck.edges],
+        &ends[..deck.edges],
+        &early[..deck.edges],
+        &late[..deck.edges],
+        &marked[..deck.marked],
+        &listed[..deck.listed],
+        &lengths[..deck.paths],
+        deck.allowed,
+        room,
+    )
 }
 
 // Packs the true graph of a packed deck into the room, in the program's tables. 4 is tested before all.
