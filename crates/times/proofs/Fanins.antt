@@ -10,7 +10,7 @@ use mathlib.Core.List.{List, [], ◌∷◌, map, map-map}
 use lib.Dec.{T, eqb, ltb, leb→le}
 use lib.IntN.{ℤ, pos, nat_abs, ◌+ℤ◌}
 use lib.ListN.{length, get_or, set}
-use borrow.Author.Tests.{eq-eqb, ne_eqb, eqb-true, eqb-false, ltb-true, ltb-false}
+use borrow.Author.Tests.{eq-eqb, ne_eqb, eqb-true, ltb-true}
 use Rattle.timing.specs.Lists.{keep, upto}
 use Rattle.timing.specs.Graphs.{Edge, edge, edges_in, starts_at}
 use Rattle.timing.specs.Times.{arrival_at, earliest_at}
@@ -35,36 +35,8 @@ here to k c = go (ltb k (length to)) refl (eqb (get_or to k 0) c) refl
     go true p false q e = let z : ◌≡◌ {A = ℕ} 0 1 = cc in absurd (omega arith)
     go false p b q e = let z : ◌≡◌ {A = ℕ} 0 1 = cc in absurd (omega arith)
 
-pub elsewhere : (to : List ℕ) (k c : ℕ) → ends_here to k c ≡ false → k < length to → get_or to k 0 ≡ c → ⊥
-elsewhere to k c e h q = go (ltb k (length to)) refl (eqb (get_or to k 0) c) refl e
-  where
-    go : (a : Bool) → ltb k (length to) ≡ a → (b : Bool) → eqb (get_or to k 0) c ≡ b → (a && b) ≡ false → ⊥
-    go true p true r e = let z : ◌≡◌ {A = ℕ} 0 1 = cc in omega arith
-    go true p false r e = eqb-false (get_or to k 0) c r q
-    go false p b r e = omega (arith, ltb-false k (length to) p)
-
-module _ (to : List ℕ) (c first k : ℕ) where
-  abbrev pub Into : Type 0
-  Into = (i : ℕ) → first ≤ i → i < k → get_or to i 0 ≡ c
-
-  -- at the first place that does not end at c: an edge there ends further on, and so do all behind it
-  pub fanin_ends : FaninFrom to c first → first ≤ k → k ≤ length to → Into → ends_here to k c ≡ false → Fanin to c first k
-  fanin_ends N f w into other = record {
-    begins = f;
-    within = w;
-    into = into;
-    beyond = λ i l m. omega (arith, N.order k i l m, above (omega (arith, l, m)));
-  }
-    where
-      above : k < length to → c < get_or to k 0
-      above h = go (dec_lt c (get_or to k 0))
-        where
-          go : Dec (c < get_or to k 0) → c < get_or to k 0
-          go (yes l) = l
-          go (no l) = absurd (elsewhere to k c other h (omega (arith, N.ahead k f h, l)))
-
-pub into_none : (to : List ℕ) (c first : ℕ) → Into to c first first
-into_none to c first i h l = absurd (omega (arith, h, l))
+abbrev pub Into : List ℕ → ℕ → ℕ → ℕ → Type 0
+Into to c first k = (i : ℕ) → first ≤ i → i < k → get_or to i 0 ≡ c
 
 pub into_next : (to : List ℕ) (c first k : ℕ) → Into to c first k → get_or to k 0 ≡ c → Into to c first (k + 1)
 into_next to c first k into e i h l = go (dec_lt i k)
@@ -90,12 +62,6 @@ fanin_next to c first last N t = record {
 module _ {le : ℤ → ℤ → Type 0} {pick : ℤ → ℤ → ℤ} {best : List ℤ → ℤ} (K : Picks le pick best) (f : ℕ → ℤ) (first : ℕ) where
   abbrev up_to : ℕ → ℤ
   up_to last = best (map f (upto (last - first) first))
-
-  pub over_none : up_to first ≡ best []
-  over_none = let e : first - first ≡ 0 = omega arith in ap (λ (n : ℕ). best (map f (upto n first))) e
-
-  pub over_one : up_to (first + 1) ≡ f first
-  over_one = let e : first + 1 - first ≡ 1 = omega arith in ap (λ (n : ℕ). best (map f (upto n first))) e ∙ K.one (f first)
 
   pub over_more : (k : ℕ) → first < k → up_to (k + 1) ≡ pick (up_to k) (f k)
   over_more k h =
