@@ -7,7 +7,6 @@ ghost use Rattle.theorems.proofs.Runs.{Onward};
 ghost use Rattle.times.specs.Passes.{delay_of, Fit, Small};
 
 use crate::arrivals::fill_arrivals;
-use crate::numbers::less;
 use crate::requireds::fill_requireds;
 
 // Slack is required time less arrival.
@@ -21,7 +20,7 @@ fn fill_slacks(arrivals: &[i64], requireds: &[i64], slacks: &mut [i64])
         slacks.new ≡ map (λ (c : ℕ). get_or rts c (pos 0) -ℤ get_or ats c (pos 0)) copies }
 {
     for (i, s) in slacks.iter_mut().enumerate() {
-        *s = less(requireds[i], arrivals[i]);
+        *s = requireds[i] - arrivals[i];
     }
 }
 
