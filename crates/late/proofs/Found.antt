@@ -4,14 +4,16 @@ use native.Mathlib.Omega.{arith}
 use native.Mathlib.Decide.{dec_lt}
 use native.Mathlib.Numerals.{add-one}
 use mathlib.Core.Path.{◌≡◌, refl, sym, ◌∙◌, ap}
-use mathlib.Core.Bool.{Bool, true, false}
+use mathlib.Core.Bool.{Bool, true, false, ◌&&◌}
+use lib.Dec.{eqb}
+use lib.Signed.{lt_z}
 use mathlib.Core.List.{List, [], ◌∷◌, ◌++◌, map}
 use Rattle.timing.specs.Answers.{Passed, Late, OnTime}
 use lib.IntN.{ℤ, pos}
 use lib.ListN.{length, get_or, set, drop, length-append, length-drop, get_or-append}
 use lib.Seq.{get_or-append-add, get_or-drop, ext_get_or}
 use Rattle.timing.specs.Lists.{keep, upto, placed}
-use Rattle.timing.specs.Times.{largest, arrival_at, late_at}
+use Rattle.timing.specs.Times.{largest, arrival_at, late_at, late_copies}
 use Rattle.timing.specs.Calls.{GraphSlices, graph_of, lowest_late}
 use Rattle.theorems.proofs.Elements.{Done, done_none, size_each, at_each}
 use Rattle.theorems.proofs.Splits.{upto_next, upto_split, keep_append, keep_yes, keep_no}
@@ -46,10 +48,10 @@ module _ {A : Type 0} (z : A) (f : ℕ → A) (c : ℕ) (old l : List A) (h : c 
 
 -- ---- the copies that are late
 module _ (late : ℕ → Bool) where
-  pub none_next : (c : ℕ) → keep late (upto c 0) ≡ [] → late c ≡ false → keep late (upto (c + 1) 0) ≡ []
+  none_next : (c : ℕ) → keep late (upto c 0) ≡ [] → late c ≡ false → keep late (upto (c + 1) 0) ≡ []
   none_next c e q = ap (keep late) (upto_last c) ∙ keep_no late (upto c 0) c q ∙ e
 
-  pub late_here : (n c : ℕ) → c < n → keep late (upto c 0) ≡ [] → late c ≡ true → lowest_late Passed (keep late (upto n 0)) ≡ Late c
+  late_here : (n c : ℕ) → c < n → keep late (upto c 0) ≡ [] → late c ≡ true → lowest_late Passed (keep late (upto n 0)) ≡ Late c
   late_here n c h e q =
       let m = n - (c + 1) in
       let a : n ≡ (c + 1) + m = omega (arith, h) in
@@ -58,12 +60,8 @@ module _ (late : ℕ → Bool) where
       ∙ ap (lowest_late Passed) (keep_append late (upto (c + 1) 0) (upto m (0 + (c + 1))))
       ∙ ap (λ (l : List ℕ). lowest_late Passed (l ++ keep late (upto m (0 + (c + 1))))) (ap (keep late) (upto_last c) ∙ keep_yes late (upto c 0) c q ∙ ap (λ (l : List ℕ). l ++ (c ∷ [])) e)
 
-  pub none_late : (n c : ℕ) → n ≤ c → c ≤ n → keep late (upto c 0) ≡ [] → lowest_late Passed (keep late (upto n 0)) ≡ OnTime
-  none_late n c h l e = let q : n ≡ c = omega (arith, h, l) in ap (λ (k : ℕ). lowest_late Passed (keep late (upto k 0))) q ∙ ap (lowest_late Passed) e
-
 -- ---- the search at copy c, whose edges stand from `first` on; `old` is what was lent
 pub record Searched (delays : List ℤ) (S : GraphSlices) (t : ℤ) (old arrivals : List ℤ) (c first : ℕ) : Type 0 where
-  pub within : c ≤ length old
   pub next : FaninFrom S.ends c first
   pub done : Done (pos 0) (arrival_at (delay_of delays) t (graph_of S)) c old arrivals
   pub none : keep (late_at (delay_of delays) t (graph_of S)) (upto c 0) ≡ []
@@ -76,7 +74,7 @@ module _ (delays : List ℤ) (S : GraphSlices) (F : Fit delays S) (t : ℤ) (old
   late = late_at (delay_of delays) t (graph_of S)
 
   pub searched_none : Searched delays S t old old 0 0
-  searched_none = record { within = omega arith; next = fanin_first delays S F; done = done_none (pos 0) at old; none = refl }
+  searched_none = record { next = fanin_first delays S F; done = done_none (pos 0) at old; none = refl }
 
   module _ (size : length old ≡ length S.nodes) (c first : ℕ) (arrivals : List ℤ) (s : Searched delays S t old arrivals c first) (h : c < length S.nodes) where
     pub searched_ready : Ready delays S.starts S.ends S.names arrivals c first
@@ -85,19 +83,26 @@ module _ (delays : List ℤ) (S : GraphSlices) (F : Fit delays S) (t : ℤ) (old
     -- what copy c was given
     module _ (last : ℕ) (fanin : Fanin S.ends c first last) (after : List ℤ)
         (e : after ≡ set arrivals c (best_over largest delays S.starts S.names arrivals first last)) where
-      pub found_done : Done (pos 0) at (c + 1) old after
+      found_done : Done (pos 0) at (c + 1) old after
       found_done = rw e (copy_done delays S F (arrivals_pass delays S F t) c first old arrivals h size s.done s.next last fanin)
 
-      pub found_arrival : get_or after c (pos 0) ≡ at c
-      found_arrival = found_done.below c (omega arith)
+      module _ (found : Bool) (is : found ≡ (eqb (get_or S.endpoints c 0) 1 && lt_z t (get_or after c (pos 0)))) where
+        found_is : late c ≡ found
+        found_is = rw (found_done.below c (omega arith)) at (sym is)
 
-      pub found_written : after ≡ placed (map at (upto (c + 1) 0)) old
-      found_written = done_placed (pos 0) at (c + 1) old after (omega (arith, h, size)) found_done
+        pub found_late : found ≡ true → (Late c ≡ lowest_late Passed (late_copies (delay_of delays) t (graph_of S))) × (after ≡ placed (map at (upto (c + 1) 0)) old)
+        unfolding late_copies
+        found_late q = (sym (late_here late (length S.nodes) c h s.none (found_is ∙ q)), done_placed (pos 0) at (c + 1) old after (omega (arith, h, size)) found_done)
 
-      pub searched_next : late c ≡ false → Searched delays S t old after (c + 1) last
-      searched_next q = record {
-        within = omega (arith, h, size);
-        next = fanin_next S.ends c first last s.next fanin;
-        done = found_done;
-        none = none_next late c s.none q;
-      }
+        pub searched_next : found ≡ false → Searched delays S t old after (c + 1) last
+        searched_next q = record {
+          next = fanin_next S.ends c first last s.next fanin;
+          done = found_done;
+          none = none_next late c s.none (found_is ∙ q);
+        }
+
+  -- behind the last copy
+  pub searched_all : length old ≡ length S.nodes → (c first : ℕ) (arrivals : List ℤ) → Searched delays S t old arrivals c first → c ≡ length S.nodes
+      → (OnTime ≡ lowest_late Passed (late_copies (delay_of delays) t (graph_of S))) × (arrivals ≡ placed (map at (upto (length S.nodes) 0)) old)
+  unfolding late_copies
+  searched_all size c first arrivals s q = rw (sym q) (rw s.none refl, done_placed (pos 0) at c old arrivals (omega (arith, size, q)) s.done)

@@ -12,7 +12,7 @@ ghost use Rattle.timing.specs.Calls.{graph_slices, late_or_not, arrivals_after_l
 mod fanin;
 mod search;
 
-use crate::search::late_where;
+use crate::search::find_late;
 use timed::timing_tests;
 use timing::Refusal;
 use verdicts::same_sizes;
@@ -43,11 +43,8 @@ pub fn late_or_not(
         (result ≡ answer) × (arrivals.new ≡ arrivals_after_late D S allowed answer arrivals.old) }
 {
     let lent = same_sizes(nodes.len(), nodes.len(), arrivals.len());
-    let tested = timing_tests(
+    timing_tests(
         lent, n, starts, ends, early, late, marked, allowed, nodes, endpoint, from, to, via,
-    );
-    late_where(
-        tested, n, starts, ends, early, late, marked, allowed, nodes, endpoint, from, to, via,
-        arrivals,
-    )
+    )?;
+    Ok(find_late(late, nodes, endpoint, from, to, via, allowed, arrivals))
 }

@@ -11,7 +11,7 @@ mod gather;
 mod node;
 mod tests;
 
-use crate::gather::records_where;
+use crate::gather::fill_records;
 use crate::node::node_times;
 use crate::tests::{record_tests, records_tests};
 use timing::{NodeRecord, Refusal, Verdict};
@@ -32,21 +32,16 @@ pub fn node_record(
         let ets = earliests.now in
         result ≡ record_of n nodes.now ats rts sts ets v }
 {
-    let fit = record_tests(
+    record_tests(
         n,
         nodes.len(),
         arrivals.len(),
         requireds.len(),
         slacks.len(),
         earliests.len(),
-    );
-    match fit {
-        Ok(()) => {
-            let times = node_times(n, nodes, arrivals, requireds, slacks, earliests, v);
-            Ok(NodeRecord { node: v, times })
-        }
-        Err(r) => Err(r),
-    }
+    )?;
+    let times = node_times(n, nodes, arrivals, requireds, slacks, earliests, v);
+    Ok(NodeRecord { node: v, times })
 }
 
 // The records of all nodes, from n and the node and the four times of each copy, in one pass over
@@ -80,7 +75,7 @@ pub fn node_records(
         × (ns.new ≡ records_after slack_of n nodes.now ats rts sts ets tested ns.old)
         × (ne.new ≡ records_after earliest_of n nodes.now ats rts sts ets tested ne.old) }
 {
-    let tested = records_tests(
+    records_tests(
         n,
         nodes.len(),
         arrivals.len(),
@@ -92,8 +87,9 @@ pub fn node_records(
         nr.len(),
         ns.len(),
         ne.len(),
+    )?;
+    fill_records(
+        nodes, arrivals, requireds, slacks, earliests, known, na, nr, ns, ne,
     );
-    records_where(
-        tested, n, nodes, arrivals, requireds, slacks, earliests, known, na, nr, ns, ne,
-    )
+    Ok(())
 }

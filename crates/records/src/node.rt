@@ -9,26 +9,16 @@ use extremes::{larger, smaller};
 use timing::NodeTimes;
 
 // The times of a node with one more copy.
-fn with_copy(t: Option<NodeTimes>, arrival: i64, required: i64, slack: i64, earliest: i64) -> Option<NodeTimes>
-    ensures { result ≡ with_copy t arrival required slack earliest }
+fn with_copy(t: Option<NodeTimes>, copy: NodeTimes) -> Option<NodeTimes>
+    ensures { result ≡ with_copy t copy.arrival copy.required copy.slack copy.earliest }
 {
     match t {
-        None => Some(NodeTimes {
-            arrival,
-            required,
-            slack,
-            earliest,
-        }),
-        Some(NodeTimes {
-            arrival: a,
-            required: r,
-            slack: s,
-            earliest: e,
-        }) => Some(NodeTimes {
-            arrival: larger(a, arrival),
-            required: smaller(r, required),
-            slack: smaller(s, slack),
-            earliest: smaller(e, earliest),
+        None => Some(copy),
+        Some(old) => Some(NodeTimes {
+            arrival: larger(old.arrival, copy.arrival),
+            required: smaller(old.required, copy.required),
+            slack: smaller(old.slack, copy.slack),
+            earliest: smaller(old.earliest, copy.earliest),
         }),
     }
 }
@@ -50,16 +40,16 @@ fn next_copy(
         let ets = earliests.now in
         result ≡ gathered nodes.now ats rts sts ets v t c }
 {
-    if number_at(nodes, c) == v {
-        return with_copy(
-            t,
-            time_at(arrivals, c),
-            time_at(requireds, c),
-            time_at(slacks, c),
-            time_at(earliests, c),
-        );
+    if number_at(nodes, c) != v {
+        return t;
     }
-    t
+    let copy = NodeTimes {
+        arrival: time_at(arrivals, c),
+        required: time_at(requireds, c),
+        slack: time_at(slacks, c),
+        earliest: time_at(earliests, c),
+    };
+    with_copy(t, copy)
 }
 
 // The times of node `v` over all copies.
@@ -78,10 +68,8 @@ fn over_copies(
         result ≡ times_of ats rts slacks.now earliests.now of }
 {
     let mut t = None;
-    let mut c = 0;
-    while c < nodes.len() {
+    for c in 0..nodes.len() {
         t = next_copy(t, nodes, arrivals, requireds, slacks, earliests, v, c);
-        c += 1;
     }
     t
 }
@@ -102,7 +90,8 @@ pub(crate) fn node_times(
         result ≡ node_times n nodes.now ats rts sts ets v }
 {
     if v < n {
-        return over_copies(nodes, arrivals, requireds, slacks, earliests, v);
+        over_copies(nodes, arrivals, requireds, slacks, earliests, v)
+    } else {
+        None
     }
-    None
 }

@@ -5,7 +5,7 @@ ghost use Rattle.timing.specs.Tests.{same_sizes, time_sizes, node_count};
 
 use sizes::time_sizes;
 use timing::Verdict;
-use verdicts::{same_sizes, then, unless};
+use verdicts::{same_sizes, unless};
 
 pub(crate) fn record_tests(
     n: u32,
@@ -17,9 +17,8 @@ pub(crate) fn record_tests(
 ) -> Verdict
     ensures { result ≡ (time_sizes copies arrivals requireds slacks earliests then node_count n) }
 {
-    let sizes = time_sizes(copies, arrivals, requireds, slacks, earliests);
-    let count = unless(10, n <= timing::MAX_NODES);
-    then(sizes, count)
+    time_sizes(copies, arrivals, requireds, slacks, earliests)?;
+    unless(10, n <= timing::MAX_NODES)
 }
 
 // The five lent slices have one place for each node.
@@ -42,9 +41,8 @@ pub(crate) fn records_tests(
         then node_count n) }
 {
     let places = n as usize;
-    let sizes = time_sizes(copies, arrivals, requireds, slacks, earliests);
-    let lent = same_sizes(places, places, known);
-    let others = time_sizes(places, na, nr, ns, ne);
-    let count = unless(10, n <= timing::MAX_NODES);
-    then(sizes, then(lent, then(others, count)))
+    time_sizes(copies, arrivals, requireds, slacks, earliests)?;
+    same_sizes(places, places, known)?;
+    time_sizes(places, na, nr, ns, ne)?;
+    unless(10, n <= timing::MAX_NODES)
 }

@@ -15,7 +15,7 @@ mod numbers;
 mod requireds;
 mod tests;
 
-use crate::copies::times_where;
+use crate::copies::fill_times;
 use crate::tests::times_tests;
 use timing::Verdict;
 
@@ -53,7 +53,7 @@ pub fn times(
         × (slacks.new ≡ slacks_after D S allowed tested slacks.old)
         × (earliests.new ≡ earliests_after D S tested earliests.old) }
 {
-    let tested = times_tests(
+    times_tests(
         n,
         starts,
         ends,
@@ -70,9 +70,10 @@ pub fn times(
         requireds.len(),
         slacks.len(),
         earliests.len(),
+    )?;
+    fill_times(
+        early, late, nodes, endpoint, from, to, via, allowed, arrivals, requireds, slacks,
+        earliests,
     );
-    times_where(
-        tested, n, starts, ends, early, late, marked, allowed, nodes, endpoint, from, to, via,
-        arrivals, requireds, slacks, earliests,
-    )
+    Ok(())
 }

@@ -1,6 +1,6 @@
 // Signed numbers. Each operation of the machine is a function of its own, whose contract is the
 // operation of ℤ: its callers never see what a sum of 64 bits may do.
-ghost use Rattle.std.specs.Prelude.{◌≡◌, ◌≤◌, pos, neg_ℤ, nat_abs, ◌+ℤ◌, ◌-ℤ◌};
+ghost use Rattle.std.specs.Prelude.{◌≡◌, ◌≤◌, pos, neg_ℤ, nat_abs, ◌+ℤ◌};
 
 // A delay as a time.
 pub(crate) fn time_of(d: i32) -> i64
@@ -27,11 +27,4 @@ pub(crate) fn sum(a: i64, b: i64) -> i64
     ensures { result ≡ a +ℤ b }
 {
     a + b
-}
-
-pub(crate) fn less(a: i64, b: i64) -> i64
-    requires { (nat_abs a ≤ 20000000000) × (nat_abs b ≤ 20000000000) }
-    ensures { result ≡ a -ℤ b }
-{
-    a - b
 }

@@ -1,19 +1,17 @@
--- Case by case of what the tests answered.
-use mathlib.Core.Path.{◌∙◌, sym, ap}
-use Rattle.std.specs.Prelude.{Option, Ok}
-use Rattle.timing.specs.declared.NodeTimes.{NodeTimes}
-use Rattle.timing.specs.Calls.{record_answer, record_of}
+use mathlib.Core.Path.{◌≡◌, refl, sym}
+use Rattle.std.specs.Prelude.{Result, Err}
+use Rattle.std.proofs.Common.{rules}
+use Rattle.timing.specs.declared.NodeRecord.{NodeRecord}
+use Rattle.timing.specs.declared.Refusal.{Refusal}
+use Rattle.timing.specs.Calls.{record_of}
 use Rattle.records.proofs.node_record.Goals as goal
 
-pub returns-in_ok-before : goal.returns-in_ok-before
+pub returns-in_err-record_tests : goal.returns-in_err-record_tests
 unfolding record_of
-returns-in_ok-before c =
-    let a = c.args in
-    ap (λ (x : Option NodeTimes). Ok (record { node = a.v; times = x })) c.node_times-times.ensures
-    ∙ ap (record_answer a.n a.nodes.now a.arrivals.now a.requireds.now a.slacks.now a.earliests.now a.v) (sym c.in_ok-before.was ∙ c.record_tests-fit.ensures)
+returns-in_err-record_tests c =
+    let same : ◌≡◌ {A = Result NodeRecord Refusal} c.from_residual.result (Err c.in_err-record_tests.field-0.0) = search rules in
+    rw (sym c.in_err-record_tests.ensures) same
 
-pub returns-in-Err : goal.returns-in-Err
+pub returns : goal.returns
 unfolding record_of
-returns-in-Err c =
-    let a = c.args in
-    ap (record_answer a.n a.nodes.now a.arrivals.now a.requireds.now a.slacks.now a.earliests.now a.v) (sym c.in-Err.is ∙ c.record_tests-fit.ensures)
+returns c = rw (sym c.in_ok-record_tests.ensures, c.node_times-times.ensures) refl

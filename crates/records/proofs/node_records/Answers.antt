@@ -1,30 +1,38 @@
--- The tests, and what follows from their answer.
-use mathlib.Core.Path.{◌≡◌}
-use Prim.Native.Nat.{ℕ}
-use mathlib.Core.List.{List}
-use Rattle.timing.specs.Answers.{Verdict}
-use lib.IntN.{ℤ}
+-- Where the tests pass, each slice has a place for each node; a refusal stores nothing.
+use mathlib.Core.Path.{◌≡◌, refl, sym, ◌∙◌}
+use lib.IntN.{pos}
 use lib.ListN.{length}
+use Rattle.std.specs.Prelude.{Err}
+use Rattle.std.proofs.Common.{rules}
+use Rattle.timing.specs.Answers.{Verdict}
 use Rattle.timing.specs.Calls.{test_records, has_times, arrival_of, required_of, slack_of, earliest_of, records_after}
-use Rattle.timing.proofs.Verdicts.{after_told}
+use Rattle.records.proofs.Records.{node_filled, records_sizes}
 use Rattle.records.proofs.node_records.Goals as goal
 
-pub records_where-requires : goal.records_where-requires
+pub returns-in_err-records_tests : goal.returns-in_err-records_tests
+unfolding test_records records_after
+returns-in_err-records_tests c =
+    let same : ◌≡◌ {A = Verdict} c.from_residual.result (Err c.in_err-records_tests.field-0.0) = search rules in
+    rw (sym c.in_err-records_tests.ensures) (same, refl, refl, refl, refl, refl)
+
+pub fill_records-requires : goal.fill_records-requires
 unfolding test_records
-records_where-requires c = c.records_tests-tested.ensures
+fill_records-requires c =
+    let a = c.args in
+    let n = records_sizes a.nodes.now a.arrivals.now a.requireds.now a.slacks.now a.earliests.now a.n (length a.known.now) (length a.na.now) (length a.nr.now) (length a.ns.now) (length a.ne.now) (sym c.in_ok-records_tests.ensures) in
+    (n.1 ∙ sym n.0, n.2 ∙ sym n.0, n.3 ∙ sym n.0, n.4 ∙ sym n.0)
 
 pub returns : goal.returns
-unfolding test_records
+unfolding test_records records_after
 returns c =
     let a = c.args in
-    let u = c.records_tests-tested.result in
-    let v = test_records a.n a.nodes.now a.arrivals.now a.requireds.now a.slacks.now a.earliests.now (length a.known.now) (length a.na.now) (length a.nr.now) (length a.ns.now) (length a.ne.now) in
-    let t : u ≡ v = c.records_tests-tested.ensures in
-    let e = c.records_where.ensures in (
-      after_told Verdict c.records_where.result (λ (x : Verdict). x) u v t e.0,
-      after_told (List ℕ) c.records_where.new.known (λ (x : Verdict). records_after has_times a.n a.nodes.now a.arrivals.now a.requireds.now a.slacks.now a.earliests.now x a.known.now) u v t e.1,
-      after_told (List ℤ) c.records_where.new.na (λ (x : Verdict). records_after arrival_of a.n a.nodes.now a.arrivals.now a.requireds.now a.slacks.now a.earliests.now x a.na.now) u v t e.2,
-      after_told (List ℤ) c.records_where.new.nr (λ (x : Verdict). records_after required_of a.n a.nodes.now a.arrivals.now a.requireds.now a.slacks.now a.earliests.now x a.nr.now) u v t e.3,
-      after_told (List ℤ) c.records_where.new.ns (λ (x : Verdict). records_after slack_of a.n a.nodes.now a.arrivals.now a.requireds.now a.slacks.now a.earliests.now x a.ns.now) u v t e.4,
-      after_told (List ℤ) c.records_where.new.ne (λ (x : Verdict). records_after earliest_of a.n a.nodes.now a.arrivals.now a.requireds.now a.slacks.now a.earliests.now x a.ne.now) u v t e.5,
+    let f = c.fill_records.ensures in
+    let n = (records_sizes a.nodes.now a.arrivals.now a.requireds.now a.slacks.now a.earliests.now a.n (length a.known.now) (length a.na.now) (length a.nr.now) (length a.ns.now) (length a.ne.now) (sym c.in_ok-records_tests.ensures)).0 in
+    rw (sym c.in_ok-records_tests.ensures) (
+      refl,
+      node_filled a.nodes.now a.arrivals.now a.requireds.now a.slacks.now a.earliests.now 0 has_times _ _ _ n f.0,
+      node_filled a.nodes.now a.arrivals.now a.requireds.now a.slacks.now a.earliests.now (pos 0) arrival_of _ _ _ n f.1,
+      node_filled a.nodes.now a.arrivals.now a.requireds.now a.slacks.now a.earliests.now (pos 0) required_of _ _ _ n f.2,
+      node_filled a.nodes.now a.arrivals.now a.requireds.now a.slacks.now a.earliests.now (pos 0) slack_of _ _ _ n f.3,
+      node_filled a.nodes.now a.arrivals.now a.requireds.now a.slacks.now a.earliests.now (pos 0) earliest_of _ _ _ n f.4,
     )

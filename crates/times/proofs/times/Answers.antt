@@ -1,29 +1,27 @@
--- The tests, and what follows from their answer.
-use mathlib.Core.Path.{◌≡◌}
-use mathlib.Core.List.{List}
+-- Where the tests pass, the passes have what they ask (`passed_ready`); a refusal stores nothing.
+use mathlib.Core.Path.{◌≡◌, refl, sym}
+use Rattle.std.specs.Prelude.{Err}
+use Rattle.std.proofs.Common.{rules}
 use Rattle.timing.specs.Answers.{Verdict}
-use lib.IntN.{ℤ}
-use lib.ListN.{length}
-use Rattle.timing.proofs.Verdicts.{after_told}
 use Rattle.timing.specs.Graphs.{design}
 use Rattle.timing.specs.Calls.{graph_slices, test_times, arrivals_after, requireds_after, slacks_after, earliests_after}
+use Rattle.timing.proofs.Verdicts.{times_passed}
+use Rattle.times.proofs.Passed.{passed_ready}
 use Rattle.times.proofs.times.Goals as goal
 
-pub times_where-requires : goal.times_where-requires
-times_where-requires c = c.times_tests-tested.ensures
+pub returns-in_err-times_tests : goal.returns-in_err-times_tests
+unfolding arrivals_after requireds_after slacks_after earliests_after
+returns-in_err-times_tests c =
+    let same : ◌≡◌ {A = Verdict} c.from_residual.result (Err c.in_err-times_tests.field-0.0) = search rules in
+    rw (sym c.in_err-times_tests.ensures) (same, refl, refl, refl, refl)
+
+pub fill_times-requires : goal.fill_times-requires
+unfolding test_times
+fill_times-requires c =
+    let a = c.args in
+    let r = passed_ready (design a.n a.starts.now a.ends.now a.early.now a.late.now a.marked.now) (graph_slices a.nodes.now a.endpoint.now a.from.now a.to.now a.via.now) a.allowed _ (sym c.in_ok-times_tests.ensures) in record { fit = (r.late, r.early, r.onward, r.allowed, r.endpoints); as_long = times_passed _ _ _ _ _ r.places }
 
 pub returns : goal.returns
+unfolding arrivals_after requireds_after slacks_after earliests_after
 returns c =
-    let a = c.args in
-    let D = (design a.n a.starts.now a.ends.now a.early.now a.late.now a.marked.now) in
-    let S = (graph_slices a.nodes.now a.endpoint.now a.from.now a.to.now a.via.now) in
-    let u = c.times_tests-tested.result in
-    let v = test_times D S a.allowed (length a.arrivals.now) (length a.requireds.now) (length a.slacks.now) (length a.earliests.now) in
-    let t : u ≡ v = c.times_tests-tested.ensures in
-    let e = c.times_where.ensures in (
-      after_told Verdict c.times_where.result (λ (x : Verdict). x) u v t e.0,
-      after_told (List ℤ) c.times_where.new.arrivals (λ (x : Verdict). arrivals_after D S a.allowed x a.arrivals.now) u v t e.1,
-      after_told (List ℤ) c.times_where.new.requireds (λ (x : Verdict). requireds_after D S a.allowed x a.requireds.now) u v t e.2,
-      after_told (List ℤ) c.times_where.new.slacks (λ (x : Verdict). slacks_after D S a.allowed x a.slacks.now) u v t e.3,
-      after_told (List ℤ) c.times_where.new.earliests (λ (x : Verdict). earliests_after D S x a.earliests.now) u v t e.4,
-    )
+    let f = c.fill_times.ensures in rw (sym c.in_ok-times_tests.ensures) (refl, f.0, f.1, f.2, f.3)

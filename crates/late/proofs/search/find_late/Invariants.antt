@@ -1,7 +1,5 @@
 -- Invariant: `Searched` (late/proofs/Found). At the first late copy, and behind the last one, it says what is answered.
-use Prim.Native.Nat.{◌-◌}
 use lib.IntN.{pos}
-use lib.ListN.{length}
 use Rattle.timing.specs.Calls.{graph_slices}
 use Rattle.late.proofs.Found.{Searched}
 use Rattle.late.proofs.search.find_late.Given as goal
@@ -9,6 +7,3 @@ use Rattle.late.proofs.search.find_late.Given as goal
 abbrev pub invariant-loop-c : goal.invariant-loop-c
 invariant-loop-c l =
     Searched l.late (graph_slices l.nodes l.endpoint l.from l.to l.via) (pos l.allowed) l.initial.arrivals l.arrivals l.c l.first
-
-abbrev pub decreases-loop-c : goal.decreases-loop-c
-decreases-loop-c l = length l.nodes - l.c

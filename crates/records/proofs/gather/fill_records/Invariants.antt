@@ -1,11 +1,7 @@
 -- Invariant: each node's place tells its times over the copies below c.
-use Prim.Native.Nat.{◌-◌, ◌≤◌}
 use lib.ListN.{length}
 use Rattle.records.proofs.Records.{Gathered}
 use Rattle.records.proofs.gather.fill_records.Given as goal
 
 abbrev pub invariant-loop-c : goal.invariant-loop-c
-invariant-loop-c l = (l.c ≤ length l.nodes) × Gathered l.nodes l.arrivals l.requireds l.slacks l.earliests (length l.initial.known) l.c l.known l.na l.nr l.ns l.ne
-
-abbrev pub decreases-loop-c : goal.decreases-loop-c
-decreases-loop-c l = length l.nodes - l.c
+invariant-loop-c l = Gathered l.nodes l.arrivals l.requireds l.slacks l.earliests (length l.fn.known) l.c l.known l.na l.nr l.ns l.ne

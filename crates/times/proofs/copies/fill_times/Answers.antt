@@ -1,31 +1,18 @@
 -- Arrivals and required times are small, so that their difference fits.
-use mathlib.Core.Path.{sym, ◌∙◌, ap, subst}
+use mathlib.Core.Path.{sym, ◌∙◌, subst}
 use mathlib.Core.List.{[]}
-use lib.ListN.{length}
 use Rattle.timing.specs.Calls.{graph_slices}
-use Rattle.theorems.proofs.Elements.{size_each}
 use Rattle.times.specs.Passes.{Small}
 use Rattle.times.proofs.Passes.{arrivals_small, requireds_small, fit_ends, arrivals_any, earliests_any, slacks_are}
 use Rattle.times.proofs.copies.fill_times.Goals as goal
 
-pub fill_arrivals-requires : goal.fill_arrivals-requires
-fill_arrivals-requires c = record { fit = (fit_ends c.requires.fit.0, fit_ends c.requires.fit.1); as_long = (c.requires.as_long.0, c.requires.as_long.3) }
-
-pub fill_requireds-requires : goal.fill_requireds-requires
-fill_requireds-requires c = record { fit = (c.requires.fit.0, c.requires.fit.2); as_long = (c.requires.fit.3, c.requires.as_long.1, c.requires.fit.4) }
-
-pub fill_slacks-requires : goal.fill_slacks-requires
-fill_slacks-requires c =
+pub fill_slacks-requires-clause-small : goal.fill_slacks-requires-clause-small
+fill_slacks-requires-clause-small c =
     let a = c.args in
-    let S = (graph_slices a.nodes.now a.endpoint.now a.from.now a.to.now a.via.now) in
-    let x = c.fill_arrivals.ensures.0 in
-    let y = c.fill_requireds.ensures in record {
-      small = (
-        subst Small (sym x) (arrivals_small a.late.now (graph_slices a.nodes.now [] a.from.now a.to.now a.via.now) (fit_ends c.requires.fit.0)),
-        subst Small (sym y) (requireds_small a.late.now S c.requires.fit.0 c.requires.fit.2 a.allowed c.requires.fit.3),
-      );
-      as_long = (ap length x ∙ size_each _ (length a.nodes.now) ∙ sym c.requires.as_long.2, ap length y ∙ size_each _ (length a.nodes.now) ∙ sym c.requires.as_long.2);
-    }
+    let S = (graph_slices a.nodes.now a.endpoint.now a.from.now a.to.now a.via.now) in (
+      subst Small (sym c.fill_arrivals.ensures.0) (arrivals_small a.late.now (graph_slices a.nodes.now [] a.from.now a.to.now a.via.now) (fit_ends c.requires.fit.0)),
+      subst Small (sym c.fill_requireds.ensures) (requireds_small a.late.now S c.requires.fit.0 c.requires.fit.2 a.allowed c.requires.fit.3),
+    )
 
 pub returns : goal.returns
 returns c =
