@@ -1,8 +1,6 @@
 -- Five bytes for each number are enough; in a smaller room the size decides.
-use Prim.Native.Nat.{ℕ}
 use native.Mathlib.Omega.{arith}
-use mathlib.Core.Path.{sym, ap}
-use lib.Dec.{leb}
+use mathlib.Core.Path.{sym}
 use borrow.Author.Tests.{le-leb}
 use Rattle.graph_writer.proofs.Writing.{graph_most}
 use Rattle.graph_writer.proofs.writer.graph_fits.Goals as goal
@@ -11,6 +9,3 @@ pub returns-then-nodes-from : goal.returns-then-nodes-from
 returns-then-nodes-from c =
     let a = c.args in
     sym (le-leb _ a.len (omega (arith, graph_most a.nodes.now a.endpoint.now a.from.now a.to.now a.via.now c.requires, c.if-nodes-from.true)))
-
-pub returns : goal.returns
-returns c = ap (λ (n : ℕ). leb n c.args.len) c.graph_size.ensures
