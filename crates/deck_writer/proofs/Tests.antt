@@ -1,9 +1,8 @@
 -- What it says that the writer's tests passed, and how lengths add up.
 use Prim.Native.Nat.{ℕ, ◌+◌, ◌<◌}
 use native.Mathlib.Numerals.{add-one}
-use mathlib.Core.Path.{◌≡◌, refl, ◌∙◌, ap}
+use mathlib.Core.Path.{◌≡◌, refl}
 use mathlib.Core.List.{List}
-use Rattle.std.specs.Prelude.{Err}
 use Rattle.timing.specs.Answers.{Verdict, Passed}
 use lib.ListN.{length, get_or, drop}
 use lib.Seq.{drop-cons}

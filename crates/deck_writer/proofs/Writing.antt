@@ -16,12 +16,15 @@ use Rattle.timing.specs.Marks.{cut}
 use Rattle.timing.specs.Decks.{Deck, edge_numbers, path_numbers, deck_numbers, packed_deck}
 use Rattle.timing.specs.Calls.{writing, room_after_writing}
 use Rattle.packed_lists.proofs.Writing.{size_append, size_cons, size_none}
+use Rattle.packed.proofs.Numbers.{packed_size}
 use Rattle.packed.proofs.Rooms.{written_sets, answer_fits}
 use Rattle.packed_lists.specs.Writing.{bytes_of, size, Wrote}
 use Rattle.deck_writer.specs.Writing.{Fit, tail_numbers}
-use Rattle.deck_writer.proofs.Tests.{sum_drop}
 
 -- The size of numbers, one by one.
+pub number_most : (x : ℕ) → length (packed x) ≤ 5
+number_most x = (packed_size 4 x).1
+
 pub sizes_drop : (s : List ℤ) (k : ℕ) → k < length s → size (map packed_delay (drop k s)) ≡ length (packed (packed_delay (get_or s k (pos 0)))) + size (map packed_delay (drop (k + 1) s))
 sizes_drop s k h = rw (drop-cons s k (pos 0) h, add-one k) (size_cons (packed_delay (get_or s k (pos 0))) (map packed_delay (drop (suc k) s)))
 

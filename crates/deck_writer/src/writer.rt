@@ -12,12 +12,14 @@ ghost use Rattle.deck_writer.specs.Writing.{deck_of, Fit, tail_numbers};
 use packed::write_number;
 
 // How many bytes a number takes, and numbers: the bounds are for the sums.
+#[tactic(auto, using(crate::proofs::Writing::number_most))]
 fn number_size(x: u32) -> usize
     ensures { (result ≡ length (packed x)) × (result ≤ 5) }
 {
     packed::number_size(x)
 }
 
+#[tactic(auto, using(packed_lists::proofs::Sizes::size_most), unfolding(packed_lists::specs::Writing::bytes_of))]
 fn numbers_size(s: &[u32]) -> usize
     requires { length s.now ≤ 16384 }
     ensures { (result ≡ size s.now) × (result ≤ 81920) }
@@ -178,6 +180,7 @@ fn put_tail(room: &mut [u8], at: usize, marked: &[u32], allowed: u32) -> usize
 }
 
 // How many bytes the edges take: each number is counted once, in any order.
+#[tactic(auto, using(crate::proofs::Writing::size_edges))]
 fn edges_size(starts: &[u32], ends: &[u32], early: &[i32], late: &[i32]) -> usize
     requires { (length ends.now ≡ length starts.now)
         × (length early.now ≡ length starts.now)
@@ -190,6 +193,7 @@ fn edges_size(starts: &[u32], ends: &[u32], early: &[i32], late: &[i32]) -> usiz
 }
 
 // How many bytes the deck takes, likewise.
+#[tactic(auto, using(crate::proofs::Writing::size_deck))]
 pub(crate) fn deck_size(
     n: u32,
     starts: &[u32],

@@ -56,6 +56,7 @@ fn edges_size(from: &[u32], to: &[u32], via: &[u32]) -> usize
 }
 
 // How many bytes the graph takes.
+#[tactic(auto, using(crate::proofs::Writing::size_graph))]
 pub(crate) fn graph_size(
     nodes: &[u32],
     endpoint: &[u32],
@@ -72,6 +73,7 @@ pub(crate) fn graph_size(
 }
 
 // Whether the graph fits a room of so many bytes. Five bytes hold any number, so that its size is asked for in a small room only.
+#[tactic(auto, using(crate::proofs::Writing::graph_most))]
 pub(crate) fn graph_fits(
     nodes: &[u32],
     endpoint: &[u32],

@@ -1,5 +1,5 @@
 use native.Mathlib.Omega.{arith}
-use Rattle.packed_lists.proofs.Writing.{left_all, left_fits, left_turn, left_none}
+use Rattle.packed_lists.proofs.Writing.{left_fits, left_turn, left_none}
 use Rattle.deck_writer.proofs.Tests.{sum_drop}
 use Rattle.deck_writer.proofs.Writing.{paths_turn, paths_done}
 use Rattle.deck_writer.proofs.writer.put_paths.Goals as goal

@@ -1,5 +1,4 @@
 -- The marked nodes behind their count, then T.
-use native.Mathlib.Omega.{arith}
 use mathlib.Core.List.{[], ◌∷◌}
 use lib.ListN.{length}
 use Rattle.packed_lists.proofs.Writing.{fits_first, fits_second, wrote_both}
