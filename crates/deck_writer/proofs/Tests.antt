@@ -1,9 +1,8 @@
 -- What it says that the writer's tests passed, and how lengths add up.
 use Prim.Native.Nat.{ℕ, ◌+◌, ◌<◌}
 use native.Mathlib.Numerals.{add-one}
-use mathlib.Core.Path.{◌≡◌, refl, ◌∙◌, ap}
+use mathlib.Core.Path.{◌≡◌, refl}
 use mathlib.Core.List.{List}
-use Rattle.std.specs.Prelude.{Err}
 use Rattle.timing.specs.Answers.{Verdict, Passed}
 use lib.ListN.{length, get_or, drop}
 use lib.Seq.{drop-cons}
@@ -15,12 +14,6 @@ use Rattle.timing.specs.Calls.{deck_write_tests}
 use Rattle.timing.specs.Decks.{Deck}
 use Rattle.timing.proofs.Verdicts.{then_passed, unless_passed, then_assoc, edges_passed, marked_passed}
 use Rattle.deck_writer.specs.Writing.{Fit}
-
--- the counts' tests, as a verdict that is passed along makes them
-pub then_counts : (v a b x y : Verdict) (r s t u : Verdict) → r ≡ (v then a) → s ≡ (r then b) → t ≡ (s then x) → u ≡ (t then y) → u ≡ (v then (a then b) then x then y)
-then_counts Passed Passed b x y r s t u e f g h = h ∙ ap (λ (w : Verdict). w then y) (g ∙ ap (λ (w : Verdict). w then x) (f ∙ ap (λ (w : Verdict). w then b) e)) ∙ then_assoc b x y
-then_counts Passed (Err q) b x y r s t u e f g h = h ∙ ap (λ (w : Verdict). w then y) (g ∙ ap (λ (w : Verdict). w then x) (f ∙ ap (λ (w : Verdict). w then b) e))
-then_counts (Err q) a b x y r s t u e f g h = h ∙ ap (λ (w : Verdict). w then y) (g ∙ ap (λ (w : Verdict). w then x) (f ∙ ap (λ (w : Verdict). w then b) e))
 
 pub fit_of : (d : Deck) → deck_write_tests d ≡ Passed → Fit d
 unfolding deck_write_tests
@@ -47,16 +40,11 @@ fit_of d e =
 pub sum_drop : (l : List ℕ) (k : ℕ) → k < length l → sum (drop k l) ≡ get_or l k 0 + sum (drop (k + 1) l)
 sum_drop l k h = rw (drop-cons l k 0 h, add-one k)
 
--- the writer's tests, as a verdict that is passed along makes them
-pub then_tests : (d : Deck) (r s u m w : Verdict) → r ≡ design_sizes d.design → s ≡ (r then list_sizes d.list) → u ≡ (s then design_counts d.design then list_counts d.list)
-    → m ≡ marked_count d.design.nodes (length d.design.marked) → w ≡ (u then m) → w ≡ deck_write_tests d
+-- the tests of the sizes, and then those of the counts
+pub then_sizes : (d : Deck) (s u : Verdict) → s ≡ design_sizes d.design → u ≡ (s then list_sizes d.list)
+    → (u then design_counts d.design then list_counts d.list then marked_count d.design.nodes (length d.design.marked)) ≡ deck_write_tests d
 unfolding deck_write_tests
-then_tests d r s u m w e f g h i =
-    rw (i, h, g, f, e) (
-    then_assoc (design_sizes d.design then list_sizes d.list) (design_counts d.design then list_counts d.list) (marked_count d.design.nodes (length d.design.marked))
-    ∙ then_assoc (design_sizes d.design) (list_sizes d.list) ((design_counts d.design then list_counts d.list) then marked_count d.design.nodes (length d.design.marked))
-    ∙ ap (λ (v : Verdict). design_sizes d.design then list_sizes d.list then v) (then_assoc (design_counts d.design) (list_counts d.list) (marked_count d.design.nodes (length d.design.marked)))
-    )
+then_sizes d s u e f = rw (f, e) (then_assoc (design_sizes d.design) (list_sizes d.list) (design_counts d.design then list_counts d.list then marked_count d.design.nodes (length d.design.marked)))
 
 -- none of the tests looks at T
 pub tests_untimed : (d : Deck) → deck_write_tests (record { design = d.design; list = d.list; allowed = 0 }) ≡ deck_write_tests d

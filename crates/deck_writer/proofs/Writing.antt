@@ -16,12 +16,15 @@ use Rattle.timing.specs.Marks.{cut}
 use Rattle.timing.specs.Decks.{Deck, edge_numbers, path_numbers, deck_numbers, packed_deck}
 use Rattle.timing.specs.Calls.{writing, room_after_writing}
 use Rattle.packed_lists.proofs.Writing.{size_append, size_cons, size_none}
+use Rattle.packed.proofs.Numbers.{packed_size}
 use Rattle.packed.proofs.Rooms.{written_sets, answer_fits}
 use Rattle.packed_lists.specs.Writing.{bytes_of, size, Wrote}
 use Rattle.deck_writer.specs.Writing.{Fit, tail_numbers}
-use Rattle.deck_writer.proofs.Tests.{sum_drop}
 
 -- The size of numbers, one by one.
+pub number_most : (x : ℕ) → length (packed x) ≤ 5
+number_most x = (packed_size 4 x).1
+
 pub sizes_drop : (s : List ℤ) (k : ℕ) → k < length s → size (map packed_delay (drop k s)) ≡ length (packed (packed_delay (get_or s k (pos 0)))) + size (map packed_delay (drop (k + 1) s))
 sizes_drop s k h = rw (drop-cons s k (pos 0) h, add-one k) (size_cons (packed_delay (get_or s k (pos 0))) (map packed_delay (drop (suc k) s)))
 
@@ -37,31 +40,18 @@ edges_turn s t d l k e f g h = rw (drop-cons s k 0 e, drop-cons t k 0 f, drop-co
 pub edges_done : (s t : List ℕ) (d l : List ℤ) (k : ℕ) → length s ≤ k → edge_numbers (drop k s) (drop k t) (drop k d) (drop k l) ≡ []
 edges_done s t d l k h = rw (drop_of_length-le s h)
 
-pub part_turn : (s : List ℕ) (from count k : ℕ) → from + count ≤ length s → k < count
-    → take (count - k) (drop (from + k) s) ≡ (get_or s (from + k) 0 ∷ []) ++ take (count - (k + 1)) (drop (from + (k + 1)) s)
-part_turn s from count k h l =
-    let d : count - k ≡ suc (count - (k + 1)) = omega arith in
-    let e : suc (from + k) ≡ from + (k + 1) = omega arith in
-    rw (d, drop-cons s (from + k) 0 (omega arith), e)
+pub numbers_turn : (s : List ℕ) (k : ℕ) → k < length s → drop k s ≡ (get_or s k 0 ∷ []) ++ drop (k + 1) s
+numbers_turn s k h = rw (drop-cons s k 0 h, add-one k)
 
-pub part_all : (s : List ℕ) (from count : ℕ) → take (count - 0) (drop (from + 0) s) ≡ take count (drop from s)
-part_all s from count =
-    let d : count - 0 ≡ count = omega arith in
-    let e : from + 0 ≡ from = omega arith in
-    rw (d, e)
+pub numbers_done : (s : List ℕ) (k : ℕ) → length s ≤ k → drop k s ≡ []
+numbers_done s k h = drop_of_length-le s h
 
-pub part_done : (s : List ℕ) (from count k : ℕ) → count ≤ k → take (count - k) (drop (from + k) s) ≡ []
-part_done s from count k h =
-    let d : count - k ≡ 0 = omega arith in
-    rw d
-
-pub paths_turn : (edges lengths : List ℕ) (from k : ℕ) → k < length lengths → from + sum (drop k lengths) ≡ length edges
+pub paths_turn : (edges lengths : List ℕ) (from k : ℕ) → k < length lengths
     → flat_map path_numbers (cut (drop from edges) (drop k lengths))
-    ≡ (get_or lengths k 0 ∷ take (get_or lengths k 0) (drop from edges)) ++ flat_map path_numbers (cut (drop (from + get_or lengths k 0) edges) (drop (k + 1) lengths))
+    ≡ path_numbers (take (from + get_or lengths k 0 - from) (drop from edges)) ++ flat_map path_numbers (cut (drop (from + get_or lengths k 0) edges) (drop (k + 1) lengths))
 unfolding flat_map
-paths_turn edges lengths from k h e =
-    let s = sum_drop lengths k h in
-    let d : length (take (get_or lengths k 0) (drop from edges)) ≡ get_or lengths k 0 = length-take-le (get_or lengths k 0) (drop from edges) (rw (length-drop from edges) (omega arith)) in
+paths_turn edges lengths from k h =
+    let d : from + get_or lengths k 0 - from ≡ get_or lengths k 0 = omega arith in
     rw (drop-cons lengths k 0 h, d, drop-drop (get_or lengths k 0) from edges, add-one k)
 
 pub paths_done : (edges lengths : List ℕ) (from k : ℕ) → length lengths ≤ k → flat_map path_numbers (cut (drop from edges) (drop k lengths)) ≡ []

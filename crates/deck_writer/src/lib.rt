@@ -8,6 +8,7 @@ ghost use Rattle.timing.specs.Decks.{Deck, packed_deck};
 ghost use Rattle.timing.specs.Calls.{deck_write_tests, writing, room_after_writing};
 
 use timing::Refusal;
+use verdicts::refuse;
 
 mod counts;
 mod writer;
@@ -32,18 +33,12 @@ pub fn write_deck(
         (result ≡ writing (deck_write_tests d) room.old (packed_deck d))
         × (room.new ≡ room_after_writing (deck_write_tests d) room.old (packed_deck d)) }
 {
-    let v = counts::write_tests(n, starts, ends, early, late, marked, listed, lengths);
-    match v {
-        Err(r) => {
-            return Err(r);
-        }
-        Ok(()) => {}
-    }
+    counts::write_tests(n, starts, ends, early, late, marked, listed, lengths)?;
     let size = writer::deck_size(
         n, starts, ends, early, late, marked, listed, lengths, allowed,
     );
     if room.len() < size {
-        return Err(verdicts::refuse(35, 0));
+        return Err(refuse(35, 0));
     }
     Ok(writer::put_deck(
         n, starts, ends, early, late, marked, listed, lengths, allowed, room,

@@ -1,5 +1,5 @@
 // The writer.
-ghost use Rattle.std.specs.Prelude.{◌≡◌, ◌+◌, ◌≤◌, ◌<◌, pos, length, get_or, take, drop};
+ghost use Rattle.std.specs.Prelude.{◌≡◌, ◌+◌, ◌≤◌, ◌<◌, ◌^◌, pos, length, get_or};
 ghost use mathlib.Core.List.{[], ◌∷◌, map, flat_map};
 ghost use Rattle.timing.specs.Lists.{sum};
 ghost use Rattle.timing.specs.Numbers.{packed};
@@ -9,16 +9,17 @@ ghost use Rattle.timing.specs.Decks.{edge_numbers, path_numbers, deck_numbers, p
 ghost use Rattle.packed_lists.specs.Writing.{size, Wrote};
 ghost use Rattle.deck_writer.specs.Writing.{deck_of, Fit, tail_numbers};
 
-use entries::wide;
-
+use packed::write_number;
 
 // How many bytes a number takes, and numbers: the bounds are for the sums.
+#[tactic(auto, using(crate::proofs::Writing::number_most))]
 fn number_size(x: u32) -> usize
     ensures { (result ≡ length (packed x)) × (result ≤ 5) }
 {
     packed::number_size(x)
 }
 
+#[tactic(auto, using(packed_lists::proofs::Sizes::size_most), unfolding(packed_lists::specs::Writing::bytes_of))]
 fn numbers_size(s: &[u32]) -> usize
     requires { length s.now ≤ 16384 }
     ensures { (result ≡ size s.now) × (result ≤ 81920) }
@@ -39,10 +40,8 @@ fn delays_size(s: &[i32]) -> usize
     ensures { (result ≡ size (map packed_delay s.now)) × (result ≤ 81920) }
 {
     let mut total: usize = 0;
-    let mut k = 0;
-    while k < s.len() {
+    for k in 0..s.len() {
         total += number_size(delay_number(s, k));
-        k += 1;
     }
     total
 }
@@ -52,11 +51,7 @@ fn put(room: &mut [u8], at: usize, x: u32) -> usize
     requires { at + size (x ∷ []) ≤ length room.old }
     ensures { Wrote room.old room.new at result (x ∷ []) }
 {
-    let w = packed::write_number(room, at, x);
-    match w {
-        Ok(next) => next,
-        Err(_) => at,
-    }
+    write_number(room, at, x).unwrap()
 }
 
 fn put_two(room: &mut [u8], at: usize, x: u32, y: u32) -> usize
@@ -78,7 +73,7 @@ fn put_row(room: &mut [u8], at: usize, start: u32, end: u32, early: u32, late: u
 
 fn put_edges(
     room: &mut [u8],
-    at: usize,
+    mut at: usize,
     starts: &[u32],
     ends: &[u32],
     early: &[i32],
@@ -91,9 +86,7 @@ fn put_edges(
     ensures { let numbers = edge_numbers starts.now ends.now early.now late.now in
         Wrote room.old room.new at result numbers }
 {
-    let mut at = at;
-    let mut k = 0;
-    while k < starts.len() {
+    for k in 0..starts.len() {
         at = put_row(
             room,
             at,
@@ -102,51 +95,42 @@ fn put_edges(
             delay_number(early, k),
             delay_number(late, k),
         );
-        k += 1;
     }
     at
 }
 
-// The numbers of a slice from a place on.
-fn put_numbers(room: &mut [u8], at: usize, s: &[u32], from: usize, count: usize) -> usize
-    requires count_in_bounds { from + count ≤ length s.now }
-    requires s_in_bounds { at + size (take count (drop from s.now)) ≤ length room.old }
-    ensures { Wrote room.old room.new at result (take count (drop from s.now)) }
+// Numbers, one after the other.
+fn put_numbers(room: &mut [u8], mut at: usize, s: &[u32]) -> usize
+    requires { at + size s.now ≤ length room.old }
+    ensures { Wrote room.old room.new at result s.now }
 {
-    let mut at = at;
-    let mut k = 0;
-    while k < count {
-        at = put(room, at, s[from + k]);
-        k += 1;
+    for x in s {
+        at = put(room, at, *x);
     }
     at
 }
 
-// So many numbers of a slice from a place on, behind their count: a path, or the marked nodes.
-fn put_counted(room: &mut [u8], at: usize, s: &[u32], from: usize, count: u32) -> usize
-    requires count_in_bounds { from + count ≤ length s.now }
-    requires s_in_bounds { at + size (count ∷ take count (drop from s.now)) ≤ length room.old }
-    ensures { let numbers = count ∷ take count (drop from s.now) in
-        Wrote room.old room.new at result numbers }
+// Numbers behind their count: a path, or the marked nodes.
+fn put_counted(room: &mut [u8], at: usize, s: &[u32]) -> usize
+    requires len_fits { length s.now < 2 ^ 32 }
+    requires s_in_bounds { at + size (length s.now ∷ s.now) ≤ length room.old }
+    ensures { Wrote room.old room.new at result (length s.now ∷ s.now) }
 {
-    let at = put(room, at, count);
-    put_numbers(room, at, s, from, wide(count))
+    let at = put(room, at, s.len() as u32);
+    put_numbers(room, at, s)
 }
 
-fn put_paths(room: &mut [u8], at: usize, listed: &[u32], lengths: &[u32]) -> usize
+fn put_paths(room: &mut [u8], mut at: usize, listed: &[u32], lengths: &[u32]) -> usize
     requires lengths_value { sum lengths.now ≡ length listed.now }
     requires lengths_in_bounds { at + size (flat_map path_numbers (cut listed.now lengths.now)) ≤ length room.old }
     ensures { let numbers = flat_map path_numbers (cut listed.now lengths.now) in
         Wrote room.old room.new at result numbers }
 {
-    let mut at = at;
     let mut from = 0;
-    let mut k = 0;
-    while k < lengths.len() {
-        let count = lengths[k];
-        at = put_counted(room, at, listed, from, count);
-        from += wide(count);
-        k += 1;
+    for count in lengths {
+        let to = from + *count as usize;
+        at = put_counted(room, at, &listed[from..to]);
+        from = to;
     }
     at
 }
@@ -191,11 +175,12 @@ fn put_tail(room: &mut [u8], at: usize, marked: &[u32], allowed: u32) -> usize
     requires allowed_in_bounds { at + size (tail_numbers marked.now allowed) ≤ length room.old }
     ensures { Wrote room.old room.new at result (tail_numbers marked.now allowed) }
 {
-    let at = put_counted(room, at, marked, 0, marked.len() as u32);
+    let at = put_counted(room, at, marked);
     put(room, at, allowed)
 }
 
 // How many bytes the edges take: each number is counted once, in any order.
+#[tactic(auto, using(crate::proofs::Writing::size_edges))]
 fn edges_size(starts: &[u32], ends: &[u32], early: &[i32], late: &[i32]) -> usize
     requires { (length ends.now ≡ length starts.now)
         × (length early.now ≡ length starts.now)
@@ -208,6 +193,7 @@ fn edges_size(starts: &[u32], ends: &[u32], early: &[i32], late: &[i32]) -> usiz
 }
 
 // How many bytes the deck takes, likewise.
+#[tactic(auto, using(crate::proofs::Writing::size_deck))]
 pub(crate) fn deck_size(
     n: u32,
     starts: &[u32],

@@ -11,7 +11,6 @@ use lib.Dec.{leb, leb→le}
 use lib.ListN.{length, get_or, drop, drop_of_length-le}
 use lib.Seq.{sets, drop-cons}
 use Rattle.timing.specs.WellFormed.{zero_or_one}
-use Rattle.timing.specs.declared.Refusal.{Refusal}
 use Rattle.timing.specs.Graphs.{Graph, edges_of}
 use Rattle.timing.specs.GraphBytes.{copy_numbers, graph_numbers, packed_graph}
 use Rattle.timing.specs.Refusals.{◌then◌}
@@ -19,9 +18,10 @@ use Rattle.timing.specs.Refusals.{unless as passed_if}
 use Rattle.timing.specs.Tests.{room_sizes}
 use Rattle.timing.specs.Calls.{graph_slices, graph_of, room_of, writing, room_after_writing, graph_write_tests}
 use Rattle.theorems.proofs.Lists.{and_left, and_right, holds, length_edges}
-use Rattle.timing.proofs.Verdicts.{then_passed, then_assoc, unless_passed, room_passed}
+use Rattle.timing.proofs.Verdicts.{then_passed, unless_passed, room_passed}
 use Rattle.packed_lists.specs.Writing.{bytes_of, size, Wrote}
 use Rattle.packed_lists.proofs.Writing.{size_append, size_cons, size_none}
+use Rattle.timing.specs.Numbers.{packed}
 use Rattle.packed.proofs.Numbers.{packed_size}
 use Rattle.packed_lists.proofs.Sizes.{size_most}
 use Rattle.packed.proofs.Rooms.{written_sets, answer_fits}
@@ -60,6 +60,9 @@ module _ (nodes endpoint from to via : List ℕ) (e : length to ≡ length from)
   size_graph = rw edge_count_lem (sym (size_append (length nodes ∷ copy_numbers nodes endpoint) (length from ∷ rows_of from to via)))
 
 -- How many bytes they take, and at most.
+pub number_most : (x : ℕ) → length (packed x) ≤ 5
+number_most x = (packed_size 4 x).1
+
 pub size_copies : (s t : List ℕ) → length t ≡ length s → size (copy_numbers s t) ≡ size s + size t
 unfolding flat_map
 size_copies [] [] e = omega (arith, size_none)
@@ -115,24 +118,16 @@ module _ (nodes endpoint from to via : List ℕ) (f : Fits nodes endpoint from t
         f.names,
       )
 
-  pub parts_fit : (room : List ℕ) → length (packed_graph (graph_of (graph_slices nodes endpoint from to via))) ≤ length room
-      → 0 + size ((length nodes ∷ []) ++ copy_numbers nodes endpoint ++ (length from ∷ []) ++ rows_of from to via) ≤ length room
-  parts_fit room h =
-      rw (← graph_numbers_lem nodes endpoint from to via f.ends f.names) (omega (arith, ap length (packed_graph_lem (graph_of (graph_slices nodes endpoint from to via)))))
-
--- Two tests, and a third: where it is not asked for, and where it decides.
-module _ (u v w x : Verdict) (p : x ≡ (u then v)) where
-  pub then_refused : (r : Refusal) → x ≡ Err r → x ≡ (u then v then w)
-  then_refused r q = one ∙ then_assoc u v w
-    where
-      one : x ≡ ((u then v) then w)
-      one = rw (sym p, q)
-
-  pub then_next : (y : Verdict) → x ≡ Passed → y ≡ w → y ≡ (u then v then w)
-  then_next y q e = one ∙ then_assoc u v w
-    where
-      one : y ≡ ((u then v) then w)
-      one = rw (sym p, q) e
+  -- the four parts one after the other
+  pub size_parts : length (packed_graph (graph_of (graph_slices nodes endpoint from to via)))
+      ≡ size (length nodes ∷ []) + size (copy_numbers nodes endpoint) + size (length from ∷ []) + size (rows_of from to via)
+  size_parts =
+      omega (
+        arith,
+        size_graph nodes endpoint from to via f.ends f.names,
+        size_append (length nodes ∷ []) (copy_numbers nodes endpoint),
+        size_append (length from ∷ []) (rows_of from to via),
+      )
 
 -- The writer's tests by the lengths and the endpoint numbers, and what they say where they pass.
 pub tests_are : (nodes endpoint from to via : List ℕ)

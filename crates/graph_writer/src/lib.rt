@@ -6,6 +6,7 @@ ghost use Rattle.timing.specs.GraphBytes.{packed_graph};
 ghost use Rattle.timing.specs.Calls.{graph_slices, graph_of, writing, room_after_writing, graph_write_tests};
 
 use timing::Refusal;
+use verdicts::refuse;
 
 mod writer;
 
@@ -24,15 +25,9 @@ pub fn write_graph(
         (result ≡ writing (graph_write_tests S) room.old bytes)
         × (room.new ≡ room_after_writing (graph_write_tests S) room.old bytes) }
 {
-    let v = writer::write_tests(nodes.len(), endpoint, from.len(), to.len(), via.len());
-    match v {
-        Err(r) => {
-            return Err(r);
-        }
-        Ok(()) => {}
+    writer::write_tests(nodes.len(), endpoint, from.len(), to.len(), via.len())?;
+    if !writer::graph_fits(nodes, endpoint, from, to, via, room.len()) {
+        return Err(refuse(35, 0));
     }
-    if writer::graph_fits(nodes, endpoint, from, to, via, room.len()) {
-        return Ok(writer::put_graph(nodes, endpoint, from, to, via, room));
-    }
-    Err(verdicts::refuse(35, 0))
+    Ok(writer::put_graph(nodes, endpoint, from, to, via, room))
 }

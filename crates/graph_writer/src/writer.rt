@@ -9,13 +9,10 @@ ghost use Rattle.timing.specs.Calls.{graph_slices, graph_of};
 ghost use Rattle.packed_lists.specs.Writing.{size, Wrote};
 ghost use Rattle.graph_writer.specs.Writing.{Fits, rows_of};
 
-use timing::Verdict;
-
-fn both(a: bool, b: bool) -> bool
-    ensures { result ≡ (a && b) }
-{
-    if a { b } else { false }
-}
+use packed::{number_size, write_number, write_row};
+use packed_lists::numbers_size;
+use timing::{MAX_COPIES, MAX_COPY_EDGES, Verdict};
+use verdicts::{graph_sizes, unless, zero_or_one};
 
 // 30, 32 for the counts, and 32 for the endpoint numbers: where the three slices of edges are as
 // long as each other, each length is the count of edges.
@@ -31,25 +28,23 @@ pub(crate) fn write_tests(
         result ≡ (room_sizes R then passed_if 32 (leb copies 16384 && leb from 65536)
         then passed_if 32 (zero_or_one ends)) }
 {
-    let v = verdicts::graph_sizes(copies, endpoint.len(), from, to, via);
-    let few = both(copies <= timing::MAX_COPIES, from <= timing::MAX_COPY_EDGES);
-    let v = verdicts::and_unless(v, 32, few);
-    v?;
-    verdicts::unless(32, verdicts::zero_or_one(endpoint))
+    graph_sizes(copies, endpoint.len(), from, to, via)?;
+    unless(32, copies <= MAX_COPIES && from <= MAX_COPY_EDGES)?;
+    unless(32, zero_or_one(endpoint))
 }
 
 // How many bytes the copies take: each number is counted once, in any order.
+#[tactic(auto, using(crate::proofs::Writing::number_most, packed_lists::proofs::Sizes::size_most, packed_lists::proofs::Writing::size_cons, crate::proofs::Writing::size_copies), unfolding(packed_lists::specs::Writing::bytes_of))]
 fn copies_size(nodes: &[u32], endpoint: &[u32]) -> usize
     requires { (length nodes.now ≤ 16384) × (length endpoint.now ≡ length nodes.now) }
     ensures { let numbers = length nodes.now ∷ copy_numbers nodes.now endpoint.now in
         (result ≡ size numbers) × (result ≤ 163845) }
 {
-    packed::number_size(nodes.len() as u32)
-        + packed_lists::numbers_size(nodes)
-        + packed_lists::numbers_size(endpoint)
+    number_size(nodes.len() as u32) + numbers_size(nodes) + numbers_size(endpoint)
 }
 
 // How many bytes the edges take, likewise.
+#[tactic(auto, using(crate::proofs::Writing::number_most, packed_lists::proofs::Sizes::size_most, packed_lists::proofs::Writing::size_cons, crate::proofs::Writing::size_rows), unfolding(packed_lists::specs::Writing::bytes_of))]
 fn edges_size(from: &[u32], to: &[u32], via: &[u32]) -> usize
     requires { (length from.now ≤ 65536)
         × (length to.now ≡ length from.now)
@@ -57,13 +52,11 @@ fn edges_size(from: &[u32], to: &[u32], via: &[u32]) -> usize
     ensures { let rows = rows_of from.now to.now via.now in
         (result ≡ size (length from.now ∷ rows)) × (result ≤ 983045) }
 {
-    packed::number_size(from.len() as u32)
-        + packed_lists::numbers_size(from)
-        + packed_lists::numbers_size(to)
-        + packed_lists::numbers_size(via)
+    number_size(from.len() as u32) + numbers_size(from) + numbers_size(to) + numbers_size(via)
 }
 
 // How many bytes the graph takes.
+#[tactic(auto, using(crate::proofs::Writing::size_graph))]
 pub(crate) fn graph_size(
     nodes: &[u32],
     endpoint: &[u32],
@@ -80,6 +73,7 @@ pub(crate) fn graph_size(
 }
 
 // Whether the graph fits a room of so many bytes. Five bytes hold any number, so that its size is asked for in a small room only.
+#[tactic(auto, using(crate::proofs::Writing::graph_most))]
 pub(crate) fn graph_fits(
     nodes: &[u32],
     endpoint: &[u32],
@@ -104,11 +98,7 @@ fn put(room: &mut [u8], at: usize, x: u32) -> usize
     requires { at + size (x ∷ []) ≤ length room.old }
     ensures { Wrote room.old room.new at result (x ∷ []) }
 {
-    let w = packed::write_number(room, at, x);
-    match w {
-        Ok(next) => next,
-        Err(_) => at,
-    }
+    write_number(room, at, x).unwrap()
 }
 
 // A copy: its node, then its endpoint number.
@@ -120,17 +110,14 @@ fn put_copy(room: &mut [u8], at: usize, node: u32, endpoint: u32) -> usize
     put(room, at, endpoint)
 }
 
-fn put_copies(room: &mut [u8], at: usize, nodes: &[u32], endpoint: &[u32]) -> usize
+fn put_copies(room: &mut [u8], mut at: usize, nodes: &[u32], endpoint: &[u32]) -> usize
     requires { (length endpoint.now ≡ length nodes.now)
         × (at + size (copy_numbers nodes.now endpoint.now) ≤ length room.old) }
     ensures { let numbers = copy_numbers nodes.now endpoint.now in
         Wrote room.old room.new at result numbers }
 {
-    let mut at = at;
-    let mut k = 0;
-    while k < nodes.len() {
+    for k in 0..nodes.len() {
         at = put_copy(room, at, nodes[k], endpoint[k]);
-        k += 1;
     }
     at
 }
@@ -140,30 +127,24 @@ fn put_row(room: &mut [u8], at: usize, s: u32, t: u32, k: u32) -> usize
     requires { at + size (s ∷ t ∷ k ∷ []) ≤ length room.old }
     ensures { Wrote room.old room.new at result (s ∷ t ∷ k ∷ []) }
 {
-    let w = packed::write_row(room, at, s, t, k);
-    match w {
-        Ok(next) => next,
-        Err(_) => at,
-    }
+    write_row(room, at, s, t, k).unwrap()
 }
 
-fn put_rows(room: &mut [u8], at: usize, from: &[u32], to: &[u32], via: &[u32]) -> usize
+fn put_rows(room: &mut [u8], mut at: usize, from: &[u32], to: &[u32], via: &[u32]) -> usize
     requires { (length to.now ≡ length from.now)
         × (length via.now ≡ length from.now)
         × (at + size (rows_of from.now to.now via.now) ≤ length room.old) }
     ensures { let numbers = rows_of from.now to.now via.now in
         Wrote room.old room.new at result numbers }
 {
-    let mut at = at;
-    let mut k = 0;
-    while k < from.len() {
+    for k in 0..from.len() {
         at = put_row(room, at, from[k], to[k], via[k]);
-        k += 1;
     }
     at
 }
 
 // The graph, where it fits the room.
+#[tactic(auto, using(crate::proofs::Writing::size_parts))]
 pub(crate) fn put_graph(
     nodes: &[u32],
     endpoint: &[u32],

@@ -3,78 +3,44 @@ use Prim.Native.Nat.{ℕ, zero, suc, ◌+◌, ◌-◌, ◌≤◌, ◌<◌, min}
 use native.Mathlib.Omega.{arith}
 use native.Mathlib.Numerals.{add-one}
 use mathlib.Core.Path.{◌≡◌, refl, sym, ◌∙◌, ap}
-use mathlib.Core.Bool.{Bool, true, false}
 use mathlib.Core.List.{List, [], ◌∷◌, ◌++◌, flat_map}
-use Rattle.std.specs.Prelude.{Option, Some, None}
-use Rattle.timing.specs.Answers.{Passed}
-use lib.Dec.{leb}
-use lib.ListN.{length, get_or, take, drop, length-take, length-drop, drop_of_length-le, take-append-drop}
-use lib.Seq.{take_all, drop-cons, drop-drop}
-use borrow.Author.Tests.{leb-true, leb-false}
+use Rattle.std.specs.Prelude.{Option, Err, None}
+use Rattle.timing.specs.declared.Refusal.{Refusal}
+use Rattle.timing.specs.Answers.{Verdict, Passed}
+use lib.ListN.{length, get_or, take, drop, length-take, length-drop, take-append-drop}
+use Rattle.std.proofs.lemmas.List.{take_min, drop_min}
+use lib.Seq.{drop-cons, drop-drop}
 use Rattle.timing.specs.Lists.{sum}
 use Rattle.timing.specs.Refusals.{unless_fault, first_fault, ◌then◌}
 use Rattle.timing.specs.Marks.{cut}
 use Rattle.timing.specs.Tests.{empty_at}
 
--- The part of the flat list that the code hands on is the path, and what follows it is the rest of the flat list: also
--- where the lengths pass the flat list and `to` is its end.
-module _ (flat : List ℕ) (from k to : ℕ) (inside : from ≤ length flat) (ends : to ≡ min (from + k) (length flat)) where
-  pub part_path : take (to - from) (drop from flat) ≡ take k (drop from flat)
-  part_path = go (leb (from + k) (length flat)) refl
-    where
-      go : (b : Bool) → leb (from + k) (length flat) ≡ b → take (to - from) (drop from flat) ≡ take k (drop from flat)
-      go true e =
-          let h = leb-true (from + k) (length flat) e in
-          let d : to - from ≡ k = omega arith in
-          rw d
-      go false e =
-          let h = leb-false (from + k) (length flat) e in
-          let n : length (drop from flat) ≡ length flat - from = length-drop from flat in
-          take_all (to - from) (drop from flat) (omega arith) ∙ sym (take_all k (drop from flat) (omega arith))
+-- How a loop that looks for the first path with a fault goes: at path p, what is left of the flat list is cut by the rest of the
+-- lengths. The path that the code looks at is the front of it, and all of it where the length passes it.
+module _ (number : ℕ) (fault : List ℕ → Option ℕ) (rest lengths : List ℕ) (p : ℕ) (here : p < length lengths)
+    {n : ℕ} (ends : n ≡ min (get_or lengths p 0) (length rest)) {path after : List ℕ} (front : path ≡ take n rest) (back : after ≡ drop n rest)
+    {found : Option ℕ} (is : found ≡ fault path) where
+  next_path : first_fault number fault p (cut rest (drop p lengths))
+      ≡ (unless_fault number p found then first_fault number fault (p + 1) (cut after (drop (p + 1) lengths)))
+  next_path =
+      let k = get_or lengths p 0 in
+      let t : take n rest ≡ take k rest = ap (λ (m : ℕ). take m rest) ends ∙ take_min k rest in
+      let d : drop n rest ≡ drop k rest = ap (λ (m : ℕ). drop m rest) ends ∙ drop_min k rest in
+      rw (is, front, back, t, d, drop-cons lengths p 0 here, add-one p)
 
-  pub part_rest : drop to flat ≡ drop k (drop from flat)
-  part_rest = go (leb (from + k) (length flat)) refl
-    where
-      go : (b : Bool) → leb (from + k) (length flat) ≡ b → drop to flat ≡ drop k (drop from flat)
-      go true e =
-          let h = leb-true (from + k) (length flat) e in
-          let d : to ≡ from + k = omega arith in
-          rw d (sym (drop-drop k from flat))
-      go false e =
-          let h = leb-false (from + k) (length flat) e in
-          let n : length (drop from flat) ≡ length flat - from = length-drop from flat in
-          drop_of_length-le flat {i = to} (omega arith) ∙ sym (drop_of_length-le (drop from flat) {i = k} (omega arith))
+  -- where the code finds a fault in the path, and where it finds none
+  module _ {all : Verdict} (so_far : first_fault number fault p (cut rest (drop p lengths)) ≡ all) where
+    pub fault_path : {r : Refusal} → Err r ≡ unless_fault number p found → Err r ≡ all
+    fault_path e = sym (next_path ∙ rw (← e)) ∙ so_far
 
--- How a loop that looks for the first path with a fault goes: at path p, which starts at `from`, what is left to look at is the
--- rest of the flat list, cut by the rest of the lengths.
-module _ (number : ℕ) (fault : List ℕ → Option ℕ) (flat lengths : List ℕ) (p from : ℕ) where
-  pub no_path_left : length lengths ≤ p → first_fault number fault p (cut (drop from flat) (drop p lengths)) ≡ Passed
-  no_path_left h = rw (drop_of_length-le lengths {i = p} h)
-
-  module _ (to : ℕ) (here : p < length lengths) (inside : from ≤ length flat) (ends : to ≡ min (from + get_or lengths p 0) (length flat)) where
-    next_path : first_fault number fault p (cut (drop from flat) (drop p lengths))
-        ≡ (unless_fault number p (fault (take (to - from) (drop from flat))) then first_fault number fault (p + 1) (cut (drop to flat) (drop (p + 1) lengths)))
-    next_path =
-        rw (drop-cons lengths p 0 here, add-one p, part_path flat from (get_or lengths p 0) to inside ends, part_rest flat from (get_or lengths p 0) to inside ends)
-
-    pub fault_path : (f : Option ℕ) {i : ℕ} → f ≡ fault (take (to - from) (drop from flat)) → f ≡ Some i
-        → first_fault number fault p (cut (drop from flat) (drop p lengths)) ≡ unless_fault number p f
-    fault_path f e at = next_path ∙ rw (← e, at)
-
-    pub sound_path : (f : Option ℕ) → f ≡ fault (take (to - from) (drop from flat)) → f ≡ None
-        → first_fault number fault (p + 1) (cut (drop to flat) (drop (p + 1) lengths)) ≡ first_fault number fault p (cut (drop from flat) (drop p lengths))
-    sound_path f e none = sym (next_path ∙ rw (← e, none))
+    pub sound_path : Passed ≡ unless_fault number p found → first_fault number fault (p + 1) (cut after (drop (p + 1) lengths)) ≡ all
+    sound_path e = sym (next_path ∙ rw (← e)) ∙ so_far
 
 -- what a part of the flat list holds
 pub part_length : (flat : List ℕ) (from to : ℕ) → to ≤ length flat → length (take (to - from) (drop from flat)) ≡ to - from
 part_length flat from to h = simp (length-take, length-drop) (omega arith)
 
--- it is empty exactly where it ends at its start
-pub part_empty : (flat : List ℕ) (from to : ℕ) → to ≡ from → empty_at (take (to - from) (drop from flat)) ≡ Some 0
-part_empty flat from to e =
-    let d : to - from ≡ 0 = omega arith in
-    rw d
-
+-- and that it has edges
 pub part_filled : (flat : List ℕ) (from to : ℕ) → from < to → to ≤ length flat → empty_at (take (to - from) (drop from flat)) ≡ None
 part_filled flat from to h b = go (take (to - from) (drop from flat)) (omega (arith, part_length flat from to b))
   where
@@ -92,9 +58,6 @@ offset_next (k ∷ lengths) zero h = omega arith
 offset_next (k ∷ lengths) (suc i) h =
     let e : suc i + 1 ≡ suc (i + 1) = omega arith in
     rw e (omega (arith, offset_next lengths i (omega arith)))
-
-pub offset_all : (lengths : List ℕ) (i : ℕ) → length lengths ≤ i → offset lengths i ≡ sum lengths
-offset_all lengths i h = rw (take_all i lengths h)
 
 -- no path ends behind the last
 pub offset_most : (lengths : List ℕ) (i : ℕ) → offset lengths i ≤ sum lengths

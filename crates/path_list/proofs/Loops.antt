@@ -1,27 +1,27 @@
 -- How the loops go that look for the first fault of one path.
-use Prim.Native.Nat.{ℕ, zero, suc, ◌+◌, ◌-◌, ◌≤◌, ◌<◌}
+use Prim.Native.Nat.{ℕ, zero, suc, ◌+◌, ◌-◌, ◌<◌}
 use native.Mathlib.Omega.{arith}
 use native.Mathlib.Numerals.{add-one}
 use mathlib.Core.Path.{◌≡◌, refl, sym, ◌∙◌}
 use mathlib.Core.Bool.{Bool, true, false, cond}
 use mathlib.Core.List.{List, [], ◌∷◌}
 use Rattle.std.specs.Prelude.{Option, Some, None}
-use lib.ListN.{length, get_or, take, drop, drop_of_length-le}
-use lib.Seq.{drop-cons}
-use borrow.Author.Tests.{lt-ltb, le-ltb, eq-eqb, ne_eqb}
+use lib.ListN.{length, get_or, take}
+use borrow.Author.Tests.{ltb-true, ltb-false, lt-leb, le-leb, eq-eqb, ne_eqb}
+use lib.Dec.{ltb, leb}
+use Rattle.std.specs.List.{position_from}
 use Rattle.timing.specs.Graphs.{Design, edge_start, edge_end}
 use Rattle.timing.specs.Tests.{meets, first_unknown, first_break}
 
--- 23: at edge i, what is left to look at is the path from there on
-module _ (m : ℕ) (path : List ℕ) (i : ℕ) where
-  pub unknown_here : i < length path → m ≤ get_or path i 0 → first_unknown m i (drop i path) ≡ Some i
-  unknown_here h k = rw (drop-cons path i 0 h, le-ltb (get_or path i 0) m k)
-
-  pub unknown_later : i < length path → get_or path i 0 < m → first_unknown m (i + 1) (drop (i + 1) path) ≡ first_unknown m i (drop i path)
-  unknown_later h k = rw (drop-cons path i 0 h, lt-ltb (get_or path i 0) m k, add-one i)
-
-  pub unknown_nowhere : length path ≤ i → first_unknown m i (drop i path) ≡ None
-  unknown_nowhere h = rw (drop_of_length-le path {i = i} h)
+-- 23: the first unknown edge is the first that passes the test
+pub unknown_position : (m i : ℕ) (path : List ℕ) → position_from (λ k. leb m k) i path ≡ first_unknown m i path
+unknown_position m i [] = refl
+unknown_position m i (k ∷ path) = go (ltb k m) refl (unknown_position m (suc i) path)
+  where
+    go : (b : Bool) → ltb k m ≡ b → position_from (λ k. leb m k) (suc i) path ≡ first_unknown m (suc i) path
+        → cond (leb m k) (Some i) (position_from (λ k. leb m k) (i + 1) path) ≡ cond b (first_unknown m (suc i) path) (Some i)
+    go true e below = rw (lt-leb m k (ltb-true k m e), add-one i) below
+    go false e below = rw (le-leb m k (ltb-false k m e))
 
 -- 24: at edge i, the edges before it are known to join
 module _ (meet : ℕ → ℕ → Bool) where

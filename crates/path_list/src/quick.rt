@@ -20,12 +20,9 @@ fn all_filled(size: usize, lengths: &[u32]) -> bool
 {
     let mut filled = true;
     let mut total = 0;
-    let mut p = 0;
-    while p < lengths.len() {
-        let k = lengths[p];
-        filled = filled & (0 < k);
-        total += k as usize;
-        p += 1;
+    for k in lengths {
+        filled &= 0 < *k;
+        total += *k as usize;
     }
     filled & (total <= size)
 }
@@ -35,10 +32,8 @@ fn all_known(m: u32, listed: &[u32]) -> bool
     ensures { result ≡ true → (i : ℕ) → i < length listed.now → get_or listed.now i 0 < m }
 {
     let mut known = true;
-    let mut i = 0;
-    while i < listed.len() {
-        known = known & (listed[i] < m);
-        i += 1;
+    for k in listed {
+        known &= *k < m;
     }
     known
 }
@@ -50,15 +45,12 @@ fn joins(starts: &[u32], ends: &[u32], path: &[u32]) -> bool
     ensures { let D = design 0 starts.now ends.now [] [] [] in
         (result ≡ true → first_break (meets D) 0 path.now ≡ None) }
 {
-    let mut i = 1;
-    while i < path.len() {
-        let h = i - 1;
-        let j = path[h] as usize;
+    for i in 1..path.len() {
+        let j = path[i - 1] as usize;
         let k = path[i] as usize;
         if ends[j] != starts[k] {
             return false;
         }
-        i += 1;
     }
     true
 }
@@ -71,15 +63,13 @@ fn all_join(starts: &[u32], ends: &[u32], listed: &[u32], lengths: &[u32]) -> bo
         let L = path_list listed.now lengths.now in
         (result ≡ true → first_fault 24 (first_break (meets D) 0) 0 (paths_of L) ≡ Passed) }
 {
-    let mut p = 0;
-    let mut from = 0;
-    while p < lengths.len() {
-        let to = from + lengths[p] as usize;
-        if !joins(starts, ends, &listed[from..to]) {
+    let mut rest = listed;
+    for k in lengths {
+        let (path, after) = rest.split_at(*k as usize);
+        if !joins(starts, ends, path) {
             return false;
         }
-        from = to;
-        p += 1;
+        rest = after;
     }
     true
 }
@@ -93,20 +83,10 @@ pub(crate) fn all_pass(starts: &[u32], ends: &[u32], listed: &[u32], lengths: &[
         then first_fault 23 (first_unknown (length starts.now) 0) 0 (paths_of L)
         then first_fault 24 (first_break (meets D) 0) 0 (paths_of L)) ≡ Passed) }
 {
-    if MAX_PATHS < lengths.len() {
-        return false;
-    }
-    if MAX_EDGES < starts.len() {
-        return false;
-    }
-    if ends.len() != starts.len() {
-        return false;
-    }
-    if !all_filled(listed.len(), lengths) {
-        return false;
-    }
-    if !all_known(starts.len() as u32, listed) {
-        return false;
-    }
-    all_join(starts, ends, listed, lengths)
+    lengths.len() <= MAX_PATHS
+        && starts.len() <= MAX_EDGES
+        && ends.len() == starts.len()
+        && all_filled(listed.len(), lengths)
+        && all_known(starts.len() as u32, listed)
+        && all_join(starts, ends, listed, lengths)
 }

@@ -1,29 +1,30 @@
 -- The tests refuse; or the graph is too long; or it is written whole.
--- the graph that is written, and its tests
 use mathlib.Core.Path.{◌≡◌, sym, ◌∙◌}
-use Rattle.timing.specs.Answers.{Passed}
 use borrow.Author.Tests.{leb-true, leb-false}
-use Rattle.timing.specs.Calls.{graph_slices, graph_of, graph_write_tests}
-use Rattle.graph_writer.specs.Writing.{Fits}
-use Rattle.graph_writer.proofs.Writing.{tests_are, tests_fit, write_done}
+use Rattle.std.proofs.Common.{rules}
+use Rattle.std.specs.Prelude.{ℕ, Result, Err}
+use Rattle.timing.specs.declared.Refusal.{Refusal}
+use Rattle.timing.specs.Calls.{graph_slices, graph_of}
 use Rattle.packed_lists.proofs.Rooms.{write_refused, write_long}
+use Rattle.graph_writer.proofs.Writing.{tests_are, write_done}
 use Rattle.graph_writer.proofs.write_graph.Goals as goal
 
-pub returns-in-Err : goal.returns-in-Err
-returns-in-Err c =
-    write_refused _ _ _ _ ((let by : graph_write_tests ((let a = c.args in graph_slices a.nodes.now a.endpoint.now a.from.now a.to.now a.via.now)) ≡ c.write_tests-v.result = let a = c.args in tests_are a.nodes.now a.endpoint.now a.from.now a.to.now a.via.now ∙ sym c.write_tests-v.ensures in by) ∙ c.in-Err.is)
+pub returns-in_err-write_tests : goal.returns-in_err-write_tests
+returns-in_err-write_tests c =
+    let a = c.args in
+    let r = c.in_err-write_tests.field-0.0 in
+    let same : ◌≡◌ {A = Result ℕ Refusal} c.from_residual.result (Err r) = search rules in
+    rw same (write_refused _ r _ _ (tests_are a.nodes.now a.endpoint.now a.from.now a.to.now a.via.now ∙ sym c.in_err-write_tests.ensures))
 
-pub graph_fits-requires : goal.graph_fits-requires
-graph_fits-requires c = (let by : c.write_tests-v.result ≡ Passed → let a = c.args in Fits a.nodes.now a.endpoint.now a.from.now a.to.now a.via.now = λ e. let a = c.args in tests_fit a.nodes.now a.endpoint.now a.from.now a.to.now a.via.now (sym c.write_tests-v.ensures ∙ e) in by) c.in_ok-before.was
-
-pub put_graph-requires : goal.put_graph-requires
-put_graph-requires c =
-    ((let by : c.write_tests-v.result ≡ Passed → let a = c.args in Fits a.nodes.now a.endpoint.now a.from.now a.to.now a.via.now = λ e. let a = c.args in tests_fit a.nodes.now a.endpoint.now a.from.now a.to.now a.via.now (sym c.write_tests-v.ensures ∙ e) in by) c.in_ok-before.was, leb-true _ _ (sym c.graph_fits.ensures ∙ c.if-graph_fits.true))
-
-pub returns-then-graph_fits : goal.returns-then-graph_fits
-returns-then-graph_fits c =
-    write_done _ (graph_of ((let a = c.args in graph_slices a.nodes.now a.endpoint.now a.from.now a.to.now a.via.now))) _ _ _ ((let by : graph_write_tests ((let a = c.args in graph_slices a.nodes.now a.endpoint.now a.from.now a.to.now a.via.now)) ≡ c.write_tests-v.result = let a = c.args in tests_are a.nodes.now a.endpoint.now a.from.now a.to.now a.via.now ∙ sym c.write_tests-v.ensures in by) ∙ c.in_ok-before.was) (leb-true _ _ (sym c.graph_fits.ensures ∙ c.if-graph_fits.true)) c.put_graph.ensures
+pub returns-then-not-graph_fits : goal.returns-then-not-graph_fits
+returns-then-not-graph_fits c =
+    let a = c.args in
+    write_long _ _ _ _ (tests_are a.nodes.now a.endpoint.now a.from.now a.to.now a.via.now ∙ sym c.in_ok-write_tests.ensures) c.refuse.ensures (leb-false _ _ (sym c.if-not-graph_fits.ensures))
 
 pub returns : goal.returns
 returns c =
-    write_long _ _ _ _ ((let by : graph_write_tests ((let a = c.args in graph_slices a.nodes.now a.endpoint.now a.from.now a.to.now a.via.now)) ≡ c.write_tests-v.result = let a = c.args in tests_are a.nodes.now a.endpoint.now a.from.now a.to.now a.via.now ∙ sym c.write_tests-v.ensures in by) ∙ c.in_ok-before.was) c.refuse.ensures (leb-false _ _ (sym c.graph_fits.ensures ∙ c.if-graph_fits.false))
+    let a = c.args in
+    write_done _ (graph_of (graph_slices a.nodes.now a.endpoint.now a.from.now a.to.now a.via.now)) _ _ _
+    (tests_are a.nodes.now a.endpoint.now a.from.now a.to.now a.via.now ∙ sym c.in_ok-write_tests.ensures)
+    (leb-true _ _ (sym c.if-not-graph_fits.ensures))
+    c.put_graph.ensures
