@@ -1,1 +1,0 @@
--- The laws of the count, and of the words that suffice for one.
