@@ -11,4 +11,4 @@ overflow_sub-candidates c = omega (arith, few_paths ((let a = c.args in design a
 
 pub returns-in_ok-before : goal.returns-in_ok-before
 returns-in_ok-before c =
-    rw (half_same ((let a = c.args in design a.n a.starts.now a.ends.now a.early.now a.late.now a.marked.now)) ((path_list c.args.listed.now c.args.lengths.now)) c.requires _ (sym c.scratch_test-half.ensures ∙ c.in_ok-before.was)) at c.remove_in_half.ensures
+    rw (half_same ((let a = c.args in design a.n a.starts.now a.ends.now a.early.now a.late.now a.marked.now)) ((path_list c.args.listed.now c.args.lengths.now)) c.requires _ (sym c.scratch_test-half.ensures ∙ c.in_ok-before.was)) at c.remove_in.ensures
