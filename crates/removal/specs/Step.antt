@@ -9,7 +9,3 @@ pub record Marked (starts : List ℕ) (L : List (List ℕ)) (l : Lists) (s : Lis
   pub node : v < 4096
   pub there : j < marks_for starts L v
   pub number : f ≡ marks_below starts L v + j + 1
-
--- f is the number of a mark
-abbrev pub OfMark : Lists → List ℕ → ℕ → Type 0
-OfMark l s f = (starts : List ℕ) × (L : List (List ℕ)) × (v : ℕ) × (j : ℕ) × Marked starts L l s v j f

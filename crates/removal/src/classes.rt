@@ -4,7 +4,6 @@ ghost use Rattle.std.specs.Prelude.{◌≡◌, List, [], ℕ, suc, ◌+◌, ◌�
 ghost use Rattle.removal.specs.Table.{table, Frame};
 ghost use Rattle.removal.specs.Classes.{marks_at};
 ghost use Rattle.removal.specs.Tables.{Laid, Startable, Started, Makeable, Made, Stepped};
-ghost use Rattle.removal.specs.Step.{Marked, OfMark};
 
 use crate::kids::make_kids;
 use crate::levels::number_classes;

@@ -165,7 +165,7 @@ fn write_result(
             room_via,
         );
     }
-    let counts = fill_all(
+    Ok(fill_all(
         l,
         nodes,
         endpoint,
@@ -176,11 +176,7 @@ fn write_result(
         room_from,
         room_to,
         room_via,
-    );
-    Ok(GraphCounts {
-        copies: counts.copies,
-        edges: counts.edges,
-    })
+    ))
 }
 
 // A removal with a place for each edge of the design to note where its name stands.

@@ -131,7 +131,13 @@ fn show_row(
 }
 
 // Shows the slots of copy c; those of the lower copies are done.
-fn show_copy(l: Layout, scratch: &mut [u32], pos: &mut [u16], c: usize, counts: GraphCounts) -> GraphCounts
+fn show_copy(
+    l: Layout,
+    scratch: &mut [u32],
+    pos: &mut [u16],
+    c: usize,
+    counts: GraphCounts,
+) -> GraphCounts
     requires { Ready l scratch.old × Idle l scratch.old × NamesIn l scratch.old (length pos.old)
         × (c < l.copies)
         × (counts.copies ≤ slot_base (slots_in l (take l.slots scratch.old)) c)

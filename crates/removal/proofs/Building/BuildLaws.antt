@@ -270,9 +270,6 @@ module _ (D : Design) (L : PathList) (G : Graph) (starts listed lengths nodes fr
       }
 
       module _ (s₃ : List ℕ) (r₃ : EdgesSorted l from to via roots s₂ s₃) where
-        pub clear_room : l.slots + (k + l.edges + l.edges) ≤ length s₃
-        clear_room = omega (arith, enough, size₂, r₃.frame.size)
-
         module _ (s₄ : List ℕ) (z : table s₄ l.slots (k + l.edges + l.edges) ≡ replicate (k + l.edges + l.edges) 0) (r₄ : Frame s₃ s₄ l.slots (k + l.edges + l.edges)) where
           pub size₄ : length s₄ ≡ length s₀
           size₄ = r₄.size ∙ r₃.frame.size ∙ size₂

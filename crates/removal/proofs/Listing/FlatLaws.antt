@@ -8,7 +8,7 @@ use mathlib.Core.List.{List, [], ◌∷◌, Memᴰ, cons≢nil}
 use lib.ListN.{length, get_or, take, drop, length-take, length-drop}
 use lib.Seq.{get_or-take, get_or-drop}
 use Rattle.timing.specs.Lists.{sum}
-use Rattle.timing.specs.Marks.{PathList, cut, paths_of, suffixes, tails_of}
+use Rattle.timing.specs.Marks.{PathList, cut, paths_of, suffixes}
 use Rattle.theorems.proofs.Lists.{of_flat_map, get_d_mem}
 use Rattle.removal.specs.Classes.{all_suffixes, class_count, class_at}
 use Rattle.removal.proofs.Listing.ClassLaws.{class_zero, class_suffix}
@@ -58,10 +58,6 @@ pub suffix_edge : (p s : List ℕ) (x : ℕ) → Memᴰ s (suffixes p) → Mem�
 suffix_edge [] s x m h = absurd (mathlib.Core.List.Memᴰ.not-nil m)
 suffix_edge (a ∷ p) s x m h =
     ⊎_elim (λ (e : s ≡ a ∷ p). subst (λ (q : List ℕ). Memᴰ x q) e h) (λ q. mathlib.Core.List.Memᴰ.tail (suffix_edge p s x q h)) (mathlib.Core.List.Memᴰ.cases_cons m)
-
-pub tail_edge : (p s : List ℕ) (x : ℕ) → Memᴰ s (tails_of p) → Memᴰ x s → Memᴰ x p
-tail_edge [] s x m h = absurd (mathlib.Core.List.Memᴰ.not-nil m)
-tail_edge (a ∷ p) s x m h = mathlib.Core.List.Memᴰ.tail (suffix_edge p s x m h)
 
 -- the first edge of a class is one of the flat list
 pub class_edge : (L : PathList) (t e : ℕ) (w : List ℕ) → t ≤ class_count (paths_of L) → class_at (paths_of L) t ≡ e ∷ w → (i : ℕ) × (i < length L.edges) × (get_or L.edges i 0 ≡ e)

@@ -6,8 +6,8 @@ use mathlib.Core.Path.{◌≡◌, refl, sym, ap, ◌∙◌}
 use mathlib.Core.Bool.{Bool, true, false, not, cond, ◌||◌}
 use mathlib.Core.List.{List, [], ◌∷◌, map}
 use lib.Dec.{eqb}
-use lib.ListN.{length, get_or, set, take, drop, length-set, length-map}
-use lib.Seq.{get_or-set_same, get_or-set_other, drop-cons}
+use lib.ListN.{length, get_or, set, take, drop, length-set}
+use lib.Seq.{get_or-set_same, get_or-set_other}
 use borrow.Author.Tests.{eq-eqb, ne_eqb}
 use Rattle.timing.specs.Lists.{is_nil, any_of, keep, one_if, upto}
 use Rattle.timing.specs.Graphs.{edges_of, is_endpoint, design, design_graph}
@@ -35,12 +35,6 @@ stored_at_lem (p ∷ places) v t k h = stored_at_lem places v (set t p v) k (ome
     go (no f) =
         ap (λ (x : ℕ). cond (any_of (eqb k) places) v x) (get_or-set_other t p k v 0 f)
         ∙ ap (λ (b : Bool). cond (b || any_of (eqb k) places) v (get_or t k 0)) (sym (ne_eqb k p f))
-
--- the loop of stores: those that are left are made from here as all are from the start
-pub store_next : (places : List ℕ) (v i : ℕ) (t : List ℕ) → i < length places → stored_at (drop i places) v t ≡ stored_at (drop (i + 1) places) v (set t (get_or places i 0) v)
-store_next places v i t h =
-    let e : suc i ≡ i + 1 = omega arith in
-    ap (λ (l : List ℕ). stored_at l v t) (drop-cons places i 0 h) ∙ ap (λ (k : ℕ). stored_at (drop k places) v (set t (get_or places i 0) v)) e
 
 pub drop_end : (l : List ℕ) (i : ℕ) → length l ≤ i → drop i l ≡ []
 drop_end [] zero h = refl
@@ -96,9 +90,3 @@ endpoints_made n starts marked t u w h ones a b ends early late q =
         ∙ ap (λ (x : ℕ). cond (any_of (eqb k) marked) 1 (cond (any_of (eqb k) starts) 0 x)) (ones k l)
         ∙ ends_rule (any_of (eqb k) starts) (any_of (eqb k) marked)
         ∙ ap (λ (s : Bool). one_if (s || any_of (eqb k) marked)) (sym (no_start k starts ends (upto (length starts) 0) q (length_upto (length starts) 0)))
-
--- there is one for each node
-pub endpoints_length : (n : ℕ) (starts marked endpoint : List ℕ) → EndpointsOf n starts marked endpoint → length endpoint ≡ n
-unfolding EndpointsOf design_graph
-endpoints_length n starts marked endpoint made =
-    ap length (made starts [] [] refl) ∙ length-map (upto n 0) (λ v. one_if (is_endpoint (design n starts starts [] [] marked) v)) ∙ length_upto n 0

@@ -20,17 +20,13 @@ use Rattle.removal.specs.Result.{Slot, shown_slots}
 use Rattle.removal.specs.Show.{AllShown, FlagsReset, reached_by, shown_by, from_shown}
 use Rattle.removal.specs.Fill.{LowFlags, RowsFlagged, Fits, RoomsAlike, Fillable}
 use Rattle.removal.specs.Build.{Buildable, Built}
-use Rattle.removal.specs.Remove.{Workable, WorkableIn, AllReached, Found}
+use Rattle.removal.specs.Remove.{WorkableIn, AllReached, Found}
 use Rattle.removal.proofs.Building.CountLaws.{list_countable, copies_countable}
 use Rattle.removal.proofs.Reaching.SlotLaws.{setting_of}
 use Rattle.removal.proofs.Reaching.RowLaws.{ready_same, names_same}
 use Rattle.removal.proofs.Showing.ShowLaws.{links}
 use Rattle.removal.proofs.Showing.ResultLaws.{shown_nodes, shown_edges_lem}
 use Rattle.removal.proofs.Whole.ResetLaws.{low_back, rows_back, room_back}
-
--- a design has few edges
-pub work_few : (starts listed lengths nodes endpoint from to via : List ℕ) → Workable starts listed lengths nodes endpoint from to via → length starts ≤ 16384
-work_few starts listed lengths nodes endpoint from to via x = omega (arith, x.worked.fits.few_edges, ap length x.worked.given.design)
 
 pub buildable : (starts listed lengths nodes endpoint from to via : List ℕ) (k : ℕ) (s : List ℕ) → WorkableIn starts listed lengths nodes endpoint from to via k s
     → Buildable starts listed lengths nodes from to via k s

@@ -1,7 +1,6 @@
 -- The tests of a removal one after the other, and what the passes are asked where they all pass.
 use Prim.Native.Nat.{ℕ, zero, suc, ◌+◌, ◌≤◌, ◌<◌}
 use native.Mathlib.Omega.{arith}
-use native.Mathlib.Decide.{dec_lt}
 use mathlib.Core.Path.{◌≡◌, refl, sym, ap, ◌∙◌, subst}
 use mathlib.Core.Bool.{Bool, cond}
 use mathlib.Core.List.{List, [], ◌∷◌, map}
@@ -10,8 +9,7 @@ use Rattle.timing.specs.Answers.{Verdict, Passed}
 use Rattle.timing.specs.declared.GraphCounts.{GraphCounts}
 use lib.Dec.{leb, leb→le}
 use lib.IntN.{ℤ}
-use lib.ListN.{length, get_or, set, take, replicate, length-map, length-replicate, get_or-replicate}
-use lib.Seq.{get_or-set_same, get_or-set_other}
+use lib.ListN.{length, get_or, take, length-map}
 use Rattle.timing.specs.declared.Refusal.{Refusal}
 use Rattle.timing.specs.Lists.{one_if, upto}
 use Rattle.timing.specs.Graphs.{Design, design, Graph, is_endpoint, design_graph, edges_of}
@@ -29,7 +27,7 @@ use Rattle.theorems.proofs.Legal.{fits_legal, formed_legal}
 use Rattle.removal.specs.Fill.{RoomsAlike}
 use Rattle.removal.specs.Remove.{Worked, Workable, Removed, removal_outcome, AllRemoved, Sized, AllSized}
 use Rattle.removal.specs.Endpoints.{EndpointsOf}
-use Rattle.removal.specs.Numbered.{NumberRoom, Numbered, Numberable, DesignRemoved, DesignSized}
+use Rattle.removal.specs.Numbered.{Numbered, Numberable, DesignRemoved, DesignSized}
 use Rattle.removal.proofs.Showing.IntoLaws.{design_into, formed_into, length_edges}
 
 -- the tests as they are called, one verdict handed on to the next, are those of the definitions
@@ -297,22 +295,6 @@ module _ (P : Outcome Graph → Type 0) (D : Design) (L : PathList) (words : ℕ
   unfolding size_from_graph
   size_graph S p = p
 
--- arrays of at least so many nodes and edges are room for the numbers of a design
-pub numbered_room : (starts ends marked listed lengths : List ℕ) (n nodes edges : ℕ) → Numberable starts ends marked listed lengths n → n ≤ nodes → length starts ≤ edges
-    → NumberRoom n starts marked (replicate nodes 0) (replicate nodes 1) (replicate edges 0)
-numbered_room starts ends marked listed lengths n nodes edges x h k =
-    let f = x.design_fits in
-    record {
-      nodes = omega (arith, length-replicate {A = ℕ} nodes 0);
-      few_nodes = f.few_nodes;
-      endpoints = omega (arith, length-replicate {A = ℕ} nodes 1);
-      ones = λ i b. get_or-replicate nodes i 1 0 (omega arith);
-      edges = omega (arith, length-replicate {A = ℕ} edges 0);
-      few_edges = f.few_edges;
-      starts_in = f.starts_in;
-      marked_in = f.marked_in;
-    }
-
 -- the passes are asked about the design as a graph, and answer about it
 module _ (starts ends marked listed lengths : List ℕ) (n : ℕ) (numbers endpoint names : List ℕ) (made : Numbered n starts marked numbers endpoint names) where
   numbered_worked : (early late : List ℤ) → DesignFits (design n starts ends early late marked) → ListFits (design n starts ends early late marked) (path_list listed lengths)
@@ -371,12 +353,3 @@ front_upto (suc n) i [] h f = absurd (omega arith)
 front_upto (suc n) i (x ∷ l) h f =
     let e : x ≡ i = omega (arith, f 0 (omega arith)) in
     rw e (ap (λ (t : List ℕ). i ∷ t) (front_upto n (suc i) l (omega arith) (λ k m. omega (arith, f (suc k) (omega arith)))))
-
-pub numbered_next : (t : List ℕ) (i : ℕ) → i < length t → ((k : ℕ) → k < i → get_or t k 0 ≡ k) → (k : ℕ) → k < i + 1 → get_or (set t i i) k 0 ≡ k
-numbered_next t i h f k l = go (dec_lt k i)
-  where
-    go : Dec (k < i) → get_or (set t i i) k 0 ≡ k
-    go (yes d) = get_or-set_other t i k i 0 (λ (q : k ≡ i). omega arith) ∙ f k d
-    go (no d) =
-        let e : k ≡ i = omega (arith, d) in
-        rw e (get_or-set_same t i i 0 h)

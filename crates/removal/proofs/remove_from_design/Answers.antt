@@ -23,9 +23,10 @@ returns-in_err-list_tests c =
 pub remove_tested-requires : goal.remove_tested-requires
 remove_tested-requires c =
     let a = c.args in
-    let passed = sym c.in_ok-list_tests.ensures in
-    (design_numberable a.n a.starts.now a.ends.now a.early.now a.late.now a.marked.now a.listed.now a.lengths.now c.graph_sizes-room.result passed,
-    rooms_alike _ _ _ _ _ (sym c.graph_sizes-room.ensures ∙ design_room a.n a.starts.now a.ends.now a.early.now a.late.now a.marked.now a.listed.now a.lengths.now c.graph_sizes-room.result passed))
+    let passed = sym c.in_ok-list_tests.ensures in (
+      design_numberable a.n a.starts.now a.ends.now a.early.now a.late.now a.marked.now a.listed.now a.lengths.now c.graph_sizes-room.result passed,
+      rooms_alike _ _ _ _ _ (sym c.graph_sizes-room.ensures ∙ design_room a.n a.starts.now a.ends.now a.early.now a.late.now a.marked.now a.listed.now a.lengths.now c.graph_sizes-room.result passed),
+    )
 
 pub returns : goal.returns
 returns c =

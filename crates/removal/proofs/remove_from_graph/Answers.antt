@@ -23,9 +23,10 @@ returns-in_err-graph_tests c =
 pub remove-requires : goal.remove-requires
 remove-requires c =
     let a = c.args in
-    let passed = sym c.in_ok-graph_tests.ensures in
-    (graph_workable a.n a.starts.now a.ends.now a.early.now a.late.now a.marked.now a.listed.now a.lengths.now c.graph_sizes-room.result a.nodes.now a.endpoint.now a.from.now a.to.now a.via.now passed,
-    rooms_alike _ _ _ _ _ (sym c.graph_sizes-room.ensures ∙ graph_room a.n a.starts.now a.ends.now a.early.now a.late.now a.marked.now a.listed.now a.lengths.now c.graph_sizes-room.result a.nodes.now a.endpoint.now a.from.now a.to.now a.via.now passed))
+    let passed = sym c.in_ok-graph_tests.ensures in (
+      graph_workable a.n a.starts.now a.ends.now a.early.now a.late.now a.marked.now a.listed.now a.lengths.now c.graph_sizes-room.result a.nodes.now a.endpoint.now a.from.now a.to.now a.via.now passed,
+      rooms_alike _ _ _ _ _ (sym c.graph_sizes-room.ensures ∙ graph_room a.n a.starts.now a.ends.now a.early.now a.late.now a.marked.now a.listed.now a.lengths.now c.graph_sizes-room.result a.nodes.now a.endpoint.now a.from.now a.to.now a.via.now passed),
+    )
 
 pub returns : goal.returns
 returns c =

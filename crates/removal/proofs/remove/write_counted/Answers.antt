@@ -7,7 +7,6 @@ use Rattle.timing.specs.Answers.{Passed}
 use Rattle.timing.specs.declared.GraphCounts.{GraphCounts}
 use Rattle.timing.specs.declared.Refusal.{Refusal}
 use Rattle.timing.specs.Tests.{count_tests}
-use Rattle.removal.proofs.Reaching.RowLaws.{ready_same}
 use Rattle.removal.proofs.Whole.RemoveLaws.{fillable, rows_still}
 use Rattle.removal.proofs.Whole.AnswerLaws.{answer_passed, counts_fit, room_refused, room_made}
 use Rattle.removal.proofs.remove.write_counted.Goals.{In_ok-answer}
@@ -19,11 +18,6 @@ returns-in_err-answer c =
     let w = c.show_all-counts in
     let same : ◌≡◌ {A = Result GraphCounts Refusal} c.from_residual.result (Err c.in_err-answer.field-0.0) = search rules in
     (rw same (room_refused _ _ _ _ _ w.result.copies w.result.edges c.requires.0 w.ensures.0 a.room_nodes.now a.room_endpoint.now a.room_from.now a.room_to.now a.room_via.now _ (sym c.in_err-answer.ensures)), w.ensures.0.size)
-
-pub reset_flags-requires : goal.reset_flags-requires
-reset_flags-requires c =
-    let w = c.show_all-counts in
-    ready_same _ _ _ w.ensures.0.size w.ensures.0.tables c.requires.0.ready
 
 -- 33 and 34 pass where there is an answer
 passed : (c : In_ok-answer) → count_tests c.show_all-counts.result.copies c.show_all-counts.result.edges (length c.args.room_nodes.now) (length c.args.room_from.now) ≡ Passed

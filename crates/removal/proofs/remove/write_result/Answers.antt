@@ -15,14 +15,14 @@ passed c =
     answer_no_refusal (count_tests m.result.copies m.result.edges (length c.args.room_nodes.now) (length c.args.room_from.now)) m.result.copies m.result.edges
     (rw c.room_answer-ample.ensures at c.if-is_err.ensures.value)
 
-pub fill_all-counts-requires-clause-fillable : goal.fill_all-counts-requires-clause-fillable
-fill_all-counts-requires-clause-fillable c =
+pub fill_all-requires-clause-fillable : goal.fill_all-requires-clause-fillable
+fill_all-requires-clause-fillable c =
     let a = c.args in
     let m = c.bound_all-most in
-    let h = counts_fit m.result.copies m.result.edges (length a.room_nodes.now) (length a.room_from.now) (passed (goal.at.fill_all-counts-requires-clause-fillable c).Else-is_err) in
+    let h = counts_fit m.result.copies m.result.edges (length a.room_nodes.now) (length a.room_from.now) (passed (goal.at.fill_all-requires-clause-fillable c).Else-is_err) in
     fillable_now _ _ _ _ _ _ _ _ _ _ _ _ c.requires.0 c.requires.1 c.requires.2 m.ensures h.0 h.1
 
 pub returns : goal.returns
 returns c =
-    let f = c.fill_all-counts in
+    let f = c.fill_all in
     (room_direct _ _ _ _ _ _ _ _ _ c.requires.0 f.ensures.0 c.bound_all-most.ensures _ _ _ _ _ _ _ _ _ _ (passed (goal.at.returns c).Else-is_err) f.ensures.1, f.ensures.0.size)
