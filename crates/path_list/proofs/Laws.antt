@@ -3,9 +3,10 @@ use Prim.Native.Nat.{ℕ, zero, suc, ◌+◌, ◌-◌, ◌≤◌, ◌<◌, min}
 use native.Mathlib.Omega.{arith}
 use native.Mathlib.Numerals.{add-one}
 use mathlib.Core.Path.{◌≡◌, refl, sym, ◌∙◌, ap}
+use mathlib.Core.Bool.{true, false}
 use mathlib.Core.List.{List, [], ◌∷◌, ◌++◌, flat_map}
-use Rattle.std.specs.Prelude.{Option, Err, None}
-use Rattle.timing.specs.declared.Refusal.{Refusal}
+use Rattle.std.specs.Prelude.{Option, Ok, Err, None}
+use Rattle.std.specs.Result.{is_err}
 use Rattle.timing.specs.Answers.{Verdict, Passed}
 use lib.ListN.{length, get_or, take, drop, length-take, length-drop, take-append-drop}
 use Rattle.std.proofs.lemmas.List.{take_min, drop_min}
@@ -30,8 +31,9 @@ module _ (number : ℕ) (fault : List ℕ → Option ℕ) (rest lengths : List �
 
   -- where the code finds a fault in the path, and where it finds none
   module _ {all : Verdict} (so_far : first_fault number fault p (cut rest (drop p lengths)) ≡ all) where
-    pub fault_path : {r : Refusal} → Err r ≡ unless_fault number p found → Err r ≡ all
-    fault_path e = sym (next_path ∙ rw (← e)) ∙ so_far
+    pub fault_path : (verdict : Verdict) → is_err verdict ≡ true → verdict ≡ unless_fault number p found → verdict ≡ all
+    fault_path (Ok x) stops e = absurd (let z : false ≡ true = stops in cc)
+    fault_path (Err r) stops e = sym (next_path ∙ rw (← e)) ∙ so_far
 
     pub sound_path : Passed ≡ unless_fault number p found → first_fault number fault (p + 1) (cut after (drop (p + 1) lengths)) ≡ all
     sound_path e = sym (next_path ∙ rw (← e)) ∙ so_far

@@ -10,7 +10,9 @@ use lib.ListN.{length, get_or, take}
 use borrow.Author.Tests.{ltb-true, ltb-false, lt-leb, le-leb, eq-eqb, ne_eqb}
 use lib.Dec.{ltb, leb}
 use Rattle.std.specs.List.{position_from}
+use Rattle.std.specs.Result.{is_err}
 use Rattle.timing.specs.Graphs.{Design, edge_start, edge_end}
+use Rattle.timing.specs.Refusals.{unless_fault}
 use Rattle.timing.specs.Tests.{meets, first_unknown, first_break}
 
 -- 23: the first unknown edge is the first that passes the test
@@ -55,11 +57,6 @@ module _ (meet : ℕ → ℕ → Bool) where
       let s : 0 + suc i ≡ suc i = omega arith in
       rw (add-one (suc i), d) (rw s at (next_edge 0 i path h e))
 
-  -- one edge joins
-  pub first_edge : (path : List ℕ) → first_break meet 0 (take 1 path) ≡ None
-  first_edge [] = refl
-  first_edge (x ∷ path) = refl
-
   -- the first break of a front is that of the whole
   pub break_of_front : (s i j : ℕ) (path : List ℕ) → first_break meet s (take i path) ≡ Some j → first_break meet s path ≡ Some j
   break_of_front s zero j path e = never j e
@@ -77,6 +74,12 @@ module _ (meet : ℕ → ℕ → Bool) where
           → cond b (first_break meet (suc s) (y ∷ path)) (Some (suc s)) ≡ Some j
       go true q f below = below f
       go false q f below = f
+
+  -- so where the join test up to edge i refuses, it finds the first break of the path
+  pub break_found : (number p i : ℕ) (path : List ℕ) {found : Option ℕ} → found ≡ first_break meet 0 (take (i + 1) path)
+      → is_err (unless_fault number p found) ≡ true → found ≡ first_break meet 0 path
+  break_found number p i path {found = None} e stops = absurd (let z : false ≡ true = stops in cc)
+  break_found number p i path {found = Some j} e stops = sym (break_of_front 0 (i + 1) j path (sym e))
 
 -- The same by the node where the edge before ends and the one where edge i starts.
 module _ (D : Design) (path : List ℕ) (i : ℕ) (later : 0 < i) (here : i < length path) (join : first_break (meets D) 0 (take i path) ≡ None)

@@ -1,6 +1,6 @@
 // 22, 23 and 24 of a list of paths: each passes over every path. A path is the front of what the paths before it leave of the flat
 // list; where the lengths pass the flat list, it ends there.
-ghost use Rattle.std.specs.Prelude.{◌≡◌, List, [], ℕ, Option};
+ghost use Rattle.std.specs.Prelude.{◌≡◌, ◌+◌, ◌<◌, List, [], ℕ, Option, None, length, take};
 ghost use Rattle.std.specs.Fn.{FnReturnsAt};
 ghost use Rattle.timing.specs.Refusals.{first_fault};
 ghost use Rattle.timing.specs.Graphs.{design};
@@ -54,25 +54,39 @@ pub(crate) fn named(m: usize, listed: &[u32], lengths: &[u32]) -> Verdict
     first_fault(23, listed, lengths, |path| first_unknown(m, path))
 }
 
-// The first edge of a path that does not start where the one before ends.
-fn first_break(starts: &[u32], ends: &[u32], path: &[u32]) -> Option<usize>
+// The join test of a path up to its edge i, where the edges before i are known to join: the index of the first that does not
+// start where the one before ends, or that all join.
+fn join_test(starts: &[u32], ends: &[u32], path: &[u32], i: usize) -> Option<usize>
+    requires { let D = design 0 starts.now ends.now [] [] [] in
+        (0 < i) × (i < length path.now) × (first_break (meets D) 0 (take i path.now) ≡ None) }
     ensures { let D = design 0 starts.now ends.now [] [] [] in
-        result ≡ first_break (meets D) 0 path.now }
+        result ≡ first_break (meets D) 0 (take (i + 1) path.now) }
 {
-    for i in 1..path.len() {
-        let j = path[i - 1] as usize;
-        let k = path[i] as usize;
-        if number_at(ends, j) != number_at(starts, k) {
-            return Some(i);
-        }
+    let j = path[i - 1] as usize;
+    let k = path[i] as usize;
+    if number_at(ends, j) == number_at(starts, k) {
+        None
+    } else {
+        Some(i)
     }
-    None
 }
 
-// 24: the edges of a path do not join.
+// 24: the edges of a path do not join; the search stops at the first such place.
 pub(crate) fn joined(starts: &[u32], ends: &[u32], listed: &[u32], lengths: &[u32]) -> Verdict
     ensures { let D = design 0 starts.now ends.now [] [] [] in
         result ≡ first_fault 24 (first_break (meets D) 0) 0 (paths_of (path_list listed.now lengths.now)) }
 {
-    first_fault(24, listed, lengths, |path| first_break(starts, ends, path))
+    let mut rest = listed;
+    let mut verdict = Ok(());
+    'paths: for (p, k) in lengths.iter().enumerate() {
+        let (path, after) = rest.split_at(least(*k as usize, rest.len()));
+        for i in 1..path.len() {
+            verdict = unless_fault(24, p, join_test(starts, ends, path, i));
+            if verdict.is_err() {
+                break 'paths;
+            }
+        }
+        rest = after;
+    }
+    verdict
 }

@@ -15,7 +15,7 @@ returns-in_err-unless_fault g c = λ f says.
     let same : ◌≡◌ {A = Verdict} c.from_residual.result (Err c.in_err-unless_fault.field-0.0) = search rules in
     rw same
     (fault_path a.number f l.rest.now a.lengths.now l.p c.loop-p-test.true c.least.ensures.0 cut.front cut.back
-    (says _ _ (says_at g.F.Fn c.fault.ensures refl)) (l.invariant f says) c.in_err-unless_fault.ensures)
+    (says _ _ (says_at g.F.Fn c.fault.ensures refl)) (l.invariant f says) (Err c.in_err-unless_fault.field-0.0) refl c.in_err-unless_fault.ensures)
 
 pub loop-p-preserved : goal.loop-p-preserved
 loop-p-preserved g c = λ f says.
