@@ -5,7 +5,7 @@ use mathlib.Core.Path.{◌≡◌, refl, sym, ap, ◌∙◌, subst}
 use mathlib.Core.Bool.{cond}
 use mathlib.Core.List.{List, map}
 use mathlib.Core.Option.{none, some}
-use Rattle.std.specs.Prelude.{Option, Ok, None}
+use Rattle.std.specs.Prelude.{Option, Ok, Some, None}
 use Rattle.timing.specs.Answers.{Verdict, Passed, Counts, Times}
 use Rattle.timing.specs.declared.NodeTimes.{NodeTimes}
 use native.Mathlib.Omega.{arith}
@@ -104,7 +104,7 @@ module _ (t : TimesCall) (H : Graph) (lent : timed_graph t ≡ slices_of H) (pas
       x = node_times_at (edge_early D) (edge_late D) (pos T) H D.nodes v
 
       read_back : (x : Option NodeTimes) → cond (eqb (has_times x) 1) (Times (arrival_of x) (required_of x) (slack_of x) (earliest_of x)) None ≡ x
-      read_back (Times a r s e) = refl
+      read_back (Some y) = refl
       read_back None = refl
 
       told : {A : Type 0} (z : A) (f : Option NodeTimes → A) (w : Verdict) (left room : List A) → w ≡ Passed

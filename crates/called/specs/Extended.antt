@@ -1,5 +1,6 @@
 -- What request 12 of document 02 compares: removals, or series of them, each with `times` on what it made; "no run compared is refused".
-use Rattle.std.specs.Prelude.{ℕ, ◌<◌, ◌≡◌, List, map, length, get_or, Option, Ok}
+use Rattle.std.specs.Prelude.{ℕ, ◌<◌, ◌≡◌, List, map, length, get_or, Ok}
+use Rattle.std.specs.Prelude.{Option as Maybe}
 use Rattle.std.proofs.Math.Option.{Option, none, some}
 use Rattle.timing.specs.Answers.{Passed, Counts}
 use Rattle.timing.specs.declared.NodeTimes.{NodeTimes}
@@ -44,7 +45,7 @@ pub record NothingWorse (t u : TimesCall) : Type 0 where
   pub nodes : (r s : RecordsCall) → RecordsAfter t r → RecordsAfter u s → r.answer ≡ Passed → s.answer ≡ Passed
       → (v : ℕ) → v < (timed_design t).nodes → NoWorse (node_times_left r v) (node_times_left s v)
   pub node : (r s : RecordCall) → RecordAfter t r → RecordAfter u s → asked_node r ≡ asked_node s
-      → (x : Option NodeTimes) × (y : Option NodeTimes)
+      → (x : Maybe NodeTimes) × (y : Maybe NodeTimes)
       × (r.answer ≡ Ok (record { node = asked_node r; times = x })) × (s.answer ≡ Ok (record { node = asked_node s; times = y })) × NoWorse x y
   pub copies : (h : ℕ) → h < length (timed_graph u).nodes
       → (g : ℕ) × (g < length (timed_graph t).nodes) × (get_or (timed_graph t).nodes g 0 ≡ get_or (timed_graph u).nodes h 0) × NoWorse (copy_left t g) (copy_left u h)

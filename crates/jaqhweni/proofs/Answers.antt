@@ -1,5 +1,5 @@
 -- What a call made, found or wrote, from its answer to the number that is answered.
-use Prim.Native.Nat.{◌<◌, ◌^◌}
+use Prim.Native.Nat.{ℕ, ◌<◌, ◌^◌}
 use mathlib.Core.Path.{◌≡◌, sym, ap, ◌∙◌, subst}
 use Rattle.std.specs.Prelude.{Option, Result}
 use Rattle.timing.specs.Answers.{Verdict}

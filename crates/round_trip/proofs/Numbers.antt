@@ -73,7 +73,7 @@ module _ (s : List ℕ) (bytes : Bytes s) where
   took_number at = by (groups_in 15 4 (drop at s)) (packed_read 15 4 (drop at s) (bytes_drop s at bytes))
     where
       by : (g : Result Groups NoNumber) → Back 4 (drop at s) g → Is (λ x next. Took s at (x ∷ []) next) (parsed_number (number_answer (length s) at g))
-      by (Number v n) k = sym (take-append-drop n (drop at s)) ∙ rw (k, bytes_one v, drop-drop n at s)
+      by (Ok m) k = sym (take-append-drop m.size (drop at s)) ∙ rw (k, bytes_one m.value, drop-drop m.size at s)
       by (Err Ended) k = tt
       by (Err Unfit) k = tt
 
