@@ -54,7 +54,12 @@ pub(crate) fn clear(s: &mut [u32], base: usize, n: usize)
 }
 
 // The classes of at most so many paths, with a few words for each path to work in.
-fn number_within<const PATHS: usize>(listed: &[u32], lengths: &[u32], s: &mut [u32], l: Lists) -> usize
+fn number_within<const PATHS: usize>(
+    listed: &[u32],
+    lengths: &[u32],
+    s: &mut [u32],
+    l: Lists,
+) -> usize
     requires { Startable l listed.now lengths.now s.old × (length lengths.now ≤ PATHS) × (PATHS ≤ 2048) }
     ensures { Started l listed.now lengths.now s.old s.new result }
 {
