@@ -2,7 +2,7 @@
 use entries::{number_at, time_at};
 use print::{refused, text};
 use std::io::{Result, Write};
-use timing::{NodeRecord, NodeTimes, Refusal, Verdict};
+use timing::{NodeRecord, Times, Refusal, Verdict};
 
 // Of many copies or nodes the first 64 are printed, and then every 512th.
 fn printed(k: usize) -> bool {
@@ -92,7 +92,7 @@ pub(crate) fn say_answer<W: Write>(out: &mut W, answer: Result<NodeRecord, Refus
             text(out, b" ")?;
             let times = record.times;
             match times {
-                Some(NodeTimes {
+                Some(Times {
                     arrival,
                     required,
                     slack,

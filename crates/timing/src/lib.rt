@@ -76,7 +76,7 @@ pub struct GraphCounts {
 
 // The three times of a node, and its earliest arrival.
 #[derive(Clone, Copy)]
-pub struct NodeTimes {
+pub struct Times {
     pub arrival: i64,
     pub required: i64,
     pub slack: i64,
@@ -87,5 +87,5 @@ pub struct NodeTimes {
 #[derive(Clone, Copy)]
 pub struct NodeRecord {
     pub node: u32,
-    pub times: Option<NodeTimes>,
+    pub times: Option<Times>,
 }
