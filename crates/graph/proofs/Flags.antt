@@ -10,24 +10,12 @@ use lib.ListN.{length, get_or, set, length-set, replicate, length-replicate, get
 use lib.Seq.{get_or-set_same, get_or-set_other, set_out}
 use borrow.Author.Tests.{ltb-true, lt-ltb, le-ltb, eq-eqb, ne_eqb}
 use Rattle.graph.specs.Passes.{stands, flag, Clear, FlagsSet, copy_passes, lowest_after, walked}
-use Rattle.graph.proofs.Walk.{any_more, walk_same}
-
-or_false : (a b : Bool) → (a || (b && false)) ≡ a
-or_false true b = refl
-or_false false true = refl
-or_false false false = refl
+use Rattle.graph.proofs.Walk.{or_false, any_more, walk_same}
 
 or_true : (a b : Bool) → (a || (b || true)) ≡ true
 or_true true b = refl
 or_true false true = refl
 or_true false false = refl
-
-or_not : (a : Bool) → (a || false) ≡ a
-or_not true = refl
-or_not false = refl
-
-pub flags_none : (f : List Bool) (l : List ℕ) → FlagsSet f l 0 f
-flags_none f l = record { size = refl; set = λ v. sym (or_false (flag f v) (ltb v (length f))) }
 
 -- one number more
 pub flags_next : (f g : List Bool) (l : List ℕ) (k : ℕ) → FlagsSet f l k g → FlagsSet f l (k + 1) (set g (get_or l k 0) true)
@@ -47,7 +35,7 @@ flags_next f g l k m = record { size = length-set g x true ∙ m.size; set = at 
         ]
 
     there : (v : ℕ) → (v ≡ x → ⊥) → flag (set g x true) v ≡ (flag f v || (ltb v (length f) && stands l (k + 1) v))
-    there v d = rw (more v, ne_eqb x v (λ e. d (sym e)), or_not (stands l k v)) (get_or-set_other g x v true false d ∙ m.set v)
+    there v d = rw (more v, ne_eqb x v (λ e. d (sym e)), or_false (stands l k v)) (get_or-set_other g x v true false d ∙ m.set v)
 
     at : (v : ℕ) → flag (set g x true) v ≡ (flag f v || (ltb v (length f) && stands l (k + 1) v))
     at v = elim (ℕ_discrete v x) [ yes e ↦ here v e | no d ↦ there v d ]

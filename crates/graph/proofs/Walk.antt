@@ -1,5 +1,5 @@
 -- Tests over the places below n: how a loop that looks at each goes, and what it says that all or one of them passes.
-use Prim.Native.Nat.{ℕ, zero, suc, ◌+◌, ◌-◌, ◌≤◌, ◌<◌}
+use Prim.Native.Nat.{ℕ, zero, suc, ◌+◌, ◌-◌, ◌<◌}
 use native.Mathlib.Omega.{arith}
 use native.Mathlib.Numerals.{add-one}
 use mathlib.Core.Path.{◌≡◌, refl, sym, ◌∙◌, ap}
@@ -20,37 +20,12 @@ module _ (ok : ℕ → Bool) (k m : ℕ) where
       let d : m - k ≡ suc (m - suc k) = omega arith in
       rw (d, e, add-one k)
 
-  pub none_left : m ≤ k → all_of ok (upto (m - k) k) ≡ true
-  none_left h =
-      let d : m - k ≡ 0 = omega arith in
-      rw d
-
-pub all_left : (ok : ℕ → Bool) (m : ℕ) → all_of ok (upto (m - 0) 0) ≡ all_of ok (upto m 0)
-all_left ok m =
-    let d : m - 0 ≡ m = omega arith in
-    ap (λ (n : ℕ). all_of ok (upto n 0)) d
-
 -- the same with a number that goes along
 module _ (ok : ℕ → ℕ → Bool) (next : ℕ → ℕ → ℕ) (k m x : ℕ) where
-  pub walk_bad : k < m → ok x k ≡ false → walked ok next (m - k) k x ≡ false
-  walk_bad h e =
-      let d : m - k ≡ suc (m - suc k) = omega arith in
-      rw (d, e)
-
   pub walk_good : k < m → ok x k ≡ true → walked ok next (m - (k + 1)) (k + 1) (next x k) ≡ walked ok next (m - k) k x
   walk_good h e =
       let d : m - k ≡ suc (m - suc k) = omega arith in
       rw (d, e, add-one k)
-
-  pub walk_done : m ≤ k → walked ok next (m - k) k x ≡ true
-  walk_done h =
-      let d : m - k ≡ 0 = omega arith in
-      rw d
-
-pub walk_starts : (ok : ℕ → ℕ → Bool) (next : ℕ → ℕ → ℕ) (m : ℕ) → walked ok next (m - 0) 0 0 ≡ walked ok next m 0 0
-walk_starts ok next m =
-    let d : m - 0 ≡ m = omega arith in
-    ap (λ (n : ℕ). walked ok next n 0 0) d
 
 -- tests that agree below n
 pub walk_same : (p q : ℕ → ℕ → Bool) (next : ℕ → ℕ → ℕ) (n : ℕ) → ((x i : ℕ) → i < n → p x i ≡ q x i) → walked p next n 0 0 ≡ walked q next n 0 0

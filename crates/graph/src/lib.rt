@@ -8,23 +8,18 @@ ghost use Rattle.timing.specs.WellFormed.{edge_fits};
 ghost use Rattle.timing.specs.Refusals.{◌then◌};
 ghost use Rattle.timing.specs.Tests.{node_count, graph_test};
 ghost use Rattle.timing.specs.Calls.{graph_slices, graph_of};
-ghost use Rattle.graph.specs.Passes.{Counted, Clear, FlagsSet, flag, formed, edge_count, key_of, edge_at, edge_passes, joined, end_fits, end_rises, copy_passes, lowest_after, walked};
+ghost use Rattle.graph.specs.Passes.{Counted, Clear, FlagsSet, flag, formed, edge_count, key_of, edge_at, edge_passes, joined, copy_ends, copy_passes, lowest_after, walked};
 
 use entries::{least, number_at, wide};
 use timing::Verdict;
 
 mod quick;
 
-fn both(a: bool, b: bool) -> bool
-    ensures { result ≡ (a && b) }
-{
-    if a { b } else { false }
-}
-
 // A design's numbers may be anything here, so that some may be past the flags.
 fn set_flag(flags: &mut [bool], v: usize)
     ensures { flags.new ≡ set flags.old v true }
 {
+    // Of a slice's `get_mut` nothing is known of what the slice ends as.
     if v < flags.len() {
         flags[v] = true;
     }
@@ -35,10 +30,8 @@ fn set_flags(list: &[u32], count: usize, flags: &mut [bool])
     requires { count ≤ length list.now }
     ensures { FlagsSet flags.old list.now count flags.new }
 {
-    let mut k = 0;
-    while k < count {
-        set_flag(flags, wide(list[k]));
-        k += 1;
+    for &v in &list[..count] {
+        set_flag(flags, wide(v));
     }
 }
 
@@ -49,25 +42,12 @@ fn edge_count(from: &[u32], to: &[u32], via: &[u32]) -> usize
     least(from.len(), least(to.len(), via.len()))
 }
 
-// Design edge k is there and runs from node v to node w. The two lists may differ in length here, and an end that is not there counts as 0; but one
-// test of k is enough where they do not.
+// Design edge k is there and runs from node v to node w. The two lists may differ in length here, and an end that is not there counts as 0.
 fn edge_is(starts: &[u32], ends: &[u32], k: usize, v: u32, w: u32) -> bool
     ensures { let named = ltb k (length starts.now) in
         result ≡ (named && eqb v (get_or starts.now k 0) && eqb w (get_or ends.now k 0)) }
 {
-    if k < least(starts.len(), ends.len()) {
-        if v != starts[k] {
-            return false;
-        }
-        return w == ends[k];
-    }
-    if starts.len() <= k {
-        return false;
-    }
-    if v != starts[k] {
-        return false;
-    }
-    w == 0
+    k < starts.len() && v == starts[k] && w == number_at(ends, k)
 }
 
 fn edge_fits(starts: &[u32], ends: &[u32], nodes: &[u32], s: u32, t: u32, k: u32) -> bool
@@ -76,13 +56,7 @@ fn edge_fits(starts: &[u32], ends: &[u32], nodes: &[u32], s: u32, t: u32, k: u32
 {
     let s = s as usize;
     let t = t as usize;
-    if nodes.len() <= s {
-        return false;
-    }
-    if nodes.len() <= t {
-        return false;
-    }
-    edge_is(starts, ends, k as usize, nodes[s], nodes[t])
+    s < nodes.len() && t < nodes.len() && edge_is(starts, ends, k as usize, nodes[s], nodes[t])
 }
 
 // One number for the place of an edge in the order by end copy, then by design edge.
@@ -111,10 +85,7 @@ fn edge_passes(
 {
     let t = to[i];
     let k = via[i];
-    if edge_fits(starts, ends, nodes, from[i], t, k) {
-        return lowest <= edge_key(t, k);
-    }
-    false
+    edge_fits(starts, ends, nodes, from[i], t, k) && lowest <= edge_key(t, k)
 }
 
 // The lowest number that the edge after edge i may have.
@@ -160,14 +131,12 @@ fn edges_pass(
 {
     let m = edge_count(from, to, via);
     let mut lowest = 0;
-    let mut i = 0;
-    while i < m {
+    for i in 0..m {
         if !edge_passes(starts, ends, nodes, from, to, via, lowest, i) {
             return false;
         }
         lowest = key_after(to, via, i);
         set_joined(from, to, i, cin, cout);
-        i += 1;
     }
     true
 }
@@ -180,36 +149,13 @@ fn node_rises(nodes: &[u32], c: usize) -> bool
         result ≡ (leb (length nodes.now) (c + 1) || leb here next) }
 {
     let next = c + 1;
-    if nodes.len() <= next {
-        return true;
-    }
-    nodes[c] <= nodes[next]
+    nodes.len() <= next || nodes[c] <= nodes[next]
 }
 
 fn has_edge(node: bool, copy: bool) -> bool
     ensures { result ≡ joined node copy }
 {
-    if node { copy } else { true }
-}
-
-// Paths end at a copy only where its node is a sink or marked. Where none end, the node is no sink and the copy has an edge out.
-fn end_fits(end: bool, out: bool, marked: bool, left: bool) -> bool
-    ensures { result ≡ end_fits end out marked left }
-{
-    if end {
-        return has_edge(out, marked);
-    }
-    both(out, left)
-}
-
-// The nodes of the copies where paths end rise strictly: `lowest` is the lowest node that such a copy may have now, and v the node of this one.
-fn end_rises(end: bool, lowest: usize, v: u32) -> bool
-    ensures { result ≡ end_rises end lowest v }
-{
-    if end {
-        return lowest <= v as usize;
-    }
-    true
+    !node || copy
 }
 
 // The lowest node that a copy after copy c may have if paths end at it.
@@ -218,9 +164,39 @@ fn lowest_after(nodes: &[u32], endpoint: &[u32], lowest: usize, c: usize) -> usi
     ensures { result ≡ lowest_after nodes.now endpoint.now lowest c }
 {
     if number_at(endpoint, c) == 1 {
-        return wide(nodes[c]) + 1;
+        wide(nodes[c]) + 1
+    } else {
+        lowest
     }
-    lowest
+}
+
+// The tests of copy c but for its edges in. Paths end at a copy only where its node is a sink or marked, and at no other copy of its node: `lowest`
+// is the lowest node that a copy where they end may have now. Where none end, the node is no sink and the copy has an edge out.
+fn copy_ends(
+    n: u32,
+    nodes: &[u32],
+    endpoint: &[u32],
+    nout: &[bool],
+    nmarked: &[bool],
+    cout: &[bool],
+    lowest: usize,
+    c: usize,
+) -> bool
+    requires { (c < length nodes.now) × (n ≤ length nout.now) × (n ≤ length nmarked.now)
+        × (length nodes.now ≤ length cout.now) }
+    ensures { result ≡ copy_ends n nodes.now endpoint.now
+        (flag nout.now) (flag nmarked.now) (flag cout.now) lowest c }
+{
+    let node = nodes[c];
+    if n <= node || !node_rises(nodes, c) {
+        return false;
+    }
+    let v = wide(node);
+    if number_at(endpoint, c) == 1 {
+        has_edge(nout[v], nmarked[v]) && lowest <= v
+    } else {
+        nout[v] & cout[c]
+    }
 }
 
 fn copy_passes(
@@ -242,16 +218,8 @@ fn copy_passes(
         (flag nin.now) (flag nout.now) (flag nmarked.now)
         (flag cin.now) (flag cout.now) lowest c }
 {
-    let node = nodes[c];
-    if n <= node {
-        return false;
-    }
-    let v = wide(node);
-    let end = number_at(endpoint, c) == 1;
-    let entered = has_edge(nin[v], cin[c]);
-    let fits = end_fits(end, nout[v], nmarked[v], cout[c]);
-    let once = end_rises(end, lowest, node);
-    both(both(both(node_rises(nodes, c), entered), fits), once)
+    copy_ends(n, nodes, endpoint, nout, nmarked, cout, lowest, c)
+        && has_edge(nin[wide(nodes[c])], cin[c])
 }
 
 fn copies_pass(
@@ -271,14 +239,12 @@ fn copies_pass(
         (flag cin.now) (flag cout.now) in
         result ≡ walked passes (lowest_after nodes.now endpoint.now) (length nodes.now) 0 0 }
 {
-    let mut c = 0;
     let mut lowest = 0;
-    while c < nodes.len() {
+    for c in 0..nodes.len() {
         if !copy_passes(n, nodes, endpoint, nin, nout, nmarked, cin, cout, lowest, c) {
             return false;
         }
         lowest = lowest_after(nodes, endpoint, lowest, c);
-        c += 1;
     }
     true
 }
@@ -387,20 +353,11 @@ fn well_formed(
     ensures { result ≡ formed n starts.now ends.now marked.now
         nodes.now endpoint.now from.now to.now via.now }
 {
-    let m = edge_count(from, to, via);
-    if timing::MAX_COPIES < nodes.len() {
-        return false;
-    }
-    if timing::MAX_COPY_EDGES < m {
-        return false;
-    }
-    if !verdicts::zero_or_one(endpoint) {
-        return false;
-    }
-    if quick::all_pass(n, starts, ends, marked, nodes, endpoint, from, to, via) {
-        return true;
-    }
-    each_formed(n, starts, ends, marked, nodes, endpoint, from, to, via)
+    nodes.len() <= timing::MAX_COPIES
+        && edge_count(from, to, via) <= timing::MAX_COPY_EDGES
+        && verdicts::zero_or_one(endpoint)
+        && (quick::all_pass(n, starts, ends, marked, nodes, endpoint, from, to, via)
+            || each_formed(n, starts, ends, marked, nodes, endpoint, from, to, via))
 }
 
 // 10 and 32: the flags of nodes are a local array, which 10 makes large enough. Every call that

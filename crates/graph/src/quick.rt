@@ -6,8 +6,8 @@ ghost use Rattle.std.specs.Prelude.{ℕ, ◌+◌, ◌≤◌, ◌<◌, ◌≡◌,
 ghost use Rattle.timing.specs.Lists.{one_if, count_of, upto};
 ghost use Rattle.graph.specs.Passes.{Counted, Lent, Clear, FlagsSet, flag, formed, Ordered, turns, Matches, EdgesFound, copy_ends, lowest_after, walked};
 
-use crate::{has_edge, lowest_after, node_rises, set_node_flags};
-use entries::{number_at, wide};
+use crate::{copy_ends, lowest_after, set_node_flags};
+use entries::wide;
 
 fn in_range(copies: u32, names: u32, s: u32, t: u32, k: u32) -> bool
     ensures { result ≡ (ltb s copies && ltb t copies && ltb k names) }
@@ -79,39 +79,6 @@ fn edges_match(
         cout[s] = true;
     }
     true
-}
-
-// The tests of copy c but for its edges in.
-fn copy_ends(
-    n: u32,
-    nodes: &[u32],
-    endpoint: &[u32],
-    nout: &[bool],
-    nmarked: &[bool],
-    cout: &[bool],
-    lowest: usize,
-    c: usize,
-) -> bool
-    requires { (c < length nodes.now) × (n ≤ length nout.now) × (n ≤ length nmarked.now)
-        × (length nodes.now ≤ length cout.now) }
-    ensures { result ≡ copy_ends n nodes.now endpoint.now
-        (flag nout.now) (flag nmarked.now) (flag cout.now) lowest c }
-{
-    let node = nodes[c];
-    if n <= node {
-        return false;
-    }
-    if !node_rises(nodes, c) {
-        return false;
-    }
-    let v = wide(node);
-    if number_at(endpoint, c) == 1 {
-        if !has_edge(nout[v], nmarked[v]) {
-            return false;
-        }
-        return lowest <= v;
-    }
-    nout[v] & cout[c]
 }
 
 // Each copy passes but for its edges in, and those of nodes without an edge in are as many as have none, where `entered` have one.

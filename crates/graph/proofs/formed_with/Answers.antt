@@ -1,35 +1,18 @@
 -- The edges are tested, and then the copies, by flags that hold what the lists say.
 use Prim.Native.Nat.{min}
-use native.Mathlib.Omega.{arith}
 use mathlib.Core.Path.{sym, ◌∙◌}
 use mathlib.Core.Bool.{true, false}
 use lib.ListN.{length}
-use borrow.Author.Tests.{not-true, not-false}
 use Rattle.theorems.proofs.Lists.{holds}
 use Rattle.graph.specs.Passes.{edge_count, stands}
 use Rattle.graph.proofs.Flags.{flags_clear, copies_agree}
 use Rattle.graph.proofs.WellFormed.{formed_by}
-use mathlib.Core.Bool.{not}
-use mathlib.Core.Path.{ap}
 use Rattle.graph.proofs.formed_with.Goals as goal
 
 pub returns-then-not-edges_pass : goal.returns-then-not-edges_pass
 returns-then-not-edges_pass c =
     let a = c.args in
-    formed_by a.n a.starts.now a.ends.now a.marked.now a.nodes.now a.endpoint.now a.from.now a.to.now a.via.now c.requires.0 false (sym (not-true _ (ap not c.if-not-edges_pass.true)) ∙ c.edges_pass.ensures.0)
-
-pub copies_pass-requires : goal.copies_pass-requires
-copies_pass-requires c =
-    let f = c.set_node_flags.ensures in
-    let r = c.edges_pass.result in
-    let t = holds r (not-false r (ap not c.if-not-edges_pass.false)) in
-    let p = c.requires in (
-      omega (arith, p.1.room, f.0.size),
-      omega (arith, p.2.room, f.1.size),
-      omega (arith, p.3.room, f.2.size),
-      omega (arith, p.4.room, (c.edges_pass.ensures.1 t).size),
-      omega (arith, p.5.room, (c.edges_pass.ensures.2 t).size),
-    )
+    formed_by a.n a.starts.now a.ends.now a.marked.now a.nodes.now a.endpoint.now a.from.now a.to.now a.via.now c.requires.0 false (sym c.if-not-edges_pass.true ∙ c.edges_pass.ensures.0)
 
 pub returns : goal.returns
 returns c =
@@ -40,7 +23,7 @@ returns c =
     let m = edge_count a.from.now a.to.now a.via.now in
     let marks = length a.marked.now in
     let copies = length a.nodes.now in
-    let e = not-false _ (ap not c.if-not-edges_pass.false) in
+    let e = c.if-not-edges_pass.false in
     let set = c.edges_pass.ensures in
     c.copies_pass.ensures
     ∙ copies_agree a.n a.nodes.now a.endpoint.now _ _ _ _ _

@@ -1,10 +1,6 @@
--- The flags of the first k numbers are set.
-use Prim.Native.Nat.{◌-◌, ◌≤◌}
+-- The flags of the first numbers are set.
 use Rattle.graph.specs.Passes.{FlagsSet}
 use Rattle.graph.proofs.set_flags.Given as goal
 
-abbrev pub invariant-loop-k : goal.invariant-loop-k
-invariant-loop-k l = (l.k ≤ l.count) × FlagsSet l.initial.flags l.list l.k l.flags
-
-abbrev pub decreases-loop-k : goal.decreases-loop-k
-decreases-loop-k l = l.count - l.k
+abbrev pub invariant-loop-v : goal.invariant-loop-v
+invariant-loop-v l = FlagsSet l.initial.flags l.list l.v-index l.flags
