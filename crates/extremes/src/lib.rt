@@ -7,11 +7,11 @@ ghost use Rattle.timing.specs.Times.{larger as larger_time, smaller as smaller_t
 pub fn larger(a: i64, b: i64) -> i64
     ensures { result ≡ larger_time a b }
 {
-    if a < b { b } else { a }
+    a.max(b)
 }
 
 pub fn smaller(a: i64, b: i64) -> i64
     ensures { result ≡ smaller_time a b }
 {
-    if b < a { b } else { a }
+    a.min(b)
 }

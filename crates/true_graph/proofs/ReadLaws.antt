@@ -4,8 +4,8 @@ use native.Mathlib.Omega.{arith}
 use mathlib.Core.Path.{◌≡◌, refl, sym, subst}
 use mathlib.Core.Bool.{Bool, true, false, cond}
 use mathlib.Core.List.{List, ◌∷◌}
-use Rattle.std.specs.Prelude.{Result, Err}
-use Rattle.timing.specs.Answers.{Verdict, Passed, Number}
+use Rattle.std.specs.Prelude.{Result, Ok, Err}
+use Rattle.timing.specs.Answers.{Verdict, Passed}
 use Rattle.timing.specs.declared.Groups.{Groups}
 use Rattle.timing.specs.declared.NoNumber.{NoNumber}
 use Rattle.timing.specs.declared.NoNumber.TheVariants.{Ended, Unfit}
@@ -41,7 +41,7 @@ module _ (s : List ℕ) (few : length s ≤ 65536) where
   within_number at h = go (groups_in 15 4 (drop at s)) (number_inside 15 4 (drop at s))
     where
       go : (g : Result Groups NoNumber) → Inside (drop at s) g → Within (parsed_number (number_answer (length s) at g))
-      go (Number v n) i = omega (arith, i.1, length-drop at s)
+      go (Ok m) i = omega (arith, i.1, length-drop at s)
       go (Err Ended) i = (omega arith, omega arith)
       go (Err Unfit) i = (omega arith, omega arith)
 

@@ -1,5 +1,5 @@
 -- Refusals and counts that fit one number of 64 bits.
-use Rattle.std.specs.Prelude.{◌≤◌, ◌<◌, Option, Result, Ok, Err}
+use Rattle.std.specs.Prelude.{ℕ, ◌≤◌, ◌<◌, Option, Result, Ok, Err}
 use Rattle.timing.specs.Answers.{Verdict, Late, OnTime}
 use Rattle.timing.specs.declared.GraphCounts.{GraphCounts}
 use Rattle.timing.specs.declared.Refusal.{Refusal}

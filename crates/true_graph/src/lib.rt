@@ -123,8 +123,8 @@ fn remove_tested(
 {
     let candidates = n as usize + listed.len() - lengths.len();
     let half = scratch_test(8192, candidates, listed.len(), starts.len());
-    if half.is_ok() {
-        return remove_in::<8192>(
+    match half {
+        Ok(()) => remove_in::<8192>(
             n,
             starts,
             ends,
@@ -138,23 +138,23 @@ fn remove_tested(
             room_from,
             room_to,
             room_via,
-        );
+        ),
+        Err(_) => remove_in::<16384>(
+            n,
+            starts,
+            ends,
+            early,
+            late,
+            marked,
+            listed,
+            lengths,
+            room_nodes,
+            room_endpoint,
+            room_from,
+            room_to,
+            room_via,
+        ),
     }
-    remove_in::<16384>(
-        n,
-        starts,
-        ends,
-        early,
-        late,
-        marked,
-        listed,
-        lengths,
-        room_nodes,
-        room_endpoint,
-        room_from,
-        room_to,
-        room_via,
-    )
 }
 
 // Packs the true graph of such a design and list into the room, made in the program's room and scratch.

@@ -5,6 +5,7 @@ use mathlib.Core.Path.{◌≡◌, refl, sym, ap, ◌∙◌, subst}
 use mathlib.Core.Bool.{Bool, true, false}
 use mathlib.Core.List.{List, [], ◌∷◌, map, flat_map}
 use Rattle.std.specs.Prelude.{Result, Err}
+use Rattle.std.specs.Result.{is_err}
 use Rattle.timing.specs.Answers.{Verdict, Passed, Counts}
 use Rattle.timing.specs.declared.GraphCounts.{GraphCounts}
 use lib.Dec.{leb, leb→le, le→leb}
@@ -43,6 +44,10 @@ answer_refused (Err x) copies edges r e = cc
 pub answer_passed : (v : Verdict) (copies edges c e : ℕ) → counts_answer v copies edges ≡ Counts c e → v ≡ Passed
 answer_passed Passed copies edges c e q = refl
 answer_passed (Err x) copies edges c e q = absurd (let z : ◌≡◌ {A = ℕ} 0 1 = cc in omega arith)
+
+pub answer_no_refusal : (v : Verdict) (copies edges : ℕ) → false ≡ is_err (counts_answer v copies edges) → v ≡ Passed
+answer_no_refusal Passed copies edges e = refl
+answer_no_refusal (Err x) copies edges e = absurd (let z : ◌≡◌ {A = ℕ} 0 1 = cc in omega arith)
 
 answer_of : (v : Verdict) (H : Graph) → counts_answer v (length H.nodes) (length H.edges) ≡ graph_answer (outcome v H)
 answer_of Passed H = refl

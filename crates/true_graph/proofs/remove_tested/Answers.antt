@@ -7,8 +7,13 @@ use Rattle.true_graph.proofs.Halves.{few_paths, half_same}
 use Rattle.true_graph.proofs.remove_tested.Goals as goal
 
 pub overflow_sub-candidates : goal.overflow_sub-candidates
-overflow_sub-candidates c = omega (arith, few_paths ((let a = c.args in design a.n a.starts.now a.ends.now a.early.now a.late.now a.marked.now)) ((path_list c.args.listed.now c.args.lengths.now)) c.requires)
+overflow_sub-candidates c =
+    let a = c.args in
+    let D = design a.n a.starts.now a.ends.now a.early.now a.late.now a.marked.now in
+    omega (arith, few_paths D (path_list a.listed.now a.lengths.now) c.requires)
 
-pub returns-in_ok-before : goal.returns-in_ok-before
-returns-in_ok-before c =
-    rw (half_same ((let a = c.args in design a.n a.starts.now a.ends.now a.early.now a.late.now a.marked.now)) ((path_list c.args.listed.now c.args.lengths.now)) c.requires _ (sym c.scratch_test-half.ensures ∙ c.in_ok-before.was)) at c.remove_in_half.ensures
+pub returns-in-Ok : goal.returns-in-Ok
+returns-in-Ok c =
+    let a = c.args in
+    let D = design a.n a.starts.now a.ends.now a.early.now a.late.now a.marked.now in
+    rw (half_same D (path_list a.listed.now a.lengths.now) c.requires _ (sym c.scratch_test-half.ensures ∙ c.in-Ok.is)) at c.remove_in.ensures
