@@ -23,7 +23,15 @@ struct Input<'a> {
     at: usize,
 }
 
-impl Input<'_> {
+impl<'a> Input<'a> {
+    fn new(alloc: Global, block: &'a [u8]) -> Input<'a> {
+        Input {
+            alloc,
+            block,
+            at: 0,
+        }
+    }
+
     fn number(&mut self) -> u32 {
         let taken = take_number(self.block, self.at);
         self.at = taken.next;
@@ -69,14 +77,9 @@ fn case<W: Write>(out: &mut W, input: &mut Input<'_>) -> io::Result<()> {
 }
 
 fn run_block<W: Write>(rt: &HostRuntime, out: &mut W) -> io::Result<()> {
-    let alloc = rt.alloc();
-    let mut block = Vec::new(alloc);
+    let mut block = Vec::new(rt.alloc());
     rt.stdin().take(BLOCK).read_to_end(&mut block)?;
-    let mut input = Input {
-        alloc,
-        block: &block,
-        at: 0,
-    };
+    let mut input = Input::new(rt.alloc(), &block);
     for _ in 0..input.number() {
         case(out, &mut input)?;
     }
