@@ -84,12 +84,12 @@ impl Tables {
     }
 }
 
-// Reads a deck, and prints the answer and the tables.
+// Reads a deck, and prints the answer and the tables. Gives what was read.
 fn read<W: Write>(
     out: &mut W,
     bytes: &[u8],
     tables: &mut Tables,
-) -> io::Result<Result<DeckCounts, Refusal>> {
+) -> io::Result<Option<DeckCounts>> {
     let answer = tables.read(bytes);
     match answer {
         Ok(c) => write!(
@@ -100,21 +100,17 @@ fn read<W: Write>(
         Err(r) => refused(out, r)?,
     }
     tables.say(out, answer.unwrap_or(NOTHING))?;
-    Ok(answer)
+    Ok(answer.ok())
 }
 
-// Writes a deck, and prints the answer and the room.
-fn write<W: Write>(
-    out: &mut W,
-    d: Deck<'_>,
-    room: &mut [u8],
-) -> io::Result<Result<usize, Refusal>> {
+// Writes a deck, and prints the answer and the room. Gives the place behind what was written.
+fn write<W: Write>(out: &mut W, d: Deck<'_>, room: &mut [u8]) -> io::Result<Option<usize>> {
     let answer = deck_writer::write_deck(
         d.n, d.starts, d.ends, d.early, d.late, d.marked, d.listed, d.lengths, d.allowed, room,
     );
     write!(out, "write ")?;
     written(out, answer, room)?;
-    Ok(answer)
+    Ok(answer.ok())
 }
 
 // What was read is written to a room as long as the bytes that were read.
@@ -129,9 +125,9 @@ pub(crate) fn read_case<W: Write>(out: &mut W, input: &mut Input<'_>) -> io::Res
         marked: input.lent(4200)?,
     };
     let bytes = input.bytes();
-    if let Ok(counts) = read(out, bytes, &mut tables)? {
+    if let Some(counts) = read(out, bytes, &mut tables)? {
         let mut room = full(input.alloc, bytes.len())?;
-        let _ = write(out, tables.deck(counts), &mut room)?;
+        write(out, tables.deck(counts), &mut room)?;
     }
     Ok(())
 }
@@ -160,7 +156,7 @@ pub(crate) fn write_case<W: Write>(out: &mut W, input: &mut Input<'_>) -> io::Re
         lengths: &lengths,
         marked: &marked,
     };
-    if let Ok(end) = write(out, deck, &mut room)? {
+    if let Some(end) = write(out, deck, &mut room)? {
         let mut tables = Tables {
             starts: full(alloc, starts.len())?,
             ends: full(alloc, starts.len())?,
@@ -170,7 +166,7 @@ pub(crate) fn write_case<W: Write>(out: &mut W, input: &mut Input<'_>) -> io::Re
             lengths: full(alloc, lengths.len())?,
             marked: full(alloc, marked.len())?,
         };
-        let _ = read(out, &room[..end.min(room.len())], &mut tables)?;
+        read(out, &room[..end.min(room.len())], &mut tables)?;
     }
     Ok(())
 }

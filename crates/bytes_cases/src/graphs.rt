@@ -66,31 +66,23 @@ impl Room {
     }
 }
 
-// Reads a graph, and prints the answer and the room.
-fn read<W: Write>(
-    out: &mut W,
-    bytes: &[u8],
-    room: &mut Room,
-) -> io::Result<Result<GraphCounts, Refusal>> {
+// Reads a graph, and prints the answer and the room. Gives what was read.
+fn read<W: Write>(out: &mut W, bytes: &[u8], room: &mut Room) -> io::Result<Option<GraphCounts>> {
     let answer = room.read(bytes);
     match answer {
         Ok(c) => write!(out, "graph {} {}", c.copies, c.edges)?,
         Err(r) => refused(out, r)?,
     }
     room.say(out, answer.unwrap_or(NOTHING))?;
-    Ok(answer)
+    Ok(answer.ok())
 }
 
-// Writes a graph, and prints the answer and the room.
-fn write<W: Write>(
-    out: &mut W,
-    g: Graph<'_>,
-    room: &mut [u8],
-) -> io::Result<Result<usize, Refusal>> {
+// Writes a graph, and prints the answer and the room. Gives the place behind what was written.
+fn write<W: Write>(out: &mut W, g: Graph<'_>, room: &mut [u8]) -> io::Result<Option<usize>> {
     let answer = graph_writer::write_graph(g.nodes, g.endpoint, g.from, g.to, g.via, room);
     write!(out, "write ")?;
     written(out, answer, room)?;
-    Ok(answer)
+    Ok(answer.ok())
 }
 
 // What was read is written to a room as long as the bytes that were read.
@@ -103,9 +95,9 @@ pub(crate) fn read_case<W: Write>(out: &mut W, input: &mut Input<'_>) -> io::Res
         via: input.lent(65600)?,
     };
     let bytes = input.bytes();
-    if let Ok(counts) = read(out, bytes, &mut room)? {
+    if let Some(counts) = read(out, bytes, &mut room)? {
         let mut byte_room = full(input.alloc, bytes.len())?;
-        let _ = write(out, room.graph(counts), &mut byte_room)?;
+        write(out, room.graph(counts), &mut byte_room)?;
     }
     Ok(())
 }
@@ -126,7 +118,7 @@ pub(crate) fn write_case<W: Write>(out: &mut W, input: &mut Input<'_>) -> io::Re
         to: &to,
         via: &via,
     };
-    if let Ok(end) = write(out, graph, &mut byte_room)? {
+    if let Some(end) = write(out, graph, &mut byte_room)? {
         let mut room = Room {
             nodes: full(alloc, nodes.len())?,
             endpoint: full(alloc, nodes.len())?,
@@ -134,7 +126,7 @@ pub(crate) fn write_case<W: Write>(out: &mut W, input: &mut Input<'_>) -> io::Re
             to: full(alloc, from.len())?,
             via: full(alloc, from.len())?,
         };
-        let _ = read(out, &byte_room[..end.min(byte_room.len())], &mut room)?;
+        read(out, &byte_room[..end.min(byte_room.len())], &mut room)?;
     }
     Ok(())
 }
