@@ -10,12 +10,20 @@ const MOST: usize = 4200;
 // A block, from a place on.
 #[derive(Drop)]
 pub(crate) struct Input<'a> {
-    pub alloc: Global,
-    pub block: &'a [u8],
-    pub at: usize,
+    alloc: Global,
+    block: &'a [u8],
+    at: usize,
 }
 
-impl Input<'_> {
+impl<'a> Input<'a> {
+    pub(crate) fn new(alloc: Global, block: &'a [u8]) -> Input<'a> {
+        Input {
+            alloc,
+            block,
+            at: 0,
+        }
+    }
+
     pub(crate) fn number(&mut self) -> u32 {
         let taken = take_number(self.block, self.at);
         self.at = taken.next;

@@ -197,14 +197,9 @@ impl Case {
 }
 
 fn run_block<W: Write>(rt: &HostRuntime, out: &mut W) -> io::Result<()> {
-    let alloc = rt.alloc();
-    let mut block = Vec::new(alloc);
+    let mut block = Vec::new(rt.alloc());
     rt.stdin().take(BLOCK).read_to_end(&mut block)?;
-    let mut input = Input {
-        alloc,
-        block: &block,
-        at: 0,
-    };
+    let mut input = Input::new(rt.alloc(), &block);
     for _ in 0..input.number() {
         let mut case = Case::read(&mut input)?;
         case.say_copies(out)?;
