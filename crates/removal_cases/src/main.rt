@@ -35,11 +35,11 @@ fn run_removal<W: Write>(
     let words = input.number() as usize;
 
     let mut scratch = pattern(alloc, 3500000000, words.min(300000))?;
-    let told = size(d, &l, &held, &mut scratch);
+    let told = size(d, &l, held.as_ref(), &mut scratch);
     say_told(out, told, &scratch)?;
 
     let mut scratch = pattern(alloc, 3500000000, words.min(32768))?;
-    let made = remove(d, &l, &held, &mut room, &mut scratch);
+    let made = remove(d, &l, held.as_ref(), &mut room, &mut scratch);
     say(out, made, &room, &scratch)?;
     match made {
         Ok(counts) => {
@@ -62,14 +62,9 @@ fn run_series<W: Write>(out: &mut W, input: &mut Input<'_>) -> io::Result<()> {
 
 // Reads a block and runs its series; none where the input has ended.
 fn run_block<W: Write>(rt: &HostRuntime, out: &mut W) -> io::Result<()> {
-    let alloc = rt.alloc();
-    let mut block = Vec::new(alloc);
+    let mut block = Vec::new(rt.alloc());
     rt.stdin().take(BLOCK).read_to_end(&mut block)?;
-    let mut input = Input {
-        alloc,
-        block: &block,
-        at: 0,
-    };
+    let mut input = Input::new(rt.alloc(), &block);
     for _ in 0..input.number() {
         run_series(out, &mut input)?;
     }

@@ -6,7 +6,7 @@ use timing::{GraphCounts, Refusal};
 pub(crate) fn size(
     d: &Design,
     l: &List,
-    held: &Option<Graph>,
+    held: Option<&Graph>,
     scratch: &mut [u32],
 ) -> Result<GraphCounts, Refusal> {
     match held {
@@ -35,7 +35,7 @@ pub(crate) fn size(
 pub(crate) fn remove(
     d: &Design,
     l: &List,
-    held: &Option<Graph>,
+    held: Option<&Graph>,
     room: &mut Graph,
     scratch: &mut [u32],
 ) -> Result<GraphCounts, Refusal> {

@@ -11,11 +11,19 @@ use timing::GraphCounts;
 #[derive(Drop)]
 pub(crate) struct Input<'a> {
     pub alloc: Global,
-    pub block: &'a [u8],
-    pub at: usize,
+    block: &'a [u8],
+    at: usize,
 }
 
-impl Input<'_> {
+impl<'a> Input<'a> {
+    pub(crate) fn new(alloc: Global, block: &'a [u8]) -> Input<'a> {
+        Input {
+            alloc,
+            block,
+            at: 0,
+        }
+    }
+
     pub(crate) fn number(&mut self) -> u32 {
         let taken = take_number(self.block, self.at);
         self.at = taken.next;
