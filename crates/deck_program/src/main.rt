@@ -1,5 +1,6 @@
 // The deck program: reads a deck on standard input, and prints its true graph with all times, or the
-// refusal. Every number printed is from a proved call; the sizes are those of documents 01 and 02.
+// refusal. Every number printed is from a proved call. Tables, room and scratch are arrays, not vectors: their sizes
+// are fixed in documents 01 and 02.
 #![tactic(auto)]
 
 mod lines;
