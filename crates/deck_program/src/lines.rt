@@ -15,14 +15,14 @@ pub(crate) struct Graph<'a> {
 
 // The times of copies or nodes.
 #[derive(Clone, Copy)]
-pub(crate) struct Times<'a> {
+pub(crate) struct TimeSlices<'a> {
     pub arrivals: &'a [i64],
     pub requireds: &'a [i64],
     pub slacks: &'a [i64],
     pub earliests: &'a [i64],
 }
 
-impl Times<'_> {
+impl TimeSlices<'_> {
     fn at(self, k: usize) -> Times {
         Times {
             arrival: time_at(self.arrivals, k),
@@ -34,7 +34,11 @@ impl Times<'_> {
 }
 
 // The counts, and all copies and edges. A last word says where paths end.
-pub(crate) fn put_graph<W: Write>(out: &mut W, g: Graph<'_>, times: Times<'_>) -> io::Result<()> {
+pub(crate) fn put_graph<W: Write>(
+    out: &mut W,
+    g: Graph<'_>,
+    times: TimeSlices<'_>,
+) -> io::Result<()> {
     writeln!(out, "copies {} edges {}", g.nodes.len(), g.from.len())?;
     for (copy, (node, endpoint)) in g.nodes.iter().zip(g.endpoint).enumerate() {
         let t = times.at(copy);
@@ -51,7 +55,11 @@ pub(crate) fn put_graph<W: Write>(out: &mut W, g: Graph<'_>, times: Times<'_>) -
     Ok(())
 }
 
-pub(crate) fn put_nodes<W: Write>(out: &mut W, known: &[u32], times: Times<'_>) -> io::Result<()> {
+pub(crate) fn put_nodes<W: Write>(
+    out: &mut W,
+    known: &[u32],
+    times: TimeSlices<'_>,
+) -> io::Result<()> {
     for (node, known) in known.iter().enumerate() {
         if *known == 0 {
             writeln!(out, "node {node} none")?;

@@ -6,7 +6,7 @@
 mod lines;
 
 use entries::front;
-use lines::{Graph, Times, put_graph, put_nodes};
+use lines::{Graph, TimeSlices, put_graph, put_nodes};
 use std::io::{self, BufWriter, Read, Write};
 use timing::{MAX_DECK_BYTES, Refusal};
 use verdicts::refuse;
@@ -43,7 +43,12 @@ struct Design<'a> {
 }
 
 // The records of all nodes, in slices with one place for each.
-fn say_nodes<W: Write>(out: &mut W, n: u32, nodes: &[u32], times: Times<'_>) -> Result<(), Stop> {
+fn say_nodes<W: Write>(
+    out: &mut W,
+    n: u32,
+    nodes: &[u32],
+    times: TimeSlices<'_>,
+) -> Result<(), Stop> {
     let mut known = [0; 4096];
     let mut na = [0; 4096];
     let mut nr = [0; 4096];
@@ -63,7 +68,7 @@ fn say_nodes<W: Write>(out: &mut W, n: u32, nodes: &[u32], times: Times<'_>) -> 
         &mut ns[..count],
         &mut ne[..count],
     )?;
-    let times = Times {
+    let times = TimeSlices {
         arrivals: &na[..count],
         requireds: &nr[..count],
         slacks: &ns[..count],
@@ -98,7 +103,7 @@ fn say_graph<W: Write>(out: &mut W, d: Design<'_>, g: Graph<'_>) -> Result<(), S
         &mut slacks[..count],
         &mut earliests[..count],
     )?;
-    let times = Times {
+    let times = TimeSlices {
         arrivals: &arrivals[..count],
         requireds: &requireds[..count],
         slacks: &slacks[..count],

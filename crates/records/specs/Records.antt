@@ -19,7 +19,7 @@ gathered nodes ats rts sts ets v t c =
 abbrev pub times_of : List ℤ → List ℤ → List ℤ → List ℤ → List ℕ → Option Times
 times_of ats rts sts ets [] = None
 times_of ats rts sts ets (c ∷ cs) =
-    Times
+    SomeTimes
     (largest (map (λ i. get_or ats i (pos 0)) (c ∷ cs)))
     (smallest (map (λ i. get_or rts i (pos 0)) (c ∷ cs)))
     (smallest (map (λ i. get_or sts i (pos 0)) (c ∷ cs)))

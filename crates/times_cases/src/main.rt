@@ -22,16 +22,16 @@ const BLOCKS: u32 = 3;
 
 // The slices for the times of copies or nodes.
 #[derive(Drop)]
-struct Times {
+struct TimeSlices {
     arrivals: Vec<i64>,
     requireds: Vec<i64>,
     slacks: Vec<i64>,
     earliests: Vec<i64>,
 }
 
-impl Times {
-    fn lent(input: &mut Input<'_>) -> io::Result<Times> {
-        Ok(Times {
+impl TimeSlices {
+    fn lent(input: &mut Input<'_>) -> io::Result<TimeSlices> {
+        Ok(TimeSlices {
             arrivals: input.lent(0)?,
             requireds: input.lent(0)?,
             slacks: input.lent(0)?,
@@ -56,10 +56,10 @@ struct Case {
     n: u32,
     allowed: u32,
     node: u32,
-    of_copies: Times,
+    of_copies: TimeSlices,
     lent: Vec<i64>,
     known: Vec<u32>,
-    of_nodes: Times,
+    of_nodes: TimeSlices,
     starts: Vec<u32>,
     ends: Vec<u32>,
     early: Vec<i32>,
@@ -78,10 +78,10 @@ impl Case {
             n: input.number(),
             allowed: input.number(),
             node: input.number(),
-            of_copies: Times::lent(input)?,
+            of_copies: TimeSlices::lent(input)?,
             lent: input.lent(77)?,
             known: input.lent(0)?,
-            of_nodes: Times::lent(input)?,
+            of_nodes: TimeSlices::lent(input)?,
             starts: input.slice()?,
             ends: input.slice()?,
             early: input.delays()?,

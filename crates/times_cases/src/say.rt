@@ -1,7 +1,7 @@
 // What is printed of the answers.
 use print::refused;
 use std::io::{self, Write};
-use timing::{Times, Refusal};
+use timing::{Refusal, Times};
 
 // Of many copies or nodes the first 64 are printed, and then every 512th.
 fn printed(k: usize) -> bool {
