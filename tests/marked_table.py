@@ -310,7 +310,7 @@ def written_out(x):
     if x is None:
         return "None"
     assert isinstance(x, w.Times)
-    return applied("Times", *map(integer, x))
+    return applied("SomeTimes", *map(integer, x))
 
 
 def named(x):
@@ -340,7 +340,7 @@ def counts_text(call):
     try:
         return applied("Counts", *map(str, call()))
     except w.Refused as r:
-        return applied("NotMade", refusal_text(r.refusal))
+        return applied("Err", refusal_text(r.refusal))
 
 
 def lateness_text(call):
@@ -348,7 +348,7 @@ def lateness_text(call):
         copy = call()[0]
         return "OnTime" if copy is None else applied("Late", str(copy))
     except w.Refused as r:
-        return applied("NotTimed", refusal_text(r.refusal))
+        return applied("Err", refusal_text(r.refusal))
 
 
 def arrivals_after(call, length):
@@ -374,12 +374,12 @@ def read_text(data):
     try:
         return "Value %d %d" % w.read_number(data, 0)
     except w.Refused as r:
-        return applied("NotRead", refusal_text(r.refusal))
+        return applied("Err", refusal_text(r.refusal))
 
 
 def verdict_text(call):
     refusal = w.refusal_of(call)
-    return "Passed" if refusal is None else applied("Refused", refusal_text(refusal))
+    return "Passed" if refusal is None else applied("Err", refusal_text(refusal))
 
 
 def fact(kind, *given):
@@ -479,18 +479,14 @@ HEADER = """-- The marked cases of document 01, M1 to M10, and rows that shut ou
 use Prim.Native.Nat.{ℕ, suc}
 use mathlib.Core.Path.{◌≡◌, refl}
 use mathlib.Core.List.{List, [], ◌∷◌, map, flat_map}
+use Rattle.std.specs.Prelude.{Option, Result, Err, None}
+use Rattle.timing.specs.Answers.{Verdict, Passed, Counts, SomeTimes, Late, OnTime}
+use Rattle.timing.specs.declared.Taken.{Taken}
+use Rattle.timing.specs.declared.GraphCounts.{GraphCounts}
+use Rattle.timing.specs.declared.Times.{Times}
+use Rattle.timing.specs.declared.Refusal.{Refusal}
 use lib.IntN.{ℤ, pos, negsuc}
 use lib.ListN.{length, get_or}
-use Rattle.timing.specs.declared.Verdict.{Verdict}
-use Rattle.timing.specs.declared.Verdict.TheVariants.{Passed, Refused}
-use Rattle.timing.specs.declared.NumberRead.{NumberRead}
-use Rattle.timing.specs.declared.NumberRead.TheVariants.{Refused as NotRead}
-use Rattle.timing.specs.declared.NodeTimes.{NodeTimes}
-use Rattle.timing.specs.declared.NodeTimes.TheVariants.{Times, None}
-use Rattle.timing.specs.declared.GraphMade.{GraphMade}
-use Rattle.timing.specs.declared.GraphMade.TheVariants.{Counts, Refused as NotMade}
-use Rattle.timing.specs.declared.Lateness.{Lateness}
-use Rattle.timing.specs.declared.Lateness.TheVariants.{Late, OnTime, Refused as NotTimed}
 use Rattle.timing.specs.Lists.{upto}
 use Rattle.timing.specs.Graphs.{Design, design, edge, Graph, graph, design_graph, edges_in, edges_out}
 use Rattle.timing.specs.Graphs.{runs_to, runs_from, complete_runs}
@@ -515,15 +511,15 @@ removed G (L ∷ Ls) = removed (true_graph G (paths_of L)) Ls
 
 pub data Fact : Type 0 where
   graph_is : Design → List PathList → Graph → Fact
-  times_are : Design → ℕ → List PathList → List NodeTimes → Fact
-  nodes_are : Design → ℕ → List PathList → List NodeTimes → Fact
+  times_are : Design → ℕ → List PathList → List (Option Times) → Fact
+  nodes_are : Design → ℕ → List PathList → List (Option Times) → Fact
   removal_is : Design → Removal → Outcome Graph → Fact
   again_is : Design → Graph → Removal → Outcome Graph → Fact
   program_is : List ℕ → Outcome Graph → Fact
   c_call_is : List ℕ → ℕ → ℤ → Fact
   c_room_is : List ℕ → ℕ → List ℕ → Fact
   packed_is : ℕ → List ℕ → Fact
-  read_is : List ℕ → NumberRead → Fact
+  read_is : List ℕ → Result Taken Refusal → Fact
   reader_answers : List ℕ → List ℕ → Verdict → Fact
   times_answer : Design → Graph → ℕ → List ℕ → Verdict → Fact
   records_answer : ℕ → Graph → List ℕ → List ℕ → Verdict → Fact
@@ -531,9 +527,9 @@ pub data Fact : Type 0 where
   deck_writer_answers : Design → PathList → ℕ → Verdict → Fact
   graph_read_is : List ℕ → Room → Outcome Graph → Fact
   graph_writer_answers : GraphSlices → Verdict → Fact
-  size_is : Design → PathList → ℕ → GraphMade → Fact
-  size_again_is : Design → Graph → PathList → ℕ → GraphMade → Fact
-  late_is : Design → Graph → ℕ → ℕ → Lateness → List ℤ → Fact
+  size_is : Design → PathList → ℕ → Result GraphCounts Refusal → Fact
+  size_again_is : Design → Graph → PathList → ℕ → Result GraphCounts Refusal → Fact
+  late_is : Design → Graph → ℕ → ℕ → Result (Option ℕ) Refusal → List ℤ → Fact
 
 abbrev pub zeros : ℕ → List ℕ
 zeros n = map (λ i. 0) (upto n 0)
@@ -552,10 +548,10 @@ of_times D T R f =
     f (arrivals_after D S T Passed []) (requireds_after D S T Passed []) (slacks_after D S T Passed [])
     (earliests_after D S Passed [])
 
-abbrev copy_times : List ℤ → List ℤ → List ℤ → List ℤ → ℕ → NodeTimes
+abbrev copy_times : List ℤ → List ℤ → List ℤ → List ℤ → ℕ → Option Times
 copy_times arrivals requireds slacks earliests c =
     let at : List ℤ → ℤ = λ ts. get_or ts c (pos 0) in
-    Times (at arrivals) (at requireds) (at slacks) (at earliests)
+    SomeTimes (at arrivals) (at requireds) (at slacks) (at earliests)
 
 -- the k-th of some lent lengths, and a slice of times of that length
 abbrev lent : List ℕ → ℕ → ℕ
@@ -566,7 +562,7 @@ slice ls k = map (λ i. pos 0) (upto (lent ls k) 0)
 
 abbrev verdict_in : Outcome Deck → Verdict
 verdict_in (made d) = Passed
-verdict_in (refused r) = Refused r
+verdict_in (refused r) = Err r
 
 abbrev pub Holds : Fact → Type 0
 Holds (graph_is D Ls R) = removed (design_graph D) Ls ≡ R
@@ -598,7 +594,7 @@ Holds (size_again_is D G L words a) = graph_answer (size_from_graph D (slices_of
 Holds (late_is D G T n a ts) =
     let S = slices_of G in
     let answer = late_or_not D S T n in
-    ◌≡◌ {A = (x : Lateness) × List ℤ} (answer, arrivals_after_late D S T answer (map (λ i. pos 77) (upto n 0))) (a, ts)
+    ◌≡◌ {A = (x : Result (Option ℕ) Refusal) × List ℤ} (answer, arrivals_after_late D S T answer (map (λ i. pos 77) (upto n 0))) (a, ts)
 
 infixr 4 ◌also◌
 pub data All : List Fact → Type 0 where

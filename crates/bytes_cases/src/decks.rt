@@ -1,503 +1,172 @@
 // Decks: read into tables, and written to a room.
-use super::say;
-use cases::{Slice, fill, unpack};
-use entries::{front, front_delays, least};
-use packed_lists::take_number;
-use print::{refused, text};
-use std::io::{Result, Write};
+use crate::input::Input;
+use crate::say::{full, say_kept, table, written};
+use entries::front;
+use print::refused;
+use std::io::{self, Write};
 use timing::{DeckCounts, Refusal};
 
-// How much of the tables a deck fills; nothing after a refusal.
+// The tables that a reader is lent.
 #[derive(Drop)]
-struct Counts {
-    edges: usize,
-    listed: usize,
-    paths: usize,
-    marked: usize,
+struct Tables {
+    starts: Vec<u32>,
+    ends: Vec<u32>,
+    early: Vec<i32>,
+    late: Vec<i32>,
+    listed: Vec<u32>,
+    lengths: Vec<u32>,
+    marked: Vec<u32>,
 }
 
-fn pack(delays: &[i32], codes: &mut [u32]) {
-    let len = least(delays.len(), codes.len());
-    for k in 0..len {
-        codes[k] = packed_delays::pack_delay(delays[k]);
-    }
-}
-
-fn say_tables<W: Write>(
-    out: &mut W,
-    c: Counts,
-    starts: &[u32],
-    ends: &[u32],
-    early: &[u32],
-    late: &[u32],
-    listed: &[u32],
-    lengths: &[u32],
-    marked: &[u32],
-) -> Result<()> {
-    let k = say::three_kept(starts, ends, early, c.edges);
-    let k = say::words_kept(k, late, c.edges);
-    let k = say::words_kept(k, listed, c.listed);
-    let k = say::words_kept(k, lengths, c.paths);
-    let k = say::words_kept(k, marked, c.marked);
-    say::table(out, starts, c.edges)?;
-    say::table(out, ends, c.edges)?;
-    say::table(out, early, c.edges)?;
-    say::table(out, late, c.edges)?;
-    say::table(out, listed, c.listed)?;
-    say::table(out, lengths, c.paths)?;
-    say::table(out, marked, c.marked)?;
-    say::kept(out, k)
-}
-
-// The same, with the delays as packed numbers.
-fn say_deck<W: Write>(
-    out: &mut W,
-    c: Counts,
-    starts: &[u32],
-    ends: &[u32],
-    early: &[i32],
-    late: &[i32],
-    listed: &[u32],
-    lengths: &[u32],
-    marked: &[u32],
-) -> Result<()> {
-    let mut early_codes = [0u32; 16400];
-    let mut late_codes = [0u32; 16400];
-    pack(early, &mut early_codes);
-    pack(late, &mut late_codes);
-    say_tables(
-        out,
-        c,
-        starts,
-        ends,
-        front(&early_codes, early.len()),
-        front(&late_codes, late.len()),
-        listed,
-        lengths,
-        marked,
-    )
-}
-
-// What the reader answered: n, the counts and T.
-fn say_answer<W: Write>(out: &mut W, answer: Result<DeckCounts, Refusal>) -> Result<Counts> {
-    match answer {
-        Ok(DeckCounts {
-            nodes,
-            edges,
-            listed,
-            paths,
-            marked,
-            allowed,
-        }) => {
-            text(out, b"deck")?;
-            print::spaced(out, nodes as u64)?;
-            print::spaced(out, edges as u64)?;
-            print::spaced(out, listed as u64)?;
-            print::spaced(out, paths as u64)?;
-            print::spaced(out, marked as u64)?;
-            print::spaced(out, allowed as u64)?;
-            Ok(Counts {
-                edges,
-                listed,
-                paths,
-                marked,
-            })
-        }
-        Err(r) => {
-            refused(out, r)?;
-            Ok(Counts {
-                edges: 0,
-                listed: 0,
-                paths: 0,
-                marked: 0,
-            })
-        }
-    }
-}
-
-// Writes a deck, and prints the answer.
-fn write<W: Write>(
-    out: &mut W,
+// A deck: n, T and its seven slices.
+#[derive(Clone, Copy)]
+struct Deck<'a> {
     n: u32,
     allowed: u32,
-    starts: &[u32],
-    ends: &[u32],
-    early: &[i32],
-    late: &[i32],
-    listed: &[u32],
-    lengths: &[u32],
-    marked: &[u32],
-    room: &mut [u8],
-) -> Result<Result<usize, Refusal>> {
-    let w = deck_writer::write_deck(
-        n, starts, ends, early, late, marked, listed, lengths, allowed, room,
-    );
-    text(out, b"write ")?;
-    say::written(out, w, room)?;
-    Ok(w)
+    starts: &'a [u32],
+    ends: &'a [u32],
+    early: &'a [i32],
+    late: &'a [i32],
+    listed: &'a [u32],
+    lengths: &'a [u32],
+    marked: &'a [u32],
 }
 
-// Writes what was read to a room as long as the bytes that were read.
-fn write_again<W: Write>(
-    out: &mut W,
-    n: u32,
-    allowed: u32,
-    starts: &[u32],
-    ends: &[u32],
-    early: &[i32],
-    late: &[i32],
-    listed: &[u32],
-    lengths: &[u32],
-    marked: &[u32],
-    size: usize,
-) -> Result<()> {
-    let mut room = say::byte_room();
-    let len = least(size, 65536);
-    write(
-        out,
-        n,
-        allowed,
-        starts,
-        ends,
-        early,
-        late,
-        listed,
-        lengths,
-        marked,
-        &mut room[..len],
-    )?;
-    Ok(())
-}
+// What a refusal fills of the tables.
+const NOTHING: DeckCounts = DeckCounts {
+    nodes: 0,
+    edges: 0,
+    listed: 0,
+    paths: 0,
+    marked: 0,
+    allowed: 0,
+};
 
-fn write_answer<W: Write>(
-    out: &mut W,
-    r: Result<DeckCounts, Refusal>,
-    starts: &[u32],
-    ends: &[u32],
-    early: &[i32],
-    late: &[i32],
-    listed: &[u32],
-    lengths: &[u32],
-    marked: &[u32],
-    size: usize,
-) -> Result<()> {
-    match r {
-        Ok(DeckCounts {
-            nodes,
-            edges,
-            listed: count,
-            paths,
-            marked: marked_count,
-            allowed,
-        }) => {
-            write_again(
-                out,
-                nodes,
-                allowed,
-                front(starts, edges),
-                front(ends, edges),
-                front_delays(early, edges),
-                front_delays(late, edges),
-                front(listed, count),
-                front(lengths, paths),
-                front(marked, marked_count),
-                size,
-            )?;
+impl Tables {
+    fn read(&mut self, bytes: &[u8]) -> Result<DeckCounts, Refusal> {
+        deck_reader::read_deck(
+            bytes,
+            &mut self.starts,
+            &mut self.ends,
+            &mut self.early,
+            &mut self.late,
+            &mut self.listed,
+            &mut self.lengths,
+            &mut self.marked,
+        )
+    }
+
+    // The deck that was read.
+    fn deck(&self, c: DeckCounts) -> Deck<'_> {
+        Deck {
+            n: c.nodes,
+            allowed: c.allowed,
+            starts: front(&self.starts, c.edges),
+            ends: front(&self.ends, c.edges),
+            early: front(&self.early, c.edges),
+            late: front(&self.late, c.edges),
+            listed: front(&self.listed, c.listed),
+            lengths: front(&self.lengths, c.paths),
+            marked: front(&self.marked, c.marked),
         }
-        Err(_) => {}
     }
-    Ok(())
+
+    fn say<W: Write>(&self, out: &mut W, c: DeckCounts) -> io::Result<()> {
+        let mut kept = 0;
+        table(out, &self.starts, c.edges, &mut kept)?;
+        table(out, &self.ends, c.edges, &mut kept)?;
+        table(out, &self.early, c.edges, &mut kept)?;
+        table(out, &self.late, c.edges, &mut kept)?;
+        table(out, &self.listed, c.listed, &mut kept)?;
+        table(out, &self.lengths, c.paths, &mut kept)?;
+        table(out, &self.marked, c.marked, &mut kept)?;
+        say_kept(out, kept)
+    }
 }
 
-// Prints what was read from so many bytes, and where it is asked for writes it again.
-fn say_read<W: Write>(
-    out: &mut W,
-    r: Result<DeckCounts, Refusal>,
-    again: bool,
-    size: usize,
-    starts: &[u32],
-    ends: &[u32],
-    early: &[i32],
-    late: &[i32],
-    listed: &[u32],
-    lengths: &[u32],
-    marked: &[u32],
-) -> Result<()> {
-    let c = say_answer(out, r)?;
-    say_deck(out, c, starts, ends, early, late, listed, lengths, marked)?;
-    if again {
-        write_answer(
-            out, r, starts, ends, early, late, listed, lengths, marked, size,
-        )?;
-    }
-    Ok(())
-}
-
+// Reads a deck, and prints the answer and the tables. Gives what was read.
 fn read<W: Write>(
     out: &mut W,
-    s: &[u8],
-    again: bool,
-    starts: &mut [u32],
-    ends: &mut [u32],
-    early: &mut [i32],
-    late: &mut [i32],
-    listed: &mut [u32],
-    lengths: &mut [u32],
-    marked: &mut [u32],
-) -> Result<()> {
-    let r = deck_reader::read_deck(s, starts, ends, early, late, listed, lengths, marked);
-    say_read(
-        out,
-        r,
-        again,
-        s.len(),
-        starts,
-        ends,
-        early,
-        late,
-        listed,
-        lengths,
-        marked,
-    )
-}
-
-// The lengths of the tables, how many bytes there are, and the place of the first.
-#[derive(Drop)]
-struct Sizes {
-    starts: usize,
-    ends: usize,
-    early: usize,
-    late: usize,
-    listed: usize,
-    lengths: usize,
-    marked: usize,
-    bytes: usize,
-    next: usize,
-}
-
-fn read_sizes(s: &[u8], at: usize) -> Sizes {
-    let a = take_number(s, at);
-    let b = take_number(s, a.next);
-    let c = take_number(s, b.next);
-    let d = take_number(s, c.next);
-    let e = take_number(s, d.next);
-    let f = take_number(s, e.next);
-    let g = take_number(s, f.next);
-    let h = take_number(s, g.next);
-    Sizes {
-        starts: a.value as usize,
-        ends: b.value as usize,
-        early: c.value as usize,
-        late: d.value as usize,
-        listed: e.value as usize,
-        lengths: f.value as usize,
-        marked: g.value as usize,
-        bytes: h.value as usize,
-        next: h.next,
+    bytes: &[u8],
+    tables: &mut Tables,
+) -> io::Result<Option<DeckCounts>> {
+    let answer = tables.read(bytes);
+    match answer {
+        Ok(c) => write!(
+            out,
+            "deck {} {} {} {} {} {}",
+            c.nodes, c.edges, c.listed, c.paths, c.marked, c.allowed
+        )?,
+        Err(r) => refused(out, r)?,
     }
+    tables.say(out, answer.unwrap_or(NOTHING))?;
+    Ok(answer.ok())
 }
 
-// Reads into tables of these lengths.
-fn read_sized<W: Write>(out: &mut W, s: &[u8], again: bool, q: Sizes) -> Result<()> {
-    let mut starts = [say::WORD; 16400];
-    let mut ends = [say::WORD; 16400];
-    let mut early = [say::DELAY; 16400];
-    let mut late = [say::DELAY; 16400];
-    let mut listed = [say::WORD; 8200];
-    let mut lengths = [say::WORD; 1040];
-    let mut marked = [say::WORD; 4200];
-    let a = least(q.starts, 16400);
-    let b = least(q.ends, 16400);
-    let c = least(q.early, 16400);
-    let d = least(q.late, 16400);
-    let e = least(q.listed, 8200);
-    let f = least(q.lengths, 1040);
-    let g = least(q.marked, 4200);
-    read(
-        out,
-        s,
-        again,
-        &mut starts[..a],
-        &mut ends[..b],
-        &mut early[..c],
-        &mut late[..d],
-        &mut listed[..e],
-        &mut lengths[..f],
-        &mut marked[..g],
-    )
+// Writes a deck, and prints the answer and the room. Gives the place behind what was written.
+fn write<W: Write>(out: &mut W, d: Deck<'_>, room: &mut [u8]) -> io::Result<Option<usize>> {
+    let answer = deck_writer::write_deck(
+        d.n, d.starts, d.ends, d.early, d.late, d.marked, d.listed, d.lengths, d.allowed, room,
+    );
+    write!(out, "write ")?;
+    written(out, answer, room)?;
+    Ok(answer.ok())
 }
 
-pub(crate) fn read_case<W: Write>(out: &mut W, s: &[u8], at: usize) -> Result<usize> {
-    let q = read_sizes(s, at);
-    let start = least(q.next, s.len());
-    let len = least(q.bytes, s.len() - start);
-    let end = start + len;
-    read_sized(out, &s[start..end], true, q)?;
-    Ok(end)
-}
-
-// Reads what was written, into tables as long as the deck.
-fn read_back<W: Write>(
-    out: &mut W,
-    s: &[u8],
-    edges: usize,
-    listed: usize,
-    paths: usize,
-    marked: usize,
-) -> Result<()> {
-    let q = Sizes {
-        starts: edges,
-        ends: edges,
-        early: edges,
-        late: edges,
-        listed,
-        lengths: paths,
-        marked,
-        bytes: s.len(),
-        next: 0,
+// What was read is written to a room as long as the bytes that were read.
+pub(crate) fn read_case<W: Write>(out: &mut W, input: &mut Input<'_>) -> io::Result<()> {
+    let mut tables = Tables {
+        starts: input.lent(16400)?,
+        ends: input.lent(16400)?,
+        early: input.lent(16400)?,
+        late: input.lent(16400)?,
+        listed: input.lent(8200)?,
+        lengths: input.lent(1040)?,
+        marked: input.lent(4200)?,
     };
-    read_sized(out, s, false, q)
-}
-
-fn write_and_read<W: Write>(
-    out: &mut W,
-    n: u32,
-    allowed: u32,
-    starts: &[u32],
-    ends: &[u32],
-    early: &[i32],
-    late: &[i32],
-    listed: &[u32],
-    lengths: &[u32],
-    marked: &[u32],
-    room: &mut [u8],
-) -> Result<()> {
-    let w = write(
-        out, n, allowed, starts, ends, early, late, listed, lengths, marked, room,
-    )?;
-    match w {
-        Ok(end) => {
-            let len = least(end, room.len());
-            read_back(
-                out,
-                &room[..len],
-                starts.len(),
-                listed.len(),
-                lengths.len(),
-                marked.len(),
-            )?;
-        }
-        Err(_) => {}
+    let bytes = input.bytes();
+    if let Some(counts) = read(out, bytes, &mut tables)? {
+        let mut room = full(input.alloc, bytes.len())?;
+        write(out, tables.deck(counts), &mut room)?;
     }
     Ok(())
 }
 
-// n, T and the length of the room, and the place behind them.
-#[derive(Drop)]
-struct Asked {
-    n: u32,
-    allowed: u32,
-    room: u32,
-    next: usize,
-}
-
-fn read_asked(s: &[u8], at: usize) -> Asked {
-    let n = take_number(s, at);
-    let allowed = take_number(s, n.next);
-    let room = take_number(s, allowed.next);
-    Asked {
-        n: n.value,
-        allowed: allowed.value,
-        room: room.value,
-        next: room.next,
+// What was written is read into tables as long as the deck.
+pub(crate) fn write_case<W: Write>(out: &mut W, input: &mut Input<'_>) -> io::Result<()> {
+    let alloc = input.alloc;
+    let n = input.number();
+    let allowed = input.number();
+    let mut room = input.lent(131072)?;
+    let starts = input.slice(16400)?;
+    let ends = input.slice(16400)?;
+    let early = input.delays(16400)?;
+    let late = input.delays(16400)?;
+    let listed = input.slice(8200)?;
+    let lengths = input.slice(1040)?;
+    let marked = input.slice(4200)?;
+    let deck = Deck {
+        n,
+        allowed,
+        starts: &starts,
+        ends: &ends,
+        early: &early,
+        late: &late,
+        listed: &listed,
+        lengths: &lengths,
+        marked: &marked,
+    };
+    if let Some(end) = write(out, deck, &mut room)? {
+        let mut tables = Tables {
+            starts: full(alloc, starts.len())?,
+            ends: full(alloc, starts.len())?,
+            early: full(alloc, starts.len())?,
+            late: full(alloc, starts.len())?,
+            listed: full(alloc, listed.len())?,
+            lengths: full(alloc, lengths.len())?,
+            marked: full(alloc, marked.len())?,
+        };
+        read(out, &room[..end.min(room.len())], &mut tables)?;
     }
-}
-
-fn write_sized<W: Write>(
-    out: &mut W,
-    q: Asked,
-    starts: &[u32],
-    ends: &[u32],
-    early: &[i32],
-    late: &[i32],
-    listed: &[u32],
-    lengths: &[u32],
-    marked: &[u32],
-) -> Result<()> {
-    let mut room = say::deck_room();
-    let len = least(q.room as usize, 131072);
-    write_and_read(
-        out,
-        q.n,
-        q.allowed,
-        starts,
-        ends,
-        early,
-        late,
-        listed,
-        lengths,
-        marked,
-        &mut room[..len],
-    )
-}
-
-// Delays from their packed numbers.
-fn fill_delays(s: &[u8], at: usize, delays: &mut [i32]) -> Slice {
-    let mut codes = [0u32; 16400];
-    let c = fill(s, at, &mut codes);
-    unpack(front(&codes, c.len), delays);
-    c
-}
-
-// Writes the deck whose list and marked nodes stand at a place, and answers the place behind them.
-fn write_at<W: Write>(
-    out: &mut W,
-    s: &[u8],
-    at: usize,
-    q: Asked,
-    starts: &[u32],
-    ends: &[u32],
-    early: &[i32],
-    late: &[i32],
-) -> Result<usize> {
-    let mut listed = [0u32; 8200];
-    let mut lengths = [0u32; 1040];
-    let mut marked = [0u32; 4200];
-    let a = fill(s, at, &mut listed);
-    let b = fill(s, a.next, &mut lengths);
-    let c = fill(s, b.next, &mut marked);
-    write_sized(
-        out,
-        q,
-        starts,
-        ends,
-        early,
-        late,
-        front(&listed, a.len),
-        front(&lengths, b.len),
-        front(&marked, c.len),
-    )?;
-    Ok(c.next)
-}
-
-pub(crate) fn write_case<W: Write>(out: &mut W, s: &[u8], at: usize) -> Result<usize> {
-    let q = read_asked(s, at);
-    let mut starts = [0u32; 16400];
-    let mut ends = [0u32; 16400];
-    let mut early = [0i32; 16400];
-    let mut late = [0i32; 16400];
-    let a = fill(s, q.next, &mut starts);
-    let b = fill(s, a.next, &mut ends);
-    let c = fill_delays(s, b.next, &mut early);
-    let d = fill_delays(s, c.next, &mut late);
-    write_at(
-        out,
-        s,
-        d.next,
-        q,
-        front(&starts, a.len),
-        front(&ends, b.len),
-        front_delays(&early, c.len),
-        front_delays(&late, d.len),
-    )
+    Ok(())
 }

@@ -1,313 +1,132 @@
 // Graphs: read into a room, and written to one.
-use super::say;
-use cases::fill;
-use entries::{front, least};
-use packed_lists::take_number;
-use print::{refused, text};
-use std::io::{Result, Write};
+use crate::input::Input;
+use crate::say::{full, say_kept, table, written};
+use entries::front;
+use print::refused;
+use std::io::{self, Write};
 use timing::{GraphCounts, Refusal};
 
-// How much of the room a graph fills; nothing after a refusal.
+// The room that a reader is lent.
 #[derive(Drop)]
-struct Counts {
-    copies: usize,
-    edges: usize,
+struct Room {
+    nodes: Vec<u32>,
+    endpoint: Vec<u32>,
+    from: Vec<u32>,
+    to: Vec<u32>,
+    via: Vec<u32>,
 }
 
-fn say_answer<W: Write>(out: &mut W, answer: Result<GraphCounts, Refusal>) -> Result<Counts> {
+// A graph's five slices.
+#[derive(Clone, Copy)]
+struct Graph<'a> {
+    nodes: &'a [u32],
+    endpoint: &'a [u32],
+    from: &'a [u32],
+    to: &'a [u32],
+    via: &'a [u32],
+}
+
+// What a refusal fills of the room.
+const NOTHING: GraphCounts = GraphCounts {
+    copies: 0,
+    edges: 0,
+};
+
+impl Room {
+    fn read(&mut self, bytes: &[u8]) -> Result<GraphCounts, Refusal> {
+        graph_reader::read_graph(
+            bytes,
+            &mut self.nodes,
+            &mut self.endpoint,
+            &mut self.from,
+            &mut self.to,
+            &mut self.via,
+        )
+    }
+
+    // The graph that was read.
+    fn graph(&self, c: GraphCounts) -> Graph<'_> {
+        Graph {
+            nodes: front(&self.nodes, c.copies),
+            endpoint: front(&self.endpoint, c.copies),
+            from: front(&self.from, c.edges),
+            to: front(&self.to, c.edges),
+            via: front(&self.via, c.edges),
+        }
+    }
+
+    fn say<W: Write>(&self, out: &mut W, c: GraphCounts) -> io::Result<()> {
+        let mut kept = 0;
+        table(out, &self.nodes, c.copies, &mut kept)?;
+        table(out, &self.endpoint, c.copies, &mut kept)?;
+        table(out, &self.from, c.edges, &mut kept)?;
+        table(out, &self.to, c.edges, &mut kept)?;
+        table(out, &self.via, c.edges, &mut kept)?;
+        say_kept(out, kept)
+    }
+}
+
+// Reads a graph, and prints the answer and the room. Gives what was read.
+fn read<W: Write>(out: &mut W, bytes: &[u8], room: &mut Room) -> io::Result<Option<GraphCounts>> {
+    let answer = room.read(bytes);
     match answer {
-        Ok(GraphCounts { copies, edges }) => {
-            text(out, b"graph")?;
-            print::spaced(out, copies as u64)?;
-            print::spaced(out, edges as u64)?;
-            Ok(Counts { copies, edges })
-        }
-        Err(r) => {
-            refused(out, r)?;
-            Ok(Counts {
-                copies: 0,
-                edges: 0,
-            })
-        }
+        Ok(c) => write!(out, "graph {} {}", c.copies, c.edges)?,
+        Err(r) => refused(out, r)?,
     }
+    room.say(out, answer.unwrap_or(NOTHING))?;
+    Ok(answer.ok())
 }
 
-fn say_graph<W: Write>(
-    out: &mut W,
-    c: Counts,
-    room_nodes: &[u32],
-    room_endpoint: &[u32],
-    room_from: &[u32],
-    room_to: &[u32],
-    room_via: &[u32],
-) -> Result<()> {
-    let k = say::three_kept(room_from, room_to, room_via, c.edges);
-    let k = say::words_kept(k, room_nodes, c.copies);
-    let k = say::words_kept(k, room_endpoint, c.copies);
-    say::table(out, room_nodes, c.copies)?;
-    say::table(out, room_endpoint, c.copies)?;
-    say::table(out, room_from, c.edges)?;
-    say::table(out, room_to, c.edges)?;
-    say::table(out, room_via, c.edges)?;
-    say::kept(out, k)
+// Writes a graph, and prints the answer and the room. Gives the place behind what was written.
+fn write<W: Write>(out: &mut W, g: Graph<'_>, room: &mut [u8]) -> io::Result<Option<usize>> {
+    let answer = graph_writer::write_graph(g.nodes, g.endpoint, g.from, g.to, g.via, room);
+    write!(out, "write ")?;
+    written(out, answer, room)?;
+    Ok(answer.ok())
 }
 
-// Writes a graph, and prints the answer.
-fn write<W: Write>(
-    out: &mut W,
-    nodes: &[u32],
-    endpoint: &[u32],
-    from: &[u32],
-    to: &[u32],
-    via: &[u32],
-    room: &mut [u8],
-) -> Result<Result<usize, Refusal>> {
-    let w = graph_writer::write_graph(nodes, endpoint, from, to, via, room);
-    text(out, b"write ")?;
-    say::written(out, w, room)?;
-    Ok(w)
-}
-
-// Writes what was read to a room as long as the bytes that were read.
-fn write_again<W: Write>(
-    out: &mut W,
-    nodes: &[u32],
-    endpoint: &[u32],
-    from: &[u32],
-    to: &[u32],
-    via: &[u32],
-    size: usize,
-) -> Result<()> {
-    let mut room = say::byte_room();
-    let len = least(size, 65536);
-    write(out, nodes, endpoint, from, to, via, &mut room[..len])?;
-    Ok(())
-}
-
-fn write_answer<W: Write>(
-    out: &mut W,
-    r: Result<GraphCounts, Refusal>,
-    room_nodes: &[u32],
-    room_endpoint: &[u32],
-    room_from: &[u32],
-    room_to: &[u32],
-    room_via: &[u32],
-    size: usize,
-) -> Result<()> {
-    match r {
-        Ok(GraphCounts { copies, edges }) => {
-            write_again(
-                out,
-                front(room_nodes, copies),
-                front(room_endpoint, copies),
-                front(room_from, edges),
-                front(room_to, edges),
-                front(room_via, edges),
-                size,
-            )?;
-        }
-        Err(_) => {}
-    }
-    Ok(())
-}
-
-// Prints what was read from so many bytes, and where it is asked for writes it again.
-fn say_read<W: Write>(
-    out: &mut W,
-    r: Result<GraphCounts, Refusal>,
-    again: bool,
-    size: usize,
-    room_nodes: &[u32],
-    room_endpoint: &[u32],
-    room_from: &[u32],
-    room_to: &[u32],
-    room_via: &[u32],
-) -> Result<()> {
-    let c = say_answer(out, r)?;
-    say_graph(
-        out,
-        c,
-        room_nodes,
-        room_endpoint,
-        room_from,
-        room_to,
-        room_via,
-    )?;
-    if again {
-        write_answer(
-            out,
-            r,
-            room_nodes,
-            room_endpoint,
-            room_from,
-            room_to,
-            room_via,
-            size,
-        )?;
-    }
-    Ok(())
-}
-
-fn read<W: Write>(
-    out: &mut W,
-    s: &[u8],
-    again: bool,
-    room_nodes: &mut [u32],
-    room_endpoint: &mut [u32],
-    room_from: &mut [u32],
-    room_to: &mut [u32],
-    room_via: &mut [u32],
-) -> Result<()> {
-    let r = graph_reader::read_graph(s, room_nodes, room_endpoint, room_from, room_to, room_via);
-    say_read(
-        out,
-        r,
-        again,
-        s.len(),
-        room_nodes,
-        room_endpoint,
-        room_from,
-        room_to,
-        room_via,
-    )
-}
-
-// The lengths of the room's slices, how many bytes there are, and the place of the first.
-#[derive(Drop)]
-struct Sizes {
-    nodes: usize,
-    endpoint: usize,
-    from: usize,
-    to: usize,
-    via: usize,
-    bytes: usize,
-    next: usize,
-}
-
-fn read_sizes(s: &[u8], at: usize) -> Sizes {
-    let a = take_number(s, at);
-    let b = take_number(s, a.next);
-    let c = take_number(s, b.next);
-    let d = take_number(s, c.next);
-    let e = take_number(s, d.next);
-    let f = take_number(s, e.next);
-    Sizes {
-        nodes: a.value as usize,
-        endpoint: b.value as usize,
-        from: c.value as usize,
-        to: d.value as usize,
-        via: e.value as usize,
-        bytes: f.value as usize,
-        next: f.next,
-    }
-}
-
-// Reads into a room of these lengths.
-fn read_sized<W: Write>(out: &mut W, s: &[u8], again: bool, q: Sizes) -> Result<()> {
-    let mut room_nodes = [say::WORD; 16400];
-    let mut room_endpoint = [say::WORD; 16400];
-    let mut room_from = say::edge_table();
-    let mut room_to = say::edge_table();
-    let mut room_via = say::edge_table();
-    let a = least(q.nodes, 16400);
-    let b = least(q.endpoint, 16400);
-    let c = least(q.from, 65600);
-    let d = least(q.to, 65600);
-    let e = least(q.via, 65600);
-    read(
-        out,
-        s,
-        again,
-        &mut room_nodes[..a],
-        &mut room_endpoint[..b],
-        &mut room_from[..c],
-        &mut room_to[..d],
-        &mut room_via[..e],
-    )
-}
-
-pub(crate) fn read_case<W: Write>(out: &mut W, s: &[u8], at: usize) -> Result<usize> {
-    let q = read_sizes(s, at);
-    let start = least(q.next, s.len());
-    let len = least(q.bytes, s.len() - start);
-    let end = start + len;
-    read_sized(out, &s[start..end], true, q)?;
-    Ok(end)
-}
-
-// Reads what was written, into a room as long as the graph.
-fn read_back<W: Write>(out: &mut W, s: &[u8], copies: usize, edges: usize) -> Result<()> {
-    let q = Sizes {
-        nodes: copies,
-        endpoint: copies,
-        from: edges,
-        to: edges,
-        via: edges,
-        bytes: s.len(),
-        next: 0,
+// What was read is written to a room as long as the bytes that were read.
+pub(crate) fn read_case<W: Write>(out: &mut W, input: &mut Input<'_>) -> io::Result<()> {
+    let mut room = Room {
+        nodes: input.lent(16400)?,
+        endpoint: input.lent(16400)?,
+        from: input.lent(65600)?,
+        to: input.lent(65600)?,
+        via: input.lent(65600)?,
     };
-    read_sized(out, s, false, q)
-}
-
-fn write_and_read<W: Write>(
-    out: &mut W,
-    nodes: &[u32],
-    endpoint: &[u32],
-    from: &[u32],
-    to: &[u32],
-    via: &[u32],
-    room: &mut [u8],
-) -> Result<()> {
-    let w = write(out, nodes, endpoint, from, to, via, room)?;
-    match w {
-        Ok(end) => {
-            let len = least(end, room.len());
-            read_back(out, &room[..len], nodes.len(), from.len())?;
-        }
-        Err(_) => {}
+    let bytes = input.bytes();
+    if let Some(counts) = read(out, bytes, &mut room)? {
+        let mut byte_room = full(input.alloc, bytes.len())?;
+        write(out, room.graph(counts), &mut byte_room)?;
     }
     Ok(())
 }
 
-fn write_sized<W: Write>(
-    out: &mut W,
-    size: u32,
-    nodes: &[u32],
-    endpoint: &[u32],
-    from: &[u32],
-    to: &[u32],
-    via: &[u32],
-) -> Result<()> {
-    let mut room = say::graph_room();
-    let len = least(size as usize, 393216);
-    write_and_read(out, nodes, endpoint, from, to, via, &mut room[..len])
-}
-
-// Writes the graph at a place to a room of a size, and answers the place behind the graph.
-fn write_at<W: Write>(out: &mut W, s: &[u8], at: usize, size: u32) -> Result<usize> {
-    let mut nodes = [0u32; 16400];
-    let mut endpoint = [0u32; 16400];
-    let mut from = say::edge_table();
-    let mut to = say::edge_table();
-    let mut via = say::edge_table();
-    let a = fill(s, at, &mut nodes);
-    let b = fill(s, a.next, &mut endpoint);
-    let c = fill(s, b.next, &mut from);
-    let d = fill(s, c.next, &mut to);
-    let e = fill(s, d.next, &mut via);
-    write_sized(
-        out,
-        size,
-        front(&nodes, a.len),
-        front(&endpoint, b.len),
-        front(&from, c.len),
-        front(&to, d.len),
-        front(&via, e.len),
-    )?;
-    Ok(e.next)
-}
-
-pub(crate) fn write_case<W: Write>(out: &mut W, s: &[u8], at: usize) -> Result<usize> {
-    let r = take_number(s, at);
-    write_at(out, s, r.next, r.value)
+// What was written is read into a room as long as the graph.
+pub(crate) fn write_case<W: Write>(out: &mut W, input: &mut Input<'_>) -> io::Result<()> {
+    let alloc = input.alloc;
+    let mut byte_room = input.lent(393216)?;
+    let nodes = input.slice(16400)?;
+    let endpoint = input.slice(16400)?;
+    let from = input.slice(65600)?;
+    let to = input.slice(65600)?;
+    let via = input.slice(65600)?;
+    let graph = Graph {
+        nodes: &nodes,
+        endpoint: &endpoint,
+        from: &from,
+        to: &to,
+        via: &via,
+    };
+    if let Some(end) = write(out, graph, &mut byte_room)? {
+        let mut room = Room {
+            nodes: full(alloc, nodes.len())?,
+            endpoint: full(alloc, nodes.len())?,
+            from: full(alloc, from.len())?,
+            to: full(alloc, from.len())?,
+            via: full(alloc, from.len())?,
+        };
+        read(out, &byte_room[..end.min(byte_room.len())], &mut room)?;
+    }
+    Ok(())
 }

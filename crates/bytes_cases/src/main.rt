@@ -10,11 +10,12 @@
 // Crate `cases` says how a slice is packed.
 #![tactic(auto)]
 
-use packed_lists::take_number;
-use std::io::{BufWriter, Read, Result, Write};
+use input::Input;
+use std::io::{self, BufWriter, Read, Write};
 
 mod decks;
 mod graphs;
+mod input;
 mod say;
 
 // How many bytes a block of the input has, and how many blocks there are at most.
@@ -22,37 +23,29 @@ const BLOCK: u64 = 65536;
 
 const BLOCKS: u32 = 8;
 
-fn case<W: Write>(out: &mut W, s: &[u8], at: usize) -> Result<usize> {
-    let kind = take_number(s, at);
-    let k = kind.value;
-    let next = kind.next;
-    match k {
-        0 => decks::read_case(out, s, next),
-        1 => decks::write_case(out, s, next),
-        2 => graphs::read_case(out, s, next),
-        _ => graphs::write_case(out, s, next),
+fn case<W: Write>(out: &mut W, input: &mut Input<'_>) -> io::Result<()> {
+    match input.number() {
+        0 => decks::read_case(out, input),
+        1 => decks::write_case(out, input),
+        2 => graphs::read_case(out, input),
+        _ => graphs::write_case(out, input),
     }
 }
 
-fn run<W: Write>(out: &mut W, s: &[u8]) -> Result<()> {
-    let count = take_number(s, 0);
-    let mut at = count.next;
-    for _ in 0..count.value {
-        at = case(out, s, at)?;
+fn run_block<W: Write>(rt: &HostRuntime, out: &mut W) -> io::Result<()> {
+    let mut block = Vec::new(rt.alloc());
+    rt.stdin().take(BLOCK).read_to_end(&mut block)?;
+    let mut input = Input::new(rt.alloc(), &block);
+    for _ in 0..input.number() {
+        case(out, &mut input)?;
     }
     Ok(())
 }
 
-fn block<W: Write>(rt: &HostRuntime, out: &mut W) -> Result<()> {
-    let mut input = Vec::new(rt.alloc());
-    rt.stdin().take(BLOCK).read_to_end(&mut input)?;
-    run(out, &input)
-}
-
-fn main(rt: HostRuntime) -> Result<()> {
+fn main(rt: HostRuntime) -> io::Result<()> {
     let mut out = BufWriter::new(rt.alloc(), rt.stdout())?;
     for _ in 0..BLOCKS {
-        block(&rt, &mut out)?;
+        run_block(&rt, &mut out)?;
     }
     out.flush()
 }

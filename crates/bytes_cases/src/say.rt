@@ -1,159 +1,119 @@
 // What is printed of the lent slices. Before a call they hold a pattern; how many places hold it
 // afterwards is printed as "kept".
-ghost use Rattle.std.specs.Prelude.{◌≡◌, ◌<◌, length};
+ghost use Rattle.std.specs.Prelude.{◌<◌};
 
-use entries::{front, least};
-use print::{refused, text};
-use std::io::{Result, Write};
-use std::num::wrapping_add_u32;
+use packed_delays::pack_delay;
+use print::refused;
+use std::alloc::Global;
+use std::io::{self, Write};
 use timing::Refusal;
 
-pub(crate) const WORD: u32 = 0xA5A5A5A5;
-// Packed, it is the pattern of the words.
-pub(crate) const DELAY: i32 = -1389548243;
-
-pub(crate) const BYTE: u8 = 0xA5;
 // Longer slices are printed by a checksum.
 const LONGEST: usize = 24;
 
-// Large tables and rooms, full of the pattern.
-pub(crate) fn edge_table() -> [u32; 65600]
-    ensures { 65600 ≡ length result }
-{
-    [WORD; 65600]
+// What stands in a lent slice.
+pub(crate) trait Item: Copy + PartialEq {
+    const PATTERN: Self;
+
+    // The number that is printed for it.
+    fn code(self) -> u32;
+
+    fn say<W: Write>(self, out: &mut W) -> io::Result<()> {
+        write!(out, " {}", self.code())
+    }
 }
 
-pub(crate) fn byte_room() -> [u8; 65536]
-    ensures { 65536 ≡ length result }
-{
-    [BYTE; 65536]
+impl Item for u32 {
+    const PATTERN: u32 = 0xA5A5A5A5;
+
+    fn code(self) -> u32 {
+        self
+    }
 }
 
-pub(crate) fn deck_room() -> [u8; 131072]
-    ensures { 131072 ≡ length result }
-{
-    [BYTE; 131072]
+// A delay, by its packed number.
+impl Item for i32 {
+    // Packed, it is the pattern of the words.
+    const PATTERN: i32 = -1389548243;
+
+    fn code(self) -> u32 {
+        pack_delay(self)
+    }
 }
 
-pub(crate) fn graph_room() -> [u8; 393216]
-    ensures { 393216 ≡ length result }
-{
-    [BYTE; 393216]
+impl Item for u8 {
+    const PATTERN: u8 = 0xA5;
+
+    fn code(self) -> u32 {
+        u32::from(self)
+    }
+
+    fn say<W: Write>(self, out: &mut W) -> io::Result<()> {
+        write!(out, " {self:02x}")
+    }
+}
+
+// A slice to lend, full of the pattern.
+pub(crate) fn full<T: Item>(alloc: Global, len: usize) -> io::Result<Vec<T>> {
+    Ok(vec![in alloc; T::PATTERN; len]?)
 }
 
 // A checksum and one number more: the digits of a number to base 257, by its remainder.
-fn mixed(h: u64, x: u32) -> u64
-    requires { h < 4294967291 }
+fn mixed(h: u32, x: u32) -> u32
     ensures { result < 4294967291 }
 {
-    (257 * h + x as u64 + 1) % 4294967291
+    ((257 * u64::from(h) + u64::from(x) + 1) % 4294967291) as u32
 }
 
-fn words_sum(s: &[u32]) -> u64 {
-    let mut h: u64 = 0;
-    for x in s {
-        h = mixed(h, *x);
-    }
-    h
-}
-
-fn byte_word(b: u8) -> u32 {
-    b as u32
-}
-
-fn bytes_sum(s: &[u8]) -> u64 {
-    let mut h: u64 = 0;
-    for b in s {
-        h = mixed(h, byte_word(*b));
-    }
-    h
-}
-
-fn say_sum<W: Write>(out: &mut W, h: u64) -> Result<()> {
-    text(out, b" checksum ")?;
-    print::number(out, h)
-}
-
-fn say_words<W: Write>(out: &mut W, s: &[u32]) -> Result<()> {
+fn say_items<W: Write, T: Item>(out: &mut W, s: &[T]) -> io::Result<()> {
     if LONGEST < s.len() {
-        return say_sum(out, words_sum(s));
+        let sum = s.iter().fold(0, |h, x| mixed(h, x.code()));
+        return write!(out, " checksum {sum}");
     }
-    print::words(out, s)
-}
-
-// The words of a table, if there are any.
-fn say_some<W: Write>(out: &mut W, s: &[u32]) -> Result<()> {
-    if 0 < s.len() {
-        text(out, b";")?;
-        say_words(out, s)?;
+    for x in s {
+        x.say(out)?;
     }
     Ok(())
 }
 
-// The first k words of a table.
-pub(crate) fn table<W: Write>(out: &mut W, s: &[u32], k: usize) -> Result<()> {
-    say_some(out, front(s, k))
+// How many places hold the pattern.
+fn kept<T: Item>(s: &[T]) -> usize {
+    s.iter().filter(|x| **x == T::PATTERN).count()
 }
 
-// Adds how many words have the pattern from a place on.
-pub(crate) fn words_kept(before: u32, s: &[u32], place: usize) -> u32 {
-    let mut kept = before;
-    for k in place..s.len() {
-        if s[k] == WORD {
-            kept = wrapping_add_u32(kept, 1);
-        }
+// The places of a lent slice that were filled, if there are any; those behind them that are as before are counted.
+pub(crate) fn table<W: Write, T: Item>(
+    out: &mut W,
+    s: &[T],
+    filled: usize,
+    count: &mut usize,
+) -> io::Result<()> {
+    let (filled, rest) = s.split_at(filled.min(s.len()));
+    if !filled.is_empty() {
+        write!(out, ";")?;
+        say_items(out, filled)?;
     }
-    kept
+    *count = count.saturating_add(kept(rest));
+    Ok(())
 }
 
-fn bytes_kept(s: &[u8], place: usize) -> u32 {
-    let mut kept: u32 = 0;
-    for k in place..s.len() {
-        if s[k] == BYTE {
-            kept = wrapping_add_u32(kept, 1);
-        }
-    }
-    kept
-}
-
-pub(crate) fn kept<W: Write>(out: &mut W, count: u32) -> Result<()> {
-    text(out, b"; kept")?;
-    print::spaced(out, count as u64)?;
-    text(out, b"\n")
-}
-
-fn say_bytes<W: Write>(out: &mut W, s: &[u8]) -> Result<()> {
-    if LONGEST < s.len() {
-        return say_sum(out, bytes_sum(s));
-    }
-    print::bytes(out, s)
-}
-
-fn first_bytes<W: Write>(out: &mut W, s: &[u8], k: usize) -> Result<()> {
-    let len = least(k, s.len());
-    say_bytes(out, &s[..len])
+pub(crate) fn say_kept<W: Write>(out: &mut W, count: usize) -> io::Result<()> {
+    writeln!(out, "; kept {count}")
 }
 
 // What a writer answered, the bytes in the room, and how many of it are as before.
-pub(crate) fn written<W: Write>(out: &mut W, w: Result<usize, Refusal>, room: &[u8]) -> Result<()> {
-    match w {
+pub(crate) fn written<W: Write>(
+    out: &mut W,
+    answer: Result<usize, Refusal>,
+    room: &[u8],
+) -> io::Result<()> {
+    let (bytes, rest) = room.split_at(answer.unwrap_or(0).min(room.len()));
+    match answer {
         Ok(end) => {
-            text(out, b"end ")?;
-            print::number(out, end as u64)?;
-            text(out, b":")?;
-            first_bytes(out, room, end)?;
-            kept(out, bytes_kept(room, end))
+            write!(out, "end {end}:")?;
+            say_items(out, bytes)?;
         }
-        Err(r) => {
-            refused(out, r)?;
-            kept(out, bytes_kept(room, 0))
-        }
+        Err(r) => refused(out, r)?,
     }
-}
-
-// How many words hold the pattern from a place on, in three slices.
-pub(crate) fn three_kept(a: &[u32], b: &[u32], c: &[u32], place: usize) -> u32 {
-    let k = words_kept(0, a, place);
-    let k = words_kept(k, b, place);
-    words_kept(k, c, place)
+    say_kept(out, kept(rest))
 }

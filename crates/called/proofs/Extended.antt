@@ -7,7 +7,7 @@ use mathlib.Core.Option.{Option}
 use Rattle.std.specs.Prelude.{Ok}
 use Rattle.std.specs.Prelude.{Option as Maybe}
 use Rattle.timing.specs.Answers.{Passed}
-use Rattle.timing.specs.declared.NodeTimes.{NodeTimes}
+use Rattle.timing.specs.declared.Times.{Times}
 use lib.IntN.{pos}
 use lib.ListN.{length, get_or}
 use Rattle.timing.specs.Graphs.{Design, edge_early, edge_late, Graph, design_graph}
@@ -34,7 +34,7 @@ call_same_graph D held a b d h e k = same_graph D held (called_of a) (called_of 
 
 -- ---- what the calls leave of a graph H whose slices `times` was lent, by the design and T that both runs share
 module _ {D : Design} {T : ℕ} {S : GraphSlices} (t : TimedOn D T S) (H : Graph) (made : S ≡ slices_of H) where
-  abbrev times_of : ℕ → Maybe NodeTimes
+  abbrev times_of : ℕ → Maybe Times
   times_of v = node_times_at (edge_early D) (edge_late D) (pos T) H D.nodes v
 
   graph_is : timed_graph t.times ≡ slices_of H
@@ -84,7 +84,7 @@ module _ {D : Design} {T : ℕ} {S R : GraphSlices} (t : TimedOn D T S) (u : Tim
           g,
           subst (λ (F : GraphSlices). g < length F.nodes) (sym (graph_is t H made_h)) x.1.inside,
           ap (λ (F : GraphSlices). get_or F.nodes g 0) (graph_is t H made_h) ∙ x.1.node ∙ sym (ap (λ (F : GraphSlices). get_or F.nodes h 0) (graph_is u J made_j)),
-          subst (λ (y : Maybe NodeTimes). NoWorse y (copy_left u.times h)) (sym (timed_copy t H made_h g x.1.inside))
+          subst (λ (y : Maybe Times). NoWorse y (copy_left u.times h)) (sym (timed_copy t H made_h g x.1.inside))
               (subst (NoWorse (copy_times_at (edge_early D) (edge_late D) (pos T) H g)) (sym (timed_copy u J made_j h k))
               (copy_no_worse G K L more up H J shorter longer (edge_early D) (edge_late D) (pos T) h g k x.1)),
         );

@@ -8,7 +8,7 @@ use mathlib.Core.Option.{Option, none, some}
 use Rattle.std.specs.Prelude.{Ok}
 use Rattle.std.specs.Prelude.{Option as Maybe}
 use Rattle.timing.specs.Answers.{Passed, Counts}
-use Rattle.timing.specs.declared.NodeTimes.{NodeTimes}
+use Rattle.timing.specs.declared.Times.{Times}
 use lib.IntN.{ℤ, pos}
 use Rattle.timing.specs.Graphs.{Design, design_graph, edges_in, edges_out, runs_from, complete_runs}
 use Rattle.timing.specs.Marks.{paths_of, permitted, tails, mark}
@@ -93,7 +93,7 @@ nodes_example =
     design_example.nodes (records_of shorter.timed.times) (records_of longer.timed.times) (records_on_lem shorter.timed.times places (map pos places)) (records_on_lem longer.timed.times places (map pos places))
     shorter_recorded longer_recorded
 
-pub node_example : (x : Maybe NodeTimes) × (y : Maybe NodeTimes)
+pub node_example : (x : Maybe Times) × (y : Maybe Times)
     × ((record_on shorter.timed.times 2).answer ≡ Ok (record { node = 2; times = x }))
     × ((record_on longer.timed.times 2).answer ≡ Ok (record { node = 2; times = y })) × NoWorse x y
 node_example =

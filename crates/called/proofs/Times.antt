@@ -6,8 +6,8 @@ use mathlib.Core.Bool.{cond}
 use mathlib.Core.List.{List, map}
 use mathlib.Core.Option.{none, some}
 use Rattle.std.specs.Prelude.{Option, Ok, Some, None}
-use Rattle.timing.specs.Answers.{Verdict, Passed, Counts, Times}
-use Rattle.timing.specs.declared.NodeTimes.{NodeTimes}
+use Rattle.timing.specs.Answers.{Verdict, Passed, Counts, SomeTimes}
+use Rattle.timing.specs.declared.Times.{Times}
 use native.Mathlib.Omega.{arith}
 use lib.Dec.{eqb}
 use lib.ListN.{length, get_or}
@@ -73,7 +73,7 @@ module _ (t : TimesCall) (H : Graph) (lent : timed_graph t ≡ slices_of H) (pas
   -- the four times that it left at a copy are those of H
   pub copy_left_lem : (h : ℕ) → h < length H.nodes → copy_left t h ≡ copy_times_at (edge_early D) (edge_late D) (pos T) H h
   copy_left_lem h k =
-      (λ i. Times (get_or (arrivals_are i) h (pos 0)) (get_or (requireds_are i) h (pos 0)) (get_or (slacks_are i) h (pos 0)) (get_or (earliests_are i) h (pos 0)))
+      (λ i. SomeTimes (get_or (arrivals_are i) h (pos 0)) (get_or (requireds_are i) h (pos 0)) (get_or (slacks_are i) h (pos 0)) (get_or (earliests_are i) h (pos 0)))
       ∙ copy_after D H T ats rts sts ets tested h k
 
   -- `node_record` on what that left answers what the definitions say of H
@@ -98,16 +98,16 @@ module _ (t : TimesCall) (H : Graph) (lent : timed_graph t ≡ slices_of H) (pas
       let required = told (pos 0) required_of _ _ _ passes c.learnt.3 in
       let slack = told (pos 0) slack_of _ _ _ passes c.learnt.4 in
       let earliest = told (pos 0) earliest_of _ _ _ passes c.learnt.5 in
-      (λ i. cond (eqb (known i) 1) (Times (arrival i) (required i) (slack i) (earliest i)) None) ∙ read_back x
+      (λ i. cond (eqb (known i) 1) (SomeTimes (arrival i) (required i) (slack i) (earliest i)) None) ∙ read_back x
     where
-      x : Option NodeTimes
+      x : Option Times
       x = node_times_at (edge_early D) (edge_late D) (pos T) H D.nodes v
 
-      read_back : (x : Option NodeTimes) → cond (eqb (has_times x) 1) (Times (arrival_of x) (required_of x) (slack_of x) (earliest_of x)) None ≡ x
+      read_back : (x : Option Times) → cond (eqb (has_times x) 1) (SomeTimes (arrival_of x) (required_of x) (slack_of x) (earliest_of x)) None ≡ x
       read_back (Some y) = refl
       read_back None = refl
 
-      told : {A : Type 0} (z : A) (f : Option NodeTimes → A) (w : Verdict) (left room : List A) → w ≡ Passed
+      told : {A : Type 0} (z : A) (f : Option Times → A) (w : Verdict) (left room : List A) → w ≡ Passed
           → let l = c.passed in left ≡ records_after f l.0 l.1.0.now l.1.1.0.now l.1.1.1.0.now l.1.1.1.1.0.now l.1.1.1.1.1.0.now w room
           → get_or left v z ≡ f x
       told {A} z f w left room q e =
@@ -166,7 +166,7 @@ series_times cs S t f q g p =
 pub series_record : (cs : List Call) (S : GraphSlices) (t : TimesCall) (c : RecordCall) → Follows (timed_design t) none cs
     → last_held none (map called_of cs) ≡ some S → timed_graph t ≡ S → t.answer ≡ Passed → RecordAfter t c
     → (L : List (List ℕ)) × (whole_after (timed_design t) none (map removal_of (map called_of cs)) ≡ some L)
-    × ((x : Option NodeTimes) × (c.answer ≡ Ok (record { node = asked_node c; times = x }))
+    × ((x : Option Times) × (c.answer ≡ Ok (record { node = asked_node c; times = x }))
     × PathTimes (edge_early (timed_design t)) (edge_late (timed_design t)) (pos (allowed_time t)) (PassesAt (timed_design t) L (asked_node c)) x)
 series_record cs S t c f q g p a =
     let x = held_by_lem (timed_design t) cs S f q in

@@ -6,7 +6,7 @@ use mathlib.Core.List.{List, [], ◌∷◌, map}
 use mathlib.Core.Option.{none, some}
 use Rattle.std.specs.Prelude.{Option, Ok}
 use Rattle.timing.specs.Answers.{Verdict, Passed}
-use Rattle.timing.specs.declared.NodeTimes.{NodeTimes}
+use Rattle.timing.specs.declared.Times.{Times}
 use lib.ListN.{length, get_or}
 use lib.IntN.{ℤ, pos}
 use lib.Signed.{◌≤ℤ◌}
@@ -53,7 +53,7 @@ records_on t known ts =
     let vs = (timed_graph t).nodes in
     let v : Verdict =
     test_records n vs (arrivals_left t) (requireds_left t) (slacks_left t) (earliests_left t) (length known) (length ts) (length ts) (length ts) (length ts) in
-    let after : (Option NodeTimes → ℤ) → List ℤ = λ f. records_after f n vs (arrivals_left t) (requireds_left t) (slacks_left t) (earliests_left t) v ts in
+    let after : (Option Times → ℤ) → List ℤ = λ f. records_after f n vs (arrivals_left t) (requireds_left t) (slacks_left t) (earliests_left t) v ts in
     record {
       lifetimes = ([], ([], ([], ([], ([], ([], ([], ([], ([], ([], tt))))))))));
       passed = (n, (lent vs, (lent (arrivals_left t), (lent (requireds_left t), (lent (slacks_left t), (lent (earliests_left t), (lent_mut known, (lent_mut ts, (lent_mut ts, (lent_mut ts, (lent_mut ts, tt)))))))))));
@@ -86,5 +86,5 @@ pub window_example : (h : ℕ) → h < 6 → get_or (earliests_left timed) h (po
 window_example = earliest_below timed timed_passed
 
 pub record_example : (L : List (List ℕ)) × (whole_after deck_a none (map removal_of (map called_of example.0)) ≡ some L)
-    × ((x : Option NodeTimes) × ((record_on timed 2).answer ≡ Ok (record { node = 2; times = x })) × PathTimes (edge_early deck_a) (edge_late deck_a) (pos 10) (PassesAt deck_a L 2) x)
+    × ((x : Option Times) × ((record_on timed 2).answer ≡ Ok (record { node = 2; times = x })) × PathTimes (edge_early deck_a) (edge_late deck_a) (pos 10) (PassesAt deck_a L 2) x)
 record_example = series_record example.0 held timed (record_on timed 2) example.1 is_held refl timed_passed (record_on_lem timed 2)

@@ -3,7 +3,7 @@ use Rattle.std.specs.Prelude.{ℕ, ◌<◌, ◌≡◌, List, map, length, get_or
 use Rattle.std.specs.Prelude.{Option as Maybe}
 use Rattle.std.proofs.Math.Option.{Option, none, some}
 use Rattle.timing.specs.Answers.{Passed, Counts}
-use Rattle.timing.specs.declared.NodeTimes.{NodeTimes}
+use Rattle.timing.specs.declared.Times.{Times}
 use Rattle.timing.specs.Graphs.{Design}
 use Rattle.timing.specs.Calls.{GraphSlices}
 use Rattle.timing.specs.Series.{whole_after}
@@ -45,7 +45,7 @@ pub record NothingWorse (t u : TimesCall) : Type 0 where
   pub nodes : (r s : RecordsCall) → RecordsAfter t r → RecordsAfter u s → r.answer ≡ Passed → s.answer ≡ Passed
       → (v : ℕ) → v < (timed_design t).nodes → NoWorse (node_times_left r v) (node_times_left s v)
   pub node : (r s : RecordCall) → RecordAfter t r → RecordAfter u s → asked_node r ≡ asked_node s
-      → (x : Maybe NodeTimes) × (y : Maybe NodeTimes)
+      → (x : Maybe Times) × (y : Maybe Times)
       × (r.answer ≡ Ok (record { node = asked_node r; times = x })) × (s.answer ≡ Ok (record { node = asked_node s; times = y })) × NoWorse x y
   pub copies : (h : ℕ) → h < length (timed_graph u).nodes
       → (g : ℕ) × (g < length (timed_graph t).nodes) × (get_or (timed_graph t).nodes g 0 ≡ get_or (timed_graph u).nodes h 0) × NoWorse (copy_left t g) (copy_left u h)

@@ -1,8 +1,8 @@
 -- Calls of `times`, `node_record` and `node_records` as a caller has them, with the `ensures` of their contracts as the toolchain takes these from
 -- the source.
 use Rattle.std.specs.Prelude.{ℕ, ◌≡◌, List, ℤ, pos, get_or, Option}
-use Rattle.timing.specs.Answers.{Times}
-use Rattle.timing.specs.declared.NodeTimes.{NodeTimes}
+use Rattle.timing.specs.Answers.{SomeTimes}
+use Rattle.timing.specs.declared.Times.{Times}
 use contract.Lifetimes.{Lfts}
 use borrow.Fn.World.{ArgsD, ResD}
 use denote.Triple.Clauses.{AtExit}
@@ -61,8 +61,8 @@ abbrev pub earliests_left : TimesCall → List ℤ
 earliests_left c = c.left.1.1.1.1.1.1.1.1.1.1.1.1.1.1.1.0.now
 
 -- the four times left at copy h
-abbrev pub copy_left : TimesCall → ℕ → Option NodeTimes
-copy_left c h = Times (get_or (arrivals_left c) h (pos 0)) (get_or (requireds_left c) h (pos 0)) (get_or (slacks_left c) h (pos 0)) (get_or (earliests_left c) h (pos 0))
+abbrev pub copy_left : TimesCall → ℕ → Option Times
+copy_left c h = SomeTimes (get_or (arrivals_left c) h (pos 0)) (get_or (requireds_left c) h (pos 0)) (get_or (slacks_left c) h (pos 0)) (get_or (earliests_left c) h (pos 0))
 
 -- the times left at copy h are those of the paths P, each cut into two parts
 abbrev pub TimesLeft : TimesCall → ℕ → (List Edge → List Edge → Type 0) → Type 0
@@ -98,7 +98,7 @@ abbrev pub node_slacks_left : RecordsCall → List ℤ
 node_slacks_left c = c.left.1.1.1.1.1.1.1.1.1.0.now
 
 -- what it left of node v in its five slices: whether it has times, arrival, required time, slack, earliest arrival
-abbrev pub node_times_left : RecordsCall → ℕ → Option NodeTimes
+abbrev pub node_times_left : RecordsCall → ℕ → Option Times
 node_times_left c v = let l = c.left.1.1.1.1.1.1 in times_in l.0.now l.1.0.now l.1.1.0.now l.1.1.1.0.now l.1.1.1.1.0.now v
 
 -- either is lent n, the nodes of the copies, and the times that a call of `times` left

@@ -168,8 +168,8 @@ fn passes_with(
     copies_end(n, nodes, endpoint, nin, nout, nmarked, cout, entered)
 }
 
-// An array costs the time to clear all of it, so that small graphs get small ones.
-fn small_passes(
+// The same with arrays for the flags of so many nodes and copies.
+fn passes_within<const NODES: usize, const COPIES: usize>(
     n: u32,
     starts: &[u32],
     ends: &[u32],
@@ -180,55 +180,15 @@ fn small_passes(
     to: &[u32],
     via: &[u32],
 ) -> bool
-    requires { (n ≤ 1024) × (length nodes.now ≤ 1024) × Lent starts.now ends.now nodes.now endpoint.now from.now to.now via.now }
+    requires { (n ≤ NODES) × (NODES ≤ 4096) × (length nodes.now ≤ COPIES) × (COPIES ≤ 16384)
+        × Lent starts.now ends.now nodes.now endpoint.now from.now to.now via.now }
     ensures { result ≡ true → formed n starts.now ends.now marked.now
         nodes.now endpoint.now from.now to.now via.now ≡ true }
 {
-    let mut nin = [false; 1024];
-    let mut nout = [false; 1024];
-    let mut nmarked = [false; 1024];
-    let mut cout = [false; 1024];
-    let entered = edges_found(starts, ends, nodes, from, to, via, &mut cout);
-    if entered == 0 {
-        return false;
-    }
-    passes_with(
-        n,
-        starts,
-        ends,
-        marked,
-        nodes,
-        endpoint,
-        from,
-        to,
-        via,
-        &mut nin,
-        &mut nout,
-        &mut nmarked,
-        &cout,
-        entered,
-    )
-}
-
-fn large_passes(
-    n: u32,
-    starts: &[u32],
-    ends: &[u32],
-    marked: &[u32],
-    nodes: &[u32],
-    endpoint: &[u32],
-    from: &[u32],
-    to: &[u32],
-    via: &[u32],
-) -> bool
-    requires { (n ≤ 4096) × Lent starts.now ends.now nodes.now endpoint.now from.now to.now via.now }
-    ensures { result ≡ true → formed n starts.now ends.now marked.now
-        nodes.now endpoint.now from.now to.now via.now ≡ true }
-{
-    let mut nin = [false; 4096];
-    let mut nout = [false; 4096];
-    let mut nmarked = [false; 4096];
-    let mut cout = [false; 16384];
+    let mut nin = [false; NODES];
+    let mut nout = [false; NODES];
+    let mut nmarked = [false; NODES];
+    let mut cout = [false; COPIES];
     let entered = edges_found(starts, ends, nodes, from, to, via, &mut cout);
     if entered == 0 {
         return false;
@@ -268,23 +228,17 @@ pub(crate) fn all_pass(
     ensures { result ≡ true → formed n starts.now ends.now marked.now
         nodes.now endpoint.now from.now to.now via.now ≡ true }
 {
-    if ends.len() != starts.len() {
+    let alike = ends.len() == starts.len()
+        && starts.len() <= timing::MAX_EDGES
+        && to.len() == from.len()
+        && via.len() == from.len()
+        && !from.is_empty();
+    if !alike {
         return false;
     }
-    if timing::MAX_EDGES < starts.len() {
-        return false;
-    }
-    if to.len() != from.len() {
-        return false;
-    }
-    if via.len() != from.len() {
-        return false;
-    }
-    if from.len() == 0 {
-        return false;
-    }
+    // An array costs the time to clear all of it, so that small graphs get small ones.
     if n <= 1024 && nodes.len() <= 1024 {
-        return small_passes(n, starts, ends, marked, nodes, endpoint, from, to, via);
+        return passes_within::<1024, 1024>(n, starts, ends, marked, nodes, endpoint, from, to, via);
     }
-    large_passes(n, starts, ends, marked, nodes, endpoint, from, to, via)
+    passes_within::<4096, 16384>(n, starts, ends, marked, nodes, endpoint, from, to, via)
 }

@@ -38,6 +38,8 @@ fn refusal_number(r: Refusal) -> i64
     negative(r.number as usize + 256 * r.place)
 }
 
+// What is found has four types, each with an arm of its own here: a trait of which the four are instances would be four impls of more lines,
+// since each has its own definition in document 01's terms.
 fn graph_number(made: Result<GraphCounts, Refusal>) -> i64
     requires { SmallGraph made }
     ensures { result ≡ graph_number made }

@@ -51,6 +51,7 @@ pub(crate) fn arrive(
     if ends_at(to, first, c) {
         let mut t = over_edge(late, from, via, arrivals, first);
         let mut k = first + 1;
+        // No `for`: where the run of edges into c ends is found by reading it, and the next copy goes on from there.
         while ends_at(to, k, c) {
             t = larger(t, over_edge(late, from, via, arrivals, k));
             k += 1;

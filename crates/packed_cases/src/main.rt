@@ -5,59 +5,51 @@
 // takes the number in bytes 4 to 7 as a packed delay, and packs it again.
 #![tactic(auto)]
 
-ghost use Rattle.std.specs.Prelude.{ℕ, ◌+◌, ◌≤◌, ◌≡◌, length};
+ghost use Rattle.std.specs.Prelude.{◌≤◌};
 
-use print::{bytes, number, refused, text};
-use std::io::{BufWriter, Read, Result, Write};
+use packed_delays::{pack_delay, unpack_delay};
+use print::{bytes, refused};
+use std::io::{self, BufWriter, Read, Write};
 use timing::{Refusal, Taken};
 
 // How many bytes of the input are read, at most.
 const BLOCK: u64 = 65536;
 
-// The byte at a place, or 0 past the end.
-fn at(s: &[u8], i: usize) -> u8 {
-    if i < s.len() { s[i] } else { 0 }
-}
+type Record = [u8; 16];
 
 // The number in the four bytes from `i` on of a record.
-fn word(s: &[u8], i: usize) -> u32
+fn word(record: &Record, i: usize) -> u32
     requires { i ≤ 12 }
 {
-    let a = at(s, i) as u32;
-    let b = at(s, i + 1) as u32;
-    let c = at(s, i + 2) as u32;
-    let d = at(s, i + 3) as u32;
-    a + 256 * (b + 256 * (c + 256 * d))
+    u32::from_le_bytes([record[i], record[i + 1], record[i + 2], record[i + 3]])
 }
 
 // How many bytes a record gives to a case, up to so many.
-fn size(s: &[u8], most: usize) -> usize
+fn size(record: &Record, most: usize) -> usize
     ensures { result ≤ most }
 {
-    let n = at(s, 2) as usize;
-    if n <= most { n } else { most }
+    usize::from(record[2]).min(most)
 }
 
 // What a writer answered, and the room.
-fn written<W: Write>(out: &mut W, place: usize, answer: Result<usize, Refusal>, room: &[u8]) -> Result<()> {
-    text(out, b" at ")?;
-    number(out, place as u64)?;
-    text(out, b": ")?;
+fn written<W: Write>(
+    out: &mut W,
+    place: usize,
+    answer: Result<usize, Refusal>,
+    room: &[u8],
+) -> io::Result<()> {
+    write!(out, " at {place}: ")?;
     match answer {
-        Ok(end) => {
-            text(out, b"end ")?;
-            number(out, end as u64)?;
-        }
+        Ok(end) => write!(out, "end {end}")?,
         Err(r) => refused(out, r)?,
     }
-    text(out, b",")?;
+    write!(out, ",")?;
     bytes(out, room)
 }
 
-fn write_case<W: Write>(out: &mut W, room: &mut [u8], place: usize, x: u32) -> Result<()> {
+fn write_case<W: Write>(out: &mut W, room: &mut [u8], place: usize, x: u32) -> io::Result<()> {
     let answer = packed::write_number(room, place, x);
-    text(out, b"write ")?;
-    number(out, x as u64)?;
+    write!(out, "write {x}")?;
     written(out, place, answer, room)
 }
 
@@ -68,81 +60,54 @@ fn row_case<W: Write>(
     a: u32,
     b: u32,
     c: u32,
-) -> Result<()> {
+) -> io::Result<()> {
     let answer = packed::write_row(room, place, a, b, c);
-    text(out, b"row ")?;
-    number(out, a as u64)?;
-    text(out, b" ")?;
-    number(out, b as u64)?;
-    text(out, b" ")?;
-    number(out, c as u64)?;
+    write!(out, "row {a} {b} {c}")?;
     written(out, place, answer, room)
 }
 
-fn read_case<W: Write>(out: &mut W, s: &[u8], place: usize) -> Result<()> {
-    text(out, b"read")?;
+fn read_case<W: Write>(out: &mut W, s: &[u8], place: usize) -> io::Result<()> {
+    write!(out, "read")?;
     bytes(out, s)?;
-    text(out, b" at ")?;
-    number(out, place as u64)?;
-    text(out, b": ")?;
+    write!(out, " at {place}: ")?;
     match packed::read_number(s, place) {
-        Ok(Taken { value, next }) => {
-            text(out, b"value ")?;
-            number(out, value as u64)?;
-            text(out, b" next ")?;
-            number(out, next as u64)?;
-        }
-        Err(r) => refused(out, r)?,
+        Ok(Taken { value, next }) => write!(out, "value {value} next {next}"),
+        Err(r) => refused(out, r),
     }
-    Ok(())
 }
 
-fn delay_case<W: Write>(out: &mut W, x: u32) -> Result<()> {
-    let d = packed_delays::unpack_delay(x);
-    text(out, b"delay ")?;
-    number(out, x as u64)?;
-    text(out, b": ")?;
-    print::delay(out, d)?;
-    text(out, b" packed ")?;
-    number(out, packed_delays::pack_delay(d) as u64)
+fn delay_case<W: Write>(out: &mut W, x: u32) -> io::Result<()> {
+    let d = unpack_delay(x);
+    write!(out, "delay {x}: {d} packed {}", pack_delay(d))
 }
 
-fn case<W: Write>(out: &mut W, s: &[u8]) -> Result<()> {
-    let kind = at(s, 0);
-    let place = at(s, 1) as usize;
-    let len = size(s, 12);
-    if kind == 0 {
-        let mut room = [0xAAu8; 12];
-        write_case(out, &mut room[..len], place, word(s, 4))?;
-    } else if kind == 1 {
-        if 4 + len <= s.len() {
-            read_case(out, &s[4..4 + len], place)?;
-        }
-    } else if kind == 3 {
-        let wide = size(s, 20);
-        let mut room = [0xAAu8; 20];
-        row_case(
+fn case<W: Write>(out: &mut W, record: &Record) -> io::Result<()> {
+    let place = usize::from(record[1]);
+    let mut room = [0xAA; 20];
+    match record[0] {
+        0 => write_case(out, &mut room[..size(record, 12)], place, word(record, 4)),
+        1 => read_case(out, &record[4..4 + size(record, 12)], place),
+        3 => row_case(
             out,
-            &mut room[..wide],
+            &mut room[..size(record, 20)],
             place,
-            word(s, 4),
-            word(s, 8),
-            word(s, 12),
-        )?;
-    } else {
-        delay_case(out, word(s, 4))?;
+            word(record, 4),
+            word(record, 8),
+            word(record, 12),
+        ),
+        _ => delay_case(out, word(record, 4)),
     }
-    text(out, b"\n")
 }
 
-fn run<W: Write>(out: &mut W, s: &[u8]) -> Result<()> {
-    for record in s.chunks_exact(16) {
+fn run<W: Write>(out: &mut W, s: &[u8]) -> io::Result<()> {
+    for record in s.as_chunks().0 {
         case(out, record)?;
+        writeln!(out)?;
     }
     Ok(())
 }
 
-fn main(rt: HostRuntime) -> Result<()> {
+fn main(rt: HostRuntime) -> io::Result<()> {
     let mut input = Vec::new(rt.alloc());
     rt.stdin().take(BLOCK).read_to_end(&mut input)?;
     let mut out = BufWriter::new(rt.alloc(), rt.stdout())?;

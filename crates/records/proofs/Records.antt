@@ -6,8 +6,8 @@ use mathlib.Core.Path.{◌≡◌, refl, sym, ◌∙◌, ap, ap₂}
 use mathlib.Core.Bool.{Bool, true, false, cond, not}
 use mathlib.Core.List.{List, [], ◌∷◌, ◌++◌, map}
 use Rattle.std.specs.Prelude.{Option, Some, None}
-use Rattle.timing.specs.Answers.{Verdict, Passed, Times}
-use Rattle.timing.specs.declared.NodeTimes.{NodeTimes}
+use Rattle.timing.specs.Answers.{Verdict, Passed, SomeTimes}
+use Rattle.timing.specs.declared.Times.{Times}
 use lib.Dec.{eqb}
 use lib.IntN.{ℤ, pos}
 use lib.ListN.{length, get_or, set, replicate}
@@ -23,7 +23,7 @@ use Rattle.records.specs.Records.{with_copy, gathered, times_of, node_so_far, fi
 use Rattle.theorems.proofs.Elements.{at_each, each_one, set_place, each_same}
 use Rattle.theorems.proofs.Splits.{upto_next, keep_yes, keep_no, best_snoc}
 
-pub four : {a b c d x y z w : ℤ} → a ≡ x → b ≡ y → c ≡ z → d ≡ w → ◌≡◌ {A = (Option NodeTimes)} (Times a b c d) (Times x y z w)
+pub four : {a b c d x y z w : ℤ} → a ≡ x → b ≡ y → c ≡ z → d ≡ w → ◌≡◌ {A = (Option Times)} (SomeTimes a b c d) (SomeTimes x y z w)
 four p q r s = cc
 
 module _ (nodes : List ℕ) (ats rts sts ets : List ℤ) (v : ℕ) where
@@ -52,7 +52,7 @@ module _ (nodes : List ℕ) (ats rts sts ets : List ℤ) (v : ℕ) where
       go false e = sym (ap (times_of ats rts sts ets) (keep_no is (upto c 0) c e))
 
   all : (cs : List ℕ) → times_of ats rts sts ets cs
-      ≡ cond (not (is_nil cs)) (Times (largest (map (λ c. get_or ats c (pos 0)) cs)) (smallest (map (λ c. get_or rts c (pos 0)) cs)) (smallest (map (λ c. get_or sts c (pos 0)) cs)) (smallest (map (λ c. get_or ets c (pos 0)) cs))) None
+      ≡ cond (not (is_nil cs)) (SomeTimes (largest (map (λ c. get_or ats c (pos 0)) cs)) (smallest (map (λ c. get_or rts c (pos 0)) cs)) (smallest (map (λ c. get_or sts c (pos 0)) cs)) (smallest (map (λ c. get_or ets c (pos 0)) cs))) None
   all [] = refl
   all (c ∷ cs) = refl
 
@@ -66,10 +66,10 @@ module _ (nodes : List ℕ) (ats rts sts ets : List ℤ) (v : ℕ) where
 
 -- All nodes at once: a copy counts for its node, and changes nothing at the others.
 module _ (nodes : List ℕ) (ats rts sts ets : List ℤ) where
-  abbrev so_far : ℕ → ℕ → Option NodeTimes
+  abbrev so_far : ℕ → ℕ → Option Times
   so_far = node_so_far nodes ats rts sts ets
 
-  abbrev counted : Option NodeTimes → ℕ → Option NodeTimes
+  abbrev counted : Option Times → ℕ → Option Times
   counted t c = with_copy t (get_or ats c (pos 0)) (get_or rts c (pos 0)) (get_or sts c (pos 0)) (get_or ets c (pos 0))
 
   met_here : (c : ℕ) → counted (so_far c (get_or nodes c 0)) c ≡ so_far (c + 1) (get_or nodes c 0)
@@ -82,7 +82,7 @@ module _ (nodes : List ℕ) (ats rts sts ets : List ℤ) where
       ap (λ (b : Bool). cond b (counted (so_far c v) c) (so_far c v)) (sym (ne_eqb (get_or nodes c 0) v (λ q. f (sym q)))) ∙ copy_next nodes ats rts sts ets v c
 
   -- one more copy of a node, in each of the five slices
-  counts : (x : Option NodeTimes) (c : ℕ)
+  counts : (x : Option Times) (c : ℕ)
       → (1 ≡ has_times (counted x c))
       × (first_or larger (has_times x) (arrival_of x) (get_or ats c (pos 0)) ≡ arrival_of (counted x c))
       × (first_or smaller (has_times x) (required_of x) (get_or rts c (pos 0)) ≡ required_of (counted x c))
@@ -100,10 +100,10 @@ module _ (nodes : List ℕ) (ats rts sts ets : List ℤ) where
       (λ h. (counts (so_far c (get_or nodes c 0)) c).0 ∙ ap has_times (met_here c)) (λ v h q. ap has_times (met_other c v q)))
 
   -- one of the four times, which one more copy makes better
-  better_next : (pick : ℤ → ℤ → ℤ) (part : Option NodeTimes → ℤ) (t : ℤ) (n c : ℕ) (known : List ℕ) (old new : List ℤ)
+  better_next : (pick : ℤ → ℤ → ℤ) (part : Option Times → ℤ) (t : ℤ) (n c : ℕ) (known : List ℕ) (old new : List ℤ)
       → known ≡ map (λ v. has_times (so_far c v)) (upto n 0) → old ≡ map (λ v. part (so_far c v)) (upto n 0)
       → new ≡ bettered pick known old (get_or nodes c 0) t
-      → ((x : Option NodeTimes) → first_or pick (has_times x) (part x) t ≡ part (counted x c))
+      → ((x : Option Times) → first_or pick (has_times x) (part x) t ≡ part (counted x c))
       → new ≡ map (λ v. part (so_far (c + 1) v)) (upto n 0)
   better_next pick part t n c known old new k o e one =
       e
@@ -154,7 +154,7 @@ module _ (nodes : List ℕ) (ats rts sts ets : List ℤ) where
     }
 
   -- after the last copy, with n written as m
-  pub node_filled : {A : Type 0} (z : A) (f : Option NodeTimes → A) (n m : ℕ) (after : List A) → m ≡ n
+  pub node_filled : {A : Type 0} (z : A) (f : Option Times → A) (n m : ℕ) (after : List A) → m ≡ n
       → after ≡ map (λ v. f (so_far (length nodes) v)) (upto m 0) → after ≡ map (λ v. f (node_times n nodes ats rts sts ets v)) (upto n 0)
   node_filled z f n m after e h =
       h

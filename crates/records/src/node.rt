@@ -6,15 +6,15 @@ ghost use Rattle.records.specs.Records.{with_copy, gathered, times_of};
 
 use entries::{number_at, time_at};
 use extremes::{larger, smaller};
-use timing::NodeTimes;
+use timing::Times;
 
 // The times of a node with one more copy.
-fn with_copy(t: Option<NodeTimes>, copy: NodeTimes) -> Option<NodeTimes>
+fn with_copy(t: Option<Times>, copy: Times) -> Option<Times>
     ensures { result ≡ with_copy t copy.arrival copy.required copy.slack copy.earliest }
 {
     match t {
         None => Some(copy),
-        Some(old) => Some(NodeTimes {
+        Some(old) => Some(Times {
             arrival: larger(old.arrival, copy.arrival),
             required: smaller(old.required, copy.required),
             slack: smaller(old.slack, copy.slack),
@@ -25,7 +25,7 @@ fn with_copy(t: Option<NodeTimes>, copy: NodeTimes) -> Option<NodeTimes>
 
 // Copy `c` counts where it is one of node `v`.
 fn next_copy(
-    t: Option<NodeTimes>,
+    t: Option<Times>,
     nodes: &[u32],
     arrivals: &[i64],
     requireds: &[i64],
@@ -33,7 +33,7 @@ fn next_copy(
     earliests: &[i64],
     v: u32,
     c: usize,
-) -> Option<NodeTimes>
+) -> Option<Times>
     ensures { let ats = arrivals.now in
         let rts = requireds.now in
         let sts = slacks.now in
@@ -43,7 +43,7 @@ fn next_copy(
     if number_at(nodes, c) != v {
         return t;
     }
-    let copy = NodeTimes {
+    let copy = Times {
         arrival: time_at(arrivals, c),
         required: time_at(requireds, c),
         slack: time_at(slacks, c),
@@ -60,7 +60,7 @@ fn over_copies(
     slacks: &[i64],
     earliests: &[i64],
     v: u32,
-) -> Option<NodeTimes>
+) -> Option<Times>
     ensures { let copies = upto (length nodes.now) 0 in
         let of = keep (λ (c : ℕ). eqb (get_or nodes.now c 0) v) copies in
         let ats = arrivals.now in
@@ -82,7 +82,7 @@ pub(crate) fn node_times(
     slacks: &[i64],
     earliests: &[i64],
     v: u32,
-) -> Option<NodeTimes>
+) -> Option<Times>
     ensures { let ats = arrivals.now in
         let rts = requireds.now in
         let sts = slacks.now in

@@ -10,6 +10,7 @@ use crate::classes::{clear, lay_lists, list_tables};
 use crate::edges::sort_edges;
 use crate::rows::Layout;
 use entries::number_at;
+use timing::MAX_EDGES;
 
 // The tables one after the other; the slots come after those that do not change any more, and then the tables that the passes work in.
 pub(crate) fn layout(copies: usize, edges: usize, positions: usize, candidates: usize) -> Layout
@@ -100,8 +101,8 @@ fn build_with(
     l
 }
 
-// The same for a design of at most 1,024 edges, as in `remove`.
-fn build_few(
+// The same for a design of at most so many edges.
+fn build_within<const EDGES: usize>(
     starts: &[u32],
     listed: &[u32],
     lengths: &[u32],
@@ -114,40 +115,17 @@ fn build_few(
 ) -> Layout
     requires { Buildable starts.now listed.now lengths.now
         nodes.now from.now to.now via.now candidates scratch.old
-        × (length starts.now ≤ 1024) }
+        × (length starts.now ≤ EDGES) × (EDGES ≤ 16384) }
     ensures { Built starts.now listed.now lengths.now nodes.now
         from.now to.now via.now candidates scratch.old scratch.new result }
 {
-    let mut roots = [0u16; 1024];
+    let mut roots = [0u16; EDGES];
     build_with(
         starts, listed, lengths, nodes, from, to, via, candidates, scratch, &mut roots,
     )
 }
 
-// The same for as many edges as a design has.
-fn build_many(
-    starts: &[u32],
-    listed: &[u32],
-    lengths: &[u32],
-    nodes: &[u32],
-    from: &[u32],
-    to: &[u32],
-    via: &[u32],
-    candidates: usize,
-    scratch: &mut [u32],
-) -> Layout
-    requires { Buildable starts.now listed.now lengths.now
-        nodes.now from.now to.now via.now candidates scratch.old }
-    ensures { Built starts.now listed.now lengths.now nodes.now
-        from.now to.now via.now candidates scratch.old scratch.new result }
-{
-    let mut roots = [0u16; 16384];
-    build_with(
-        starts, listed, lengths, nodes, from, to, via, candidates, scratch, &mut roots,
-    )
-}
-
-// All tables.
+// All tables; a small design has room of its own, as in `remove`.
 pub(crate) fn build(
     starts: &[u32],
     listed: &[u32],
@@ -165,11 +143,11 @@ pub(crate) fn build(
         from.now to.now via.now candidates scratch.old scratch.new result }
 {
     if starts.len() <= 1024 {
-        return build_few(
+        return build_within::<1024>(
             starts, listed, lengths, nodes, from, to, via, candidates, scratch,
         );
     }
-    build_many(
+    build_within::<MAX_EDGES>(
         starts, listed, lengths, nodes, from, to, via, candidates, scratch,
     )
 }

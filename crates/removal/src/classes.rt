@@ -53,15 +53,20 @@ pub(crate) fn clear(s: &mut [u32], base: usize, n: usize)
     zero(&mut s[base..base + n]);
 }
 
-// The classes of at most 64 paths, with a few words for each path to work in: to clear these for 2,048 takes longer than all else in a short list.
-fn number_few(listed: &[u32], lengths: &[u32], s: &mut [u32], l: Lists) -> usize
-    requires { Startable l listed.now lengths.now s.old × (length lengths.now ≤ 64) }
+// The classes of at most so many paths, with a few words for each path to work in.
+fn number_within<const PATHS: usize>(
+    listed: &[u32],
+    lengths: &[u32],
+    s: &mut [u32],
+    l: Lists,
+) -> usize
+    requires { Startable l listed.now lengths.now s.old × (length lengths.now ≤ PATHS) × (PATHS ≤ 2048) }
     ensures { Started l listed.now lengths.now s.old s.new result }
 {
-    let mut ends = [0u32; 64];
-    let mut who = [0u32; 64];
-    let mut items = [0u64; 64];
-    let mut spare = [0u64; 64];
+    let mut ends = [0u32; PATHS];
+    let mut who = [0u32; PATHS];
+    let mut items = [0u64; PATHS];
+    let mut spare = [0u64; PATHS];
     number_classes(
         listed, lengths, s, l, &mut ends, &mut who, &mut items, &mut spare,
     )
@@ -81,15 +86,15 @@ fn number_many(listed: &[u32], lengths: &[u32], s: &mut [u32], l: Lists) -> usiz
     )
 }
 
-// The classes.
+// The classes. To clear the words for 2,048 paths, as many as two lists have, takes longer than all else in a short list.
 fn number_listed(listed: &[u32], lengths: &[u32], s: &mut [u32], l: Lists) -> usize
     requires { Startable l listed.now lengths.now s.old }
     ensures { Started l listed.now lengths.now s.old s.new result }
 {
     if lengths.len() <= 64 {
-        return number_few(listed, lengths, s, l);
+        return number_within::<64>(listed, lengths, s, l);
     }
-    number_many(listed, lengths, s, l)
+    number_within::<2048>(listed, lengths, s, l)
 }
 
 // All tables of a list, at the places that `l` says. `roots` gets the class of each edge alone, and `first` how many marks there are at the nodes below each.

@@ -1,245 +1,149 @@
-// All that a series reads and holds stands in one slice of words, in parts: so a function takes one
-// slice where it would take eleven. A part has a place in the slice, and room for the longest that is
-// read into it.
-use cases::{Slice, fill, unpack};
-use entries::least;
+// What a series reads and holds.
+ghost use Rattle.std.specs.Prelude.{◌≤◌};
+
+use cases::{fill, unpack};
 use packed_lists::take_number;
-use timing::{GraphCounts, Refusal};
+use std::alloc::Global;
+use std::io;
+use timing::GraphCounts;
 
-pub(crate) const WORDS: usize = 101680;
+// A block of the input, from a place on.
+#[derive(Drop)]
+pub(crate) struct Input<'a> {
+    pub alloc: Global,
+    block: &'a [u8],
+    at: usize,
+}
 
-pub(crate) const STARTS: usize = 0;
+impl<'a> Input<'a> {
+    pub(crate) fn new(alloc: Global, block: &'a [u8]) -> Input<'a> {
+        Input {
+            alloc,
+            block,
+            at: 0,
+        }
+    }
 
-pub(crate) const ENDS: usize = 16400;
+    pub(crate) fn number(&mut self) -> u32 {
+        let taken = take_number(self.block, self.at);
+        self.at = taken.next;
+        taken.value
+    }
 
-const CODES: usize = 32800;
+    // A slice of at most so many numbers.
+    fn slice(&mut self, most: usize) -> io::Result<Vec<u32>> {
+        let mut table = vec![in self.alloc; 0; most]?;
+        let filled = fill(self.block, self.at, &mut table);
+        self.at = filled.next;
+        table.truncate(filled.len);
+        Ok(table)
+    }
 
-pub(crate) const MARKED: usize = 49200;
+    // Delays from their packed numbers.
+    fn delays(&mut self, most: usize) -> io::Result<Vec<i32>> {
+        let codes = self.slice(most)?;
+        let mut delays = vec![in self.alloc; 0; codes.len()]?;
+        unpack(&codes, &mut delays);
+        Ok(delays)
+    }
 
-pub(crate) const LISTED: usize = 53400;
+    // A slice of the room, as long as the input says.
+    fn lent(&mut self, first: u32) -> io::Result<Vec<u32>>
+        requires { first ≤ 3500000000 }
+    {
+        let count = self.number() as usize;
+        pattern(self.alloc, first, count.min(2080))
+    }
+}
 
-pub(crate) const LENGTHS: usize = 61600;
+// A slice to lend, with first + k mod 65,536 at place k, so that a word that is moved or changed is seen.
+pub(crate) fn pattern(alloc: Global, first: u32, count: usize) -> io::Result<Vec<u32>>
+    requires { first ≤ 3500000000 }
+{
+    Ok(
+        (0..count)
+            .map(|k| first + (k % 65536) as u32)
+            .collect(alloc)?,
+    )
+}
 
-pub(crate) const NODES: usize = 62640;
-
-pub(crate) const ENDPOINT: usize = 79040;
-
-pub(crate) const FROM: usize = 95440;
-
-pub(crate) const TO: usize = 97520;
-
-pub(crate) const VIA: usize = 99600;
-
-const EDGE_ROOM: usize = 16400;
-
-const MARKED_ROOM: usize = 4200;
-
-const LISTED_ROOM: usize = 8200;
-
-const PATH_ROOM: usize = 1040;
-
-const COPY_ROOM: usize = 16400;
-
-const COPY_EDGE_ROOM: usize = 2080;
-
-// n and the lengths of a design's slices, and the place behind them.
-#[derive(Clone, Copy)]
+// n and a design's slices.
+#[derive(Drop)]
 pub(crate) struct Design {
     pub n: u32,
-    pub starts: usize,
-    pub ends: usize,
-    pub early: usize,
-    pub late: usize,
-    pub marked: usize,
-    pub next: usize,
+    pub starts: Vec<u32>,
+    pub ends: Vec<u32>,
+    pub early: Vec<i32>,
+    pub late: Vec<i32>,
+    pub marked: Vec<u32>,
 }
 
-// The lengths of a list's slices, and the place behind them.
-#[derive(Clone, Copy)]
-pub(crate) struct List {
-    pub listed: usize,
-    pub lengths: usize,
-    pub next: usize,
+impl Design {
+    pub(crate) fn read(input: &mut Input<'_>) -> io::Result<Design> {
+        Ok(Design {
+            n: input.number(),
+            starts: input.slice(16400)?,
+            ends: input.slice(16400)?,
+            early: input.delays(16400)?,
+            late: input.delays(16400)?,
+            marked: input.slice(4200)?,
+        })
+    }
 }
 
-// The lengths of the room's slices and of the scratch; and the place behind them.
-#[derive(Clone, Copy)]
-pub(crate) struct Sizes {
-    pub nodes: usize,
-    pub endpoint: usize,
-    pub from: usize,
-    pub to: usize,
-    pub via: usize,
-    pub scratch: usize,
-    pub next: usize,
-}
-
-// Whether a graph is held, and the lengths of its slices.
-#[derive(Clone, Copy)]
-pub(crate) struct Held {
-    pub any: bool,
-    pub nodes: usize,
-    pub endpoint: usize,
-    pub from: usize,
-    pub to: usize,
-    pub via: usize,
-}
-
-// What is held after a part of the input, and the place behind that part.
+// A list's slices.
 #[derive(Drop)]
-pub(crate) struct Step {
-    pub held: Held,
-    pub next: usize,
+pub(crate) struct List {
+    pub listed: Vec<u32>,
+    pub lengths: Vec<u32>,
 }
 
-// The words from a place on, or none where there are not so many.
-pub(crate) fn part<'a>(words: &'a [u32], place: usize, len: usize) -> &'a [u32] {
-    if place <= words.len() {
-        if len <= words.len() - place {
-            return &words[place..place + len];
-        }
-    }
-    &words[..0]
-}
-
-// Reads a slice to the words from a place on.
-fn fill_part(s: &[u8], at: usize, words: &mut [u32], place: usize, room: usize) -> Slice {
-    if place <= words.len() {
-        if room <= words.len() - place {
-            return fill(s, at, &mut words[place..place + room]);
-        }
-    }
-    Slice { len: 0, next: at }
-}
-
-// Delays from their packed numbers.
-fn fill_delays(s: &[u8], at: usize, words: &mut [u32], delays: &mut [i32]) -> Slice {
-    let c = fill_part(s, at, words, CODES, EDGE_ROOM);
-    unpack(part(words, CODES, c.len), delays);
-    c
-}
-
-pub(crate) fn read_design(
-    s: &[u8],
-    at: usize,
-    words: &mut [u32],
-    early: &mut [i32],
-    late: &mut [i32],
-) -> Design {
-    let n = take_number(s, at);
-    let a = fill_part(s, n.next, words, STARTS, EDGE_ROOM);
-    let b = fill_part(s, a.next, words, ENDS, EDGE_ROOM);
-    let c = fill_delays(s, b.next, words, early);
-    let d = fill_delays(s, c.next, words, late);
-    let e = fill_part(s, d.next, words, MARKED, MARKED_ROOM);
-    Design {
-        n: n.value,
-        starts: a.len,
-        ends: b.len,
-        early: c.len,
-        late: d.len,
-        marked: e.len,
-        next: e.next,
+impl List {
+    pub(crate) fn read(input: &mut Input<'_>) -> io::Result<List> {
+        Ok(List {
+            listed: input.slice(8200)?,
+            lengths: input.slice(1040)?,
+        })
     }
 }
 
-pub(crate) fn read_list(s: &[u8], at: usize, words: &mut [u32]) -> List {
-    let a = fill_part(s, at, words, LISTED, LISTED_ROOM);
-    let b = fill_part(s, a.next, words, LENGTHS, PATH_ROOM);
-    List {
-        listed: a.len,
-        lengths: b.len,
-        next: b.next,
+// A graph's slices, or a room for them.
+#[derive(Drop)]
+pub(crate) struct Graph {
+    pub nodes: Vec<u32>,
+    pub endpoint: Vec<u32>,
+    pub from: Vec<u32>,
+    pub to: Vec<u32>,
+    pub via: Vec<u32>,
+}
+
+impl Graph {
+    pub(crate) fn read(input: &mut Input<'_>) -> io::Result<Graph> {
+        Ok(Graph {
+            nodes: input.slice(16400)?,
+            endpoint: input.slice(16400)?,
+            from: input.slice(2080)?,
+            to: input.slice(2080)?,
+            via: input.slice(2080)?,
+        })
     }
-}
 
-pub(crate) fn read_sizes(s: &[u8], at: usize) -> Sizes {
-    let a = take_number(s, at);
-    let b = take_number(s, a.next);
-    let c = take_number(s, b.next);
-    let d = take_number(s, c.next);
-    let e = take_number(s, d.next);
-    let f = take_number(s, e.next);
-    Sizes {
-        nodes: a.value as usize,
-        endpoint: b.value as usize,
-        from: c.value as usize,
-        to: d.value as usize,
-        via: e.value as usize,
-        scratch: f.value as usize,
-        next: f.next,
+    pub(crate) fn lent(input: &mut Input<'_>) -> io::Result<Graph> {
+        Ok(Graph {
+            nodes: input.lent(3000000000)?,
+            endpoint: input.lent(3100000000)?,
+            from: input.lent(3200000000)?,
+            to: input.lent(3300000000)?,
+            via: input.lent(3400000000)?,
+        })
     }
-}
 
-pub(crate) fn nothing() -> Held {
-    Held {
-        any: false,
-        nodes: 0,
-        endpoint: 0,
-        from: 0,
-        to: 0,
-        via: 0,
-    }
-}
-
-// The graph at a place becomes the graph held.
-pub(crate) fn hold_given(s: &[u8], at: usize, words: &mut [u32]) -> Step {
-    let a = fill_part(s, at, words, NODES, COPY_ROOM);
-    let b = fill_part(s, a.next, words, ENDPOINT, COPY_ROOM);
-    let c = fill_part(s, b.next, words, FROM, COPY_EDGE_ROOM);
-    let d = fill_part(s, c.next, words, TO, COPY_EDGE_ROOM);
-    let e = fill_part(s, d.next, words, VIA, COPY_EDGE_ROOM);
-    let held = Held {
-        any: true,
-        nodes: a.len,
-        endpoint: b.len,
-        from: c.len,
-        to: d.len,
-        via: e.len,
-    };
-    Step { held, next: e.next }
-}
-
-fn copy(count: usize, source: &[u32], target: &mut [u32]) {
-    let len = least(count, least(source.len(), target.len()));
-    for k in 0..len {
-        target[k] = source[k];
-    }
-}
-
-fn copy_to(count: usize, source: &[u32], words: &mut [u32], place: usize) {
-    if place <= words.len() {
-        copy(count, source, &mut words[place..]);
-    }
-}
-
-// What is held after a removal: its result, or what was held before.
-pub(crate) fn keep(
-    made: Result<GraphCounts, Refusal>,
-    held: Held,
-    room_nodes: &[u32],
-    room_endpoint: &[u32],
-    room_from: &[u32],
-    room_to: &[u32],
-    room_via: &[u32],
-    words: &mut [u32],
-) -> Held {
-    match made {
-        Ok(GraphCounts { copies, edges }) => {
-            copy_to(copies, room_nodes, words, NODES);
-            copy_to(copies, room_endpoint, words, ENDPOINT);
-            copy_to(edges, room_from, words, FROM);
-            copy_to(edges, room_to, words, TO);
-            copy_to(edges, room_via, words, VIA);
-            Held {
-                any: true,
-                nodes: copies,
-                endpoint: copies,
-                from: edges,
-                to: edges,
-                via: edges,
-            }
-        }
-        Err(_) => held,
+    // Leaves what a removal made in the room.
+    pub(crate) fn truncate(&mut self, counts: GraphCounts) {
+        self.nodes.truncate(counts.copies);
+        self.endpoint.truncate(counts.copies);
+        self.from.truncate(counts.edges);
+        self.to.truncate(counts.edges);
+        self.via.truncate(counts.edges);
     }
 }

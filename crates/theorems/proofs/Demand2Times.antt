@@ -6,8 +6,8 @@ use mathlib.Core.Path.{◌≡◌, refl, sym, ap, ◌∙◌, subst}
 use mathlib.Core.Logic.{inr, ◌↔◌}
 use mathlib.Core.List.{List, [], ◌∷◌, ◌++◌, map, map-append}
 use Rattle.std.specs.Prelude.{Option, Some, None}
-use Rattle.timing.specs.Answers.{Times}
-use Rattle.timing.specs.declared.NodeTimes.{NodeTimes}
+use Rattle.timing.specs.Answers.{SomeTimes}
+use Rattle.timing.specs.declared.Times.{Times}
 use native.Mathlib.Omega.{arith}
 use lib.Dec.{T}
 use lib.IntN.{ℤ, ◌-ℤ◌}
@@ -72,7 +72,7 @@ module _ (G : Graph) (L : List (List ℕ)) (up : Rising G) where
       )
 
 -- the same paths, said in another way
-paths_on : {early late : ℕ → ℤ} {t : ℤ} {P Q : List Edge → List Edge → Type 0} {x : Option NodeTimes} → ((p q : List Edge) → P p q ↔ Q p q)
+paths_on : {early late : ℕ → ℤ} {t : ℤ} {P Q : List Edge → List Edge → Type 0} {x : Option Times} → ((p q : List Edge) → P p q ↔ Q p q)
     → PathTimes early late t P x → PathTimes early late t Q x
 paths_on {early} {late} {t} {P} {Q} e b =
     record {
@@ -89,7 +89,7 @@ paths_on {early} {late} {t} {P} {Q} e b =
           earliest = best_on (λ x. e x.0 x.1) o.earliest;
         }
 
-abbrev HasTimes : Option NodeTimes → Type 0
+abbrev HasTimes : Option Times → Type 0
 HasTimes (Some x) = Unit {0}
 HasTimes None = ⊥
 
@@ -237,7 +237,7 @@ module _ (G H : Graph) (L : List (List ℕ)) (up : Rising G) (S : Stands G L H) 
           }
         where
           some : (p q : List Edge) → PassesNode G L v p q
-              → (a : ℤ) × (r : ℤ) × (s : ℤ) × (e : ℤ) × (node_times_at early late t H n v ≡ Times a r s e) × PathBest early late t (PassesNode G L v) a r s e
+              → (a : ℤ) × (r : ℤ) × (s : ℤ) × (e : ℤ) × (node_times_at early late t H n v ≡ SomeTimes a r s e) × PathBest early late t (PassesNode G L v) a r s e
           some p q m =
               let o = node_up p q m in
               let b = node_times_lem early late t H n v S.rising (stands_onward G H L up S) (below p q m) (o.0, (mem_copies H v o.0).1 o.1) in

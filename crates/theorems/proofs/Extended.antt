@@ -8,7 +8,7 @@ use mathlib.Core.Bool.{Bool, true, false}
 use mathlib.Core.List.{List, ◌++◌}
 use mathlib.Core.Option.{none, some, some-injective}
 use Rattle.std.specs.Prelude.{Option, Some, None}
-use Rattle.timing.specs.declared.NodeTimes.{NodeTimes}
+use Rattle.timing.specs.declared.Times.{Times}
 use native.Mathlib.Omega.{arith}
 use native.Mathlib.Decide.{dec_lt}
 use lib.Dec.{T}
@@ -43,7 +43,7 @@ stays true f = tt
 stays false f = f (λ t. t)
 
 -- what cannot fail to hold, holds
-no_worse_stays : (x y : Option NodeTimes) → ((NoWorse x y → ⊥) → ⊥) → NoWorse x y
+no_worse_stays : (x y : Option Times) → ((NoWorse x y → ⊥) → ⊥) → NoWorse x y
 no_worse_stays x None f = tt
 no_worse_stays None (Some x) f = f (λ z. z)
 no_worse_stays (Some x) (Some x') f = record {
@@ -64,7 +64,7 @@ module _ {early late : ℕ → ℤ} {t : ℤ} {P Q : List Edge → List Edge →
   }
 
   -- where Q has a path the times compare, and where it has none the record is none
-  pub record_fewer : (x y : Option NodeTimes) → PathTimes early late t P x → PathTimes early late t Q y → NoWorse x y
+  pub record_fewer : (x y : Option Times) → PathTimes early late t P x → PathTimes early late t Q y → NoWorse x y
   record_fewer x y b c =
       no_worse_stays x y
       (λ no.

@@ -11,7 +11,7 @@ use mathlib.Core.List.{List, [], ◌∷◌, map, Memᴰ}
 use mathlib.Core.Option.{Option, none, some}
 use Rattle.std.specs.Prelude.{Option as Maybe}
 use Rattle.timing.specs.Answers.{Verdict, Passed}
-use Rattle.timing.specs.declared.NodeTimes.{NodeTimes}
+use Rattle.timing.specs.declared.Times.{Times}
 use lib.Dec.{T}
 use lib.IntN.{ℤ, pos, ◌-ℤ◌}
 use lib.ListN.{length}
@@ -145,21 +145,21 @@ module _ (d : ℕ → ℤ) (t : ℤ) (G : Graph) (R : Rising G) where
           let x = node_times_lem early d t G n v R O (inside c p.0) (c, (mem_copies G v c).1 (p.0, refl)) in (
             v,
             inside c p.0,
-            subst (λ (y : Maybe NodeTimes). T (lt_z (slack_of y) (pos 0))) (sym x.4) (less_negative x.2 r.edges (x.5.slack.most r.edges (c, (p.0, refl), p.1)) h),
+            subst (λ (y : Maybe Times). T (lt_z (slack_of y) (pos 0))) (sym x.4) (less_negative x.2 r.edges (x.5.slack.most r.edges (c, (p.0, refl), p.1)) h),
           )
 
       node_longer : (v : ℕ) → v < n → T (lt_z (slack_of_node v) (pos 0)) → Longer
       node_longer v i h = ⊎_elim (λ e. absurd (empty (λ s. nil_none (copies_of G v) e s))) full (nil_or_some (copies_of G v))
         where
           empty : (Some (copies_of G v) → ⊥) → ⊥
-          empty f = subst (λ (y : Maybe NodeTimes). T (lt_z (slack_of y) (pos 0))) (node_none early d t G n v (inr f)) h
+          empty f = subst (λ (y : Maybe Times). T (lt_z (slack_of y) (pos 0))) (node_none early d t G n v (inr f)) h
 
           full : Some (copies_of G v) → Longer
           full s =
               let x = node_times_lem early d t G n v R O i s in
               let b = x.5.slack in
               let c = b.there in
-              through_longer c.0 b.at c.1.0 c.2 (negative_at b (subst (λ (y : Maybe NodeTimes). T (lt_z (slack_of y) (pos 0))) x.4 h))
+              through_longer c.0 b.at c.1.0 c.2 (negative_at b (subst (λ (y : Maybe Times). T (lt_z (slack_of y) (pos 0))) x.4 h))
 
 -- from whether some copy is late to the answer
 late_iff : {P : Type 0} (cs : List ℕ) → (Some cs → P) → (P → Some cs) → LateIff (lowest_late Passed cs) P

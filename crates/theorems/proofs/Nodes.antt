@@ -6,8 +6,8 @@ use mathlib.Core.Logic.{◌⊎◌, ⊎_elim, ◌↔◌}
 use mathlib.Core.Bool.{Bool, true, false, cond, ◌&&◌, not}
 use mathlib.Core.List.{List, [], ◌∷◌, map, Memᴰ}
 use Rattle.std.specs.Prelude.{Option, None}
-use Rattle.timing.specs.Answers.{Times}
-use Rattle.timing.specs.declared.NodeTimes.{NodeTimes}
+use Rattle.timing.specs.Answers.{SomeTimes}
+use Rattle.timing.specs.declared.Times.{Times}
 use native.Mathlib.Omega.{arith}
 use lib.Dec.{T, eqb, eqb→eq, eqb_refl, ltb, lt→ltb, ltb→lt}
 use lib.IntN.{ℤ, pos, ◌-ℤ◌}
@@ -75,11 +75,11 @@ not_taken true x y p = absurd (p tt)
 not_taken false x y p = refl
 
 -- a copy's times
-abbrev pub copy_times_at : (ℕ → ℤ) → (ℕ → ℤ) → ℤ → Graph → ℕ → Option NodeTimes
-copy_times_at early late t G c = Times (arrival_at late t G c) (required_at late t G c) (slack_at late t G c) (earliest_at early G c)
+abbrev pub copy_times_at : (ℕ → ℤ) → (ℕ → ℤ) → ℤ → Graph → ℕ → Option Times
+copy_times_at early late t G c = SomeTimes (arrival_at late t G c) (required_at late t G c) (slack_at late t G c) (earliest_at early G c)
 
 -- a node's times, from the slices that hold a time of each copy
-abbrev pub node_times_at : (ℕ → ℤ) → (ℕ → ℤ) → ℤ → Graph → ℕ → ℕ → Option NodeTimes
+abbrev pub node_times_at : (ℕ → ℤ) → (ℕ → ℤ) → ℤ → Graph → ℕ → ℕ → Option Times
 node_times_at early late t G n v =
     let copies : List ℕ = upto (length G.nodes) 0 in
     node_times n G.nodes (map (arrival_at late t G) copies) (map (required_at late t G) copies) (map (slack_at late t G) copies)
@@ -93,7 +93,7 @@ module _ (early late : ℕ → ℤ) (t : ℤ) (G : Graph) (n v : ℕ) where
 
   -- a node below n that has copies
   pub node_times_lem : Rising G → Onward G → v < n → Some (copies_of G v)
-      → (a : ℤ) × (r : ℤ) × (s : ℤ) × (e : ℤ) × (node_times_at early late t G n v ≡ Times a r s e) × NodeBest early late t G v a r s e
+      → (a : ℤ) × (r : ℤ) × (s : ℤ) × (e : ℤ) × (node_times_at early late t G n v ≡ SomeTimes a r s e) × NodeBest early late t G v a r s e
   unfolding node_times
   node_times_lem R O h s = (
     largest (map (arrival_at late t G) (copies_of G v)),

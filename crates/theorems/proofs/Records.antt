@@ -8,8 +8,8 @@ use mathlib.Core.List.{List, map, Memᴰ}
 use mathlib.Core.Option.{Option, none, some}
 use Rattle.std.specs.Prelude.{Ok}
 use Rattle.std.specs.Prelude.{Option as Maybe}
-use Rattle.timing.specs.Answers.{Verdict, Passed, Times}
-use Rattle.timing.specs.declared.NodeTimes.{NodeTimes}
+use Rattle.timing.specs.Answers.{Verdict, Passed, SomeTimes}
+use Rattle.timing.specs.declared.Times.{Times}
 use native.Mathlib.Omega.{arith}
 use lib.Dec.{T, eqb, eqb_refl}
 use lib.IntN.{ℤ, pos}
@@ -223,7 +223,7 @@ module _ (D : Design) (H : Graph) (t : ℕ) (ats rts sts ets : List ℤ)
       (times_count D (slices_of H) t (length ats) (length rts) (length sts) (length ets) tested)
 
   -- and what `node_records` leaves at the place of node v tells the same record
-  pub records_after_lem : {A : Type 0} (z : A) (f : Maybe NodeTimes → A) (room : List A) (v : ℕ) → v < D.nodes
+  pub records_after_lem : {A : Type 0} (z : A) (f : Maybe Times → A) (room : List A) (v : ℕ) → v < D.nodes
       → get_or
       (records_after f D.nodes H.nodes
       (arrivals_after D (slices_of H) t (test_times D (slices_of H) t (length ats) (length rts) (length sts) (length ets)) ats)
@@ -245,12 +245,12 @@ module _ (D : Design) (H : Graph) (t : ℕ) (ats rts sts ets : List ℤ)
 
   pub copy_after : (h : ℕ) → h < length H.nodes
       → let v = test_times D (slices_of H) t (length ats) (length rts) (length sts) (length ets) in
-      Times (get_or (arrivals_after D (slices_of H) t v ats) h (pos 0)) (get_or (requireds_after D (slices_of H) t v rts) h (pos 0))
+      SomeTimes (get_or (arrivals_after D (slices_of H) t v ats) h (pos 0)) (get_or (requireds_after D (slices_of H) t v rts) h (pos 0))
       (get_or (slacks_after D (slices_of H) t v sts) h (pos 0)) (get_or (earliests_after D (slices_of H) v ets) h (pos 0))
       ≡ copy_times_at (edge_early D) (edge_late D) (pos t) H h
   copy_after h k =
       λ i.
-      Times (left (arrival_at (edge_late D) (pos t) H) h k arrivals_filled i) (left (required_at (edge_late D) (pos t) H) h k requireds_filled i)
+      SomeTimes (left (arrival_at (edge_late D) (pos t) H) h k arrivals_filled i) (left (required_at (edge_late D) (pos t) H) h k requireds_filled i)
       (left (slack_at (edge_late D) (pos t) H) h k slacks_filled i) (left (earliest_at (edge_early D) H) h k earliests_filled i)
 
   times_left : (h : ℕ) (P : List Edge → List Edge → Type 0) → h < length H.nodes

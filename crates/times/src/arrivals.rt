@@ -56,6 +56,7 @@ fn arrive(
         let mut t = over_edge(late, from, via, arrivals, first);
         let mut e = over_edge(early, from, via, earliests, first);
         let mut k = first + 1;
+        // No `for`: where the run of edges into c ends is found by reading it, and the next copy goes on from there.
         while ends_at(to, k, c) {
             t = larger(t, over_edge(late, from, via, arrivals, k));
             e = smaller(e, over_edge(early, from, via, earliests, k));

@@ -5,8 +5,8 @@ use mathlib.Core.Logic.{⊎_elim}
 use mathlib.Core.List.Memᴰ
 use mathlib.Core.List.{List, [], ◌∷◌}
 use Rattle.std.specs.Prelude.{Option, None}
-use Rattle.timing.specs.Answers.{Times}
-use Rattle.timing.specs.declared.NodeTimes.{NodeTimes}
+use Rattle.timing.specs.Answers.{SomeTimes}
+use Rattle.timing.specs.declared.Times.{Times}
 use lib.IntN.{ℤ, pos, negsuc}
 use lib.Signed.{le_z_yes}
 use Rattle.timing.specs.Extended.{ExtendedTo, SamePaths, NoWorse, times_in}
@@ -26,26 +26,26 @@ pub not_same : (p : List ℕ) → SamePaths [] (p ∷ []) → ⊥
 not_same p f = not_shorter p f.1
 
 -- arrival, required time, slack, earliest arrival: before, and as good or better after
-abbrev before : Option NodeTimes
-before = Times (pos 9) (pos 7) (negsuc 1) (pos 4)
+abbrev before : Option Times
+before = SomeTimes (pos 9) (pos 7) (negsuc 1) (pos 4)
 
 pub unchanged : NoWorse before before
 unchanged = record { arrival = le_z_yes tt; required = le_z_yes tt; slack = le_z_yes tt; earliest = le_z_yes tt }
 
-pub better : NoWorse before (Times (pos 8) (pos 8) (negsuc 0) (pos 5))
+pub better : NoWorse before (SomeTimes (pos 8) (pos 8) (negsuc 0) (pos 5))
 better = record { arrival = le_z_yes tt; required = le_z_yes tt; slack = le_z_yes tt; earliest = le_z_yes tt }
 
 -- each of the four by one to the worse
-pub arrival_rises : NoWorse before (Times (pos 10) (pos 7) (negsuc 1) (pos 4)) → ⊥
+pub arrival_rises : NoWorse before (SomeTimes (pos 10) (pos 7) (negsuc 1) (pos 4)) → ⊥
 arrival_rises w = w.arrival.le
 
-pub required_falls : NoWorse before (Times (pos 9) (pos 6) (negsuc 1) (pos 4)) → ⊥
+pub required_falls : NoWorse before (SomeTimes (pos 9) (pos 6) (negsuc 1) (pos 4)) → ⊥
 required_falls w = w.required.le
 
-pub slack_falls : NoWorse before (Times (pos 9) (pos 7) (negsuc 2) (pos 4)) → ⊥
+pub slack_falls : NoWorse before (SomeTimes (pos 9) (pos 7) (negsuc 2) (pos 4)) → ⊥
 slack_falls w = w.slack.le
 
-pub earliest_falls : NoWorse before (Times (pos 9) (pos 7) (negsuc 1) (pos 3)) → ⊥
+pub earliest_falls : NoWorse before (SomeTimes (pos 9) (pos 7) (negsuc 1) (pos 3)) → ⊥
 earliest_falls w = w.earliest.le
 
 -- none is better than any number

@@ -6,10 +6,10 @@ use Prim.Native.Nat.{ℕ, suc}
 use mathlib.Core.Path.{◌≡◌, refl}
 use mathlib.Core.List.{List, [], ◌∷◌, map, flat_map}
 use Rattle.std.specs.Prelude.{Option, Result, Err, None}
-use Rattle.timing.specs.Answers.{Verdict, Passed, Counts, Times, Late, OnTime}
+use Rattle.timing.specs.Answers.{Verdict, Passed, Counts, SomeTimes, Late, OnTime}
 use Rattle.timing.specs.declared.Taken.{Taken}
 use Rattle.timing.specs.declared.GraphCounts.{GraphCounts}
-use Rattle.timing.specs.declared.NodeTimes.{NodeTimes}
+use Rattle.timing.specs.declared.Times.{Times}
 use Rattle.timing.specs.declared.Refusal.{Refusal}
 use lib.IntN.{ℤ, pos, negsuc}
 use lib.ListN.{length, get_or}
@@ -37,8 +37,8 @@ removed G (L ∷ Ls) = removed (true_graph G (paths_of L)) Ls
 
 pub data Fact : Type 0 where
   graph_is : Design → List PathList → Graph → Fact
-  times_are : Design → ℕ → List PathList → List (Option NodeTimes) → Fact
-  nodes_are : Design → ℕ → List PathList → List (Option NodeTimes) → Fact
+  times_are : Design → ℕ → List PathList → List (Option Times) → Fact
+  nodes_are : Design → ℕ → List PathList → List (Option Times) → Fact
   removal_is : Design → Removal → Outcome Graph → Fact
   again_is : Design → Graph → Removal → Outcome Graph → Fact
   program_is : List ℕ → Outcome Graph → Fact
@@ -74,10 +74,10 @@ of_times D T R f =
     f (arrivals_after D S T Passed []) (requireds_after D S T Passed []) (slacks_after D S T Passed [])
     (earliests_after D S Passed [])
 
-abbrev copy_times : List ℤ → List ℤ → List ℤ → List ℤ → ℕ → Option NodeTimes
+abbrev copy_times : List ℤ → List ℤ → List ℤ → List ℤ → ℕ → Option Times
 copy_times arrivals requireds slacks earliests c =
     let at : List ℤ → ℤ = λ ts. get_or ts c (pos 0) in
-    Times (at arrivals) (at requireds) (at slacks) (at earliests)
+    SomeTimes (at arrivals) (at requireds) (at slacks) (at earliests)
 
 -- the k-th of some lent lengths, and a slice of times of that length
 abbrev lent : List ℕ → ℕ → ℕ
@@ -281,13 +281,13 @@ marked =
     -- M1: deck A
     graph_is deck_a (list_a ∷ []) graph_a
     ∷ times_are deck_a 10 (list_a ∷ [])
-    (Times (pos 0) (pos 5) (pos 5) (pos 0) ∷ Times (pos 0) (pos 4) (pos 4) (pos 0) ∷
-    Times (pos 5) (pos 9) (pos 4) (pos 3) ∷ Times (pos 3) (pos 8) (pos 5) (pos 3) ∷
-    Times (pos 5) (pos 10) (pos 5) (pos 5) ∷ Times (pos 6) (pos 10) (pos 4) (pos 4) ∷ [])
+    (SomeTimes (pos 0) (pos 5) (pos 5) (pos 0) ∷ SomeTimes (pos 0) (pos 4) (pos 4) (pos 0) ∷
+    SomeTimes (pos 5) (pos 9) (pos 4) (pos 3) ∷ SomeTimes (pos 3) (pos 8) (pos 5) (pos 3) ∷
+    SomeTimes (pos 5) (pos 10) (pos 5) (pos 5) ∷ SomeTimes (pos 6) (pos 10) (pos 4) (pos 4) ∷ [])
     ∷ nodes_are deck_a 10 (list_a ∷ [])
-    (Times (pos 0) (pos 5) (pos 5) (pos 0) ∷ Times (pos 0) (pos 4) (pos 4) (pos 0) ∷
-    Times (pos 5) (pos 8) (pos 4) (pos 3) ∷ Times (pos 5) (pos 10) (pos 5) (pos 5) ∷
-    Times (pos 6) (pos 10) (pos 4) (pos 4) ∷ None ∷ [])
+    (SomeTimes (pos 0) (pos 5) (pos 5) (pos 0) ∷ SomeTimes (pos 0) (pos 4) (pos 4) (pos 0) ∷
+    SomeTimes (pos 5) (pos 8) (pos 4) (pos 3) ∷ SomeTimes (pos 5) (pos 10) (pos 5) (pos 5) ∷
+    SomeTimes (pos 6) (pos 10) (pos 4) (pos 4) ∷ None ∷ [])
     ∷ program_is bytes_a (made graph_a)
     ∷ c_call_is bytes_a 64 (pos 29)
     ∷ c_room_is bytes_a 64
@@ -297,12 +297,12 @@ marked =
     ∷ graph_is no_nodes (no_paths ∷ []) (graph [] [] [])
     -- M3: one node, no edges
     ∷ graph_is one_node (no_paths ∷ []) (graph (0 ∷ []) (1 ∷ []) [])
-    ∷ times_are one_node 7 (no_paths ∷ []) (Times (pos 0) (pos 7) (pos 7) (pos 0) ∷ [])
+    ∷ times_are one_node 7 (no_paths ∷ []) (SomeTimes (pos 0) (pos 7) (pos 7) (pos 0) ∷ [])
     -- M4: A with only path 2; a graph handed back uncut does not meet it
     ∷ graph_is deck_a (path_list (2 ∷ []) (1 ∷ []) ∷ []) back_graph
     ∷ nodes_are deck_a 10 (path_list (2 ∷ []) (1 ∷ []) ∷ [])
-    (Times (pos 0) (pos 6) (pos 6) (pos 0) ∷ Times (pos 0) (pos 4) (pos 4) (pos 0) ∷
-    Times (pos 5) (pos 9) (pos 4) (pos 3) ∷ None ∷ Times (pos 6) (pos 10) (pos 4) (pos 4) ∷ None ∷ [])
+    (SomeTimes (pos 0) (pos 6) (pos 6) (pos 0) ∷ SomeTimes (pos 0) (pos 4) (pos 4) (pos 0) ∷
+    SomeTimes (pos 5) (pos 9) (pos 4) (pos 3) ∷ None ∷ SomeTimes (pos 6) (pos 10) (pos 4) (pos 4) ∷ None ∷ [])
     -- M5: A with 0,2 and 1,2: the graph of M4
     ∷ graph_is deck_a (path_list (0 ∷ 2 ∷ 1 ∷ 2 ∷ []) (2 ∷ 2 ∷ []) ∷ []) back_graph
     -- M6: A with 1,2 and 0,3; then by parts, which differs by a renumbering of node 2
@@ -318,12 +318,12 @@ marked =
     ∷ graph_is design_m8 (list_m8 ∷ [])
     (graph (0 ∷ 1 ∷ 2 ∷ 3 ∷ 5 ∷ []) (0 ∷ 0 ∷ 0 ∷ 0 ∷ 1 ∷ []) (edge 0 2 0 ∷ edge 1 2 1 ∷ edge 2 3 2 ∷ edge 3 4 5 ∷ []))
     ∷ nodes_are design_m8 10 (list_m8 ∷ [])
-    (Times (pos 0) (pos 7) (pos 7) (pos 0) ∷ Times (pos 0) (pos 7) (pos 7) (pos 0) ∷
-    Times (pos 1) (pos 8) (pos 7) (pos 1) ∷ Times (pos 2) (pos 9) (pos 7) (pos 2) ∷ None ∷
-    Times (pos 3) (pos 10) (pos 7) (pos 3) ∷ None ∷ [])
+    (SomeTimes (pos 0) (pos 7) (pos 7) (pos 0) ∷ SomeTimes (pos 0) (pos 7) (pos 7) (pos 0) ∷
+    SomeTimes (pos 1) (pos 8) (pos 7) (pos 1) ∷ SomeTimes (pos 2) (pos 9) (pos 7) (pos 2) ∷ None ∷
+    SomeTimes (pos 3) (pos 10) (pos 7) (pos 3) ∷ None ∷ [])
     -- M9: an arrival below 0; a largest arrival that starts from 0 does not meet it
     ∷ times_are design_m9 10 (no_paths ∷ [])
-    (Times (pos 0) (pos 14) (pos 14) (pos 0) ∷ Times (negsuc 3) (pos 10) (pos 14) (negsuc 3) ∷ [])
+    (SomeTimes (pos 0) (pos 14) (pos 14) (pos 0) ∷ SomeTimes (negsuc 3) (pos 10) (pos 14) (negsuc 3) ∷ [])
     -- M10: packed numbers
     ∷ packed_is 127 (127 ∷ [])
     ∷ packed_is 128 (128 ∷ 1 ∷ [])
@@ -391,22 +391,22 @@ marked =
     ∷ removal_is deck_a (removal (path_list (2 ∷ 9 ∷ []) (2 ∷ 0 ∷ 0 ∷ [])) ample 999) (refused (refusal_within 22 1 0))
     -- Earliest arrivals: that of node 3 is not on the latest path, not of the smallest late delay, and below 0
     ∷ times_are joined 10 (no_paths ∷ [])
-    (Times (pos 0) (negsuc 0) (negsuc 0) (pos 0) ∷ Times (pos 0) (pos 5) (pos 5) (pos 0) ∷
-    Times (pos 0) (pos 2) (pos 2) (pos 0) ∷ Times (pos 9) (pos 8) (negsuc 0) (negsuc 4) ∷
-    Times (pos 11) (pos 10) (negsuc 0) (negsuc 3) ∷ [])
+    (SomeTimes (pos 0) (negsuc 0) (negsuc 0) (pos 0) ∷ SomeTimes (pos 0) (pos 5) (pos 5) (pos 0) ∷
+    SomeTimes (pos 0) (pos 2) (pos 2) (pos 0) ∷ SomeTimes (pos 9) (pos 8) (negsuc 0) (negsuc 4) ∷
+    SomeTimes (pos 11) (pos 10) (negsuc 0) (negsuc 3) ∷ [])
     -- The path with the earliest arrival is false; then a node whose second copy is the earlier one
     ∷ times_are hold 150 (list_hold ∷ [])
-    (Times (pos 0) (pos 33) (pos 33) (pos 0) ∷ Times (pos 90) (pos 123) (pos 33) (pos 60) ∷
-    Times (pos 105) (pos 138) (pos 33) (pos 10) ∷ Times (pos 105) (pos 140) (pos 35) (pos 70) ∷
-    Times (pos 115) (pos 150) (pos 35) (pos 75) ∷ Times (pos 117) (pos 150) (pos 33) (pos 18) ∷ [])
+    (SomeTimes (pos 0) (pos 33) (pos 33) (pos 0) ∷ SomeTimes (pos 90) (pos 123) (pos 33) (pos 60) ∷
+    SomeTimes (pos 105) (pos 138) (pos 33) (pos 10) ∷ SomeTimes (pos 105) (pos 140) (pos 35) (pos 70) ∷
+    SomeTimes (pos 115) (pos 150) (pos 35) (pos 75) ∷ SomeTimes (pos 117) (pos 150) (pos 33) (pos 18) ∷ [])
     ∷ nodes_are hold 150 (list_hold ∷ [])
-    (Times (pos 0) (pos 33) (pos 33) (pos 0) ∷ Times (pos 90) (pos 123) (pos 33) (pos 60) ∷
-    Times (pos 105) (pos 138) (pos 33) (pos 10) ∷ Times (pos 115) (pos 150) (pos 35) (pos 75) ∷
-    Times (pos 117) (pos 150) (pos 33) (pos 18) ∷ None ∷ [])
+    (SomeTimes (pos 0) (pos 33) (pos 33) (pos 0) ∷ SomeTimes (pos 90) (pos 123) (pos 33) (pos 60) ∷
+    SomeTimes (pos 105) (pos 138) (pos 33) (pos 10) ∷ SomeTimes (pos 115) (pos 150) (pos 35) (pos 75) ∷
+    SomeTimes (pos 117) (pos 150) (pos 33) (pos 18) ∷ None ∷ [])
     ∷ nodes_are hold 150 (path_list (2 ∷ 3 ∷ 1 ∷ 4 ∷ []) (2 ∷ 2 ∷ []) ∷ [])
-    (Times (pos 0) (pos 35) (pos 35) (pos 0) ∷ Times (pos 90) (pos 125) (pos 35) (pos 60) ∷
-    Times (pos 105) (pos 138) (pos 35) (pos 10) ∷ Times (pos 115) (pos 150) (pos 35) (pos 75) ∷
-    Times (pos 27) (pos 150) (pos 123) (pos 18) ∷ None ∷ [])
+    (SomeTimes (pos 0) (pos 35) (pos 35) (pos 0) ∷ SomeTimes (pos 90) (pos 125) (pos 35) (pos 60) ∷
+    SomeTimes (pos 105) (pos 138) (pos 35) (pos 10) ∷ SomeTimes (pos 115) (pos 150) (pos 35) (pos 75) ∷
+    SomeTimes (pos 27) (pos 150) (pos 123) (pos 18) ∷ None ∷ [])
     -- In the deck early first: read the other way, edge 0 gives 15
     ∷ program_is (5 ∷ 4 ∷ 0 ∷ 3 ∷ 4 ∷ 18 ∷ 1 ∷ 3 ∷ 2 ∷ 6 ∷ 2 ∷ 3 ∷ 9 ∷ 12 ∷ 3 ∷ 4 ∷ 2 ∷ 4 ∷ 0 ∷ 0 ∷ 10 ∷ [])
     (made (graph (0 ∷ 1 ∷ 2 ∷ 3 ∷ 4 ∷ []) (0 ∷ 0 ∷ 0 ∷ 0 ∷ 1 ∷ []) (edge 0 3 0 ∷ edge 1 3 1 ∷ edge 2 3 2 ∷ edge 3 4 3 ∷
@@ -453,21 +453,21 @@ marked =
     zeros 35)
     -- Required at copy 2 is 9, from further on, and not T alone; with edge 3's delays -1 it is 10, by T, where further on alone gives 11
     ∷ times_are observed 10 (list_a ∷ [])
-    (Times (pos 0) (pos 5) (pos 5) (pos 0) ∷ Times (pos 0) (pos 4) (pos 4) (pos 0) ∷
-    Times (pos 5) (pos 9) (pos 4) (pos 3) ∷ Times (pos 3) (pos 8) (pos 5) (pos 3) ∷
-    Times (pos 5) (pos 10) (pos 5) (pos 5) ∷ Times (pos 6) (pos 10) (pos 4) (pos 4) ∷ [])
+    (SomeTimes (pos 0) (pos 5) (pos 5) (pos 0) ∷ SomeTimes (pos 0) (pos 4) (pos 4) (pos 0) ∷
+    SomeTimes (pos 5) (pos 9) (pos 4) (pos 3) ∷ SomeTimes (pos 3) (pos 8) (pos 5) (pos 3) ∷
+    SomeTimes (pos 5) (pos 10) (pos 5) (pos 5) ∷ SomeTimes (pos 6) (pos 10) (pos 4) (pos 4) ∷ [])
     ∷ times_are observed_back 10 (list_a ∷ [])
-    (Times (pos 0) (pos 5) (pos 5) (pos 0) ∷ Times (pos 0) (pos 5) (pos 5) (pos 0) ∷
-    Times (pos 5) (pos 10) (pos 5) (pos 3) ∷ Times (pos 3) (pos 8) (pos 5) (pos 3) ∷
-    Times (pos 5) (pos 10) (pos 5) (pos 5) ∷ Times (pos 4) (pos 10) (pos 6) (pos 2) ∷ [])
+    (SomeTimes (pos 0) (pos 5) (pos 5) (pos 0) ∷ SomeTimes (pos 0) (pos 5) (pos 5) (pos 0) ∷
+    SomeTimes (pos 5) (pos 10) (pos 5) (pos 3) ∷ SomeTimes (pos 3) (pos 8) (pos 5) (pos 3) ∷
+    SomeTimes (pos 5) (pos 10) (pos 5) (pos 5) ∷ SomeTimes (pos 4) (pos 10) (pos 6) (pos 2) ∷ [])
     ∷ nodes_are observed_back 10 (list_a ∷ [])
-    (Times (pos 0) (pos 5) (pos 5) (pos 0) ∷ Times (pos 0) (pos 5) (pos 5) (pos 0) ∷
-    Times (pos 5) (pos 8) (pos 5) (pos 3) ∷ Times (pos 5) (pos 10) (pos 5) (pos 5) ∷
-    Times (pos 4) (pos 10) (pos 6) (pos 2) ∷ None ∷ [])
+    (SomeTimes (pos 0) (pos 5) (pos 5) (pos 0) ∷ SomeTimes (pos 0) (pos 5) (pos 5) (pos 0) ∷
+    SomeTimes (pos 5) (pos 8) (pos 5) (pos 3) ∷ SomeTimes (pos 5) (pos 10) (pos 5) (pos 5) ∷
+    SomeTimes (pos 4) (pos 10) (pos 6) (pos 2) ∷ None ∷ [])
     -- A marked source: the path without edges is there beside the one that goes on, and when that is false
     ∷ graph_is observed_source (no_paths ∷ []) (graph (0 ∷ 1 ∷ 2 ∷ []) (1 ∷ 0 ∷ 1 ∷ []) (edge 0 1 0 ∷ edge 1 2 1 ∷ []))
     ∷ graph_is observed_source (path_list (0 ∷ 1 ∷ []) (2 ∷ []) ∷ []) (graph (0 ∷ []) (1 ∷ []) [])
-    ∷ times_are observed_source 10 (path_list (0 ∷ 1 ∷ []) (2 ∷ []) ∷ []) (Times (pos 0) (pos 10) (pos 10) (pos 0) ∷ [])
+    ∷ times_are observed_source 10 (path_list (0 ∷ 1 ∷ []) (2 ∷ []) ∷ []) (SomeTimes (pos 0) (pos 10) (pos 10) (pos 0) ∷ [])
     -- An isolated node marked; a sink marked; all nodes marked
     ∷ graph_is (design 3 (0 ∷ []) (2 ∷ []) (pos 1 ∷ []) (pos 1 ∷ []) (1 ∷ [])) (path_list (0 ∷ []) (1 ∷ []) ∷ [])
     (graph (1 ∷ []) (1 ∷ []) [])
@@ -487,8 +487,8 @@ marked =
     ∷ graph_is observed (path_list (2 ∷ 3 ∷ []) (1 ∷ 1 ∷ []) ∷ path_list (0 ∷ []) (1 ∷ []) ∷ [])
     (graph (1 ∷ 2 ∷ []) (0 ∷ 1 ∷ []) (edge 0 1 1 ∷ []))
     ∷ times_are observed 10 (path_list (2 ∷ 3 ∷ []) (1 ∷ 1 ∷ []) ∷ [])
-    (Times (pos 0) (pos 7) (pos 7) (pos 0) ∷ Times (pos 0) (pos 5) (pos 5) (pos 0) ∷
-    Times (pos 5) (pos 10) (pos 5) (pos 3) ∷ [])
+    (SomeTimes (pos 0) (pos 7) (pos 7) (pos 0) ∷ SomeTimes (pos 0) (pos 5) (pos 5) (pos 0) ∷
+    SomeTimes (pos 5) (pos 10) (pos 5) (pos 3) ∷ [])
     -- 16: not below n, at index 0 and at 1; not rising; equal; the first of two
     ∷ removal_is (marking (5 ∷ [])) (removal no_paths ample 999) (refused (refusal 16 0))
     ∷ removal_is (marking (1 ∷ 5 ∷ [])) (removal no_paths ample 999) (refused (refusal 16 1))
@@ -616,15 +616,15 @@ marked =
     edge 3 5 3 ∷ [])))
     -- Lists longer than deck A's, against M1: an earliest arrival rises; a required time and a slack rise, and node 3 has none; arrivals fall, and node 1 has none
     ∷ nodes_are deck_a 10 (path_list (1 ∷ 2 ∷ 0 ∷ 3 ∷ []) (2 ∷ 2 ∷ []) ∷ [])
-    (Times (pos 0) (pos 5) (pos 5) (pos 0) ∷ Times (pos 0) (pos 4) (pos 4) (pos 0) ∷
-    Times (pos 5) (pos 8) (pos 4) (pos 3) ∷ Times (pos 5) (pos 10) (pos 5) (pos 5) ∷
-    Times (pos 6) (pos 10) (pos 4) (pos 6) ∷ None ∷ [])
+    (SomeTimes (pos 0) (pos 5) (pos 5) (pos 0) ∷ SomeTimes (pos 0) (pos 4) (pos 4) (pos 0) ∷
+    SomeTimes (pos 5) (pos 8) (pos 4) (pos 3) ∷ SomeTimes (pos 5) (pos 10) (pos 5) (pos 5) ∷
+    SomeTimes (pos 6) (pos 10) (pos 4) (pos 6) ∷ None ∷ [])
     ∷ nodes_are deck_a 10 (path_list (1 ∷ 2 ∷ 2 ∷ []) (2 ∷ 1 ∷ []) ∷ [])
-    (Times (pos 0) (pos 6) (pos 6) (pos 0) ∷ Times (pos 0) (pos 4) (pos 4) (pos 0) ∷
-    Times (pos 5) (pos 9) (pos 4) (pos 3) ∷ None ∷ Times (pos 6) (pos 10) (pos 4) (pos 4) ∷ None ∷ [])
+    (SomeTimes (pos 0) (pos 6) (pos 6) (pos 0) ∷ SomeTimes (pos 0) (pos 4) (pos 4) (pos 0) ∷
+    SomeTimes (pos 5) (pos 9) (pos 4) (pos 3) ∷ None ∷ SomeTimes (pos 6) (pos 10) (pos 4) (pos 4) ∷ None ∷ [])
     ∷ nodes_are deck_a 10 (path_list (1 ∷ 2 ∷ 1 ∷ []) (2 ∷ 1 ∷ []) ∷ [])
-    (Times (pos 0) (pos 5) (pos 5) (pos 0) ∷ None ∷ Times (pos 3) (pos 8) (pos 5) (pos 3) ∷
-    Times (pos 5) (pos 10) (pos 5) (pos 5) ∷ Times (pos 4) (pos 10) (pos 6) (pos 4) ∷ None ∷ [])
+    (SomeTimes (pos 0) (pos 5) (pos 5) (pos 0) ∷ None ∷ SomeTimes (pos 3) (pos 8) (pos 5) (pos 3) ∷
+    SomeTimes (pos 5) (pos 10) (pos 5) (pos 5) ∷ SomeTimes (pos 4) (pos 10) (pos 6) (pos 4) ∷ None ∷ [])
     ∷ []
 
 pub marked_hold : All marked

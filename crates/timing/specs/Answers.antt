@@ -1,7 +1,7 @@
 -- What calls answer, in the types of `src/lib.rt`: `Ok` and what was found, or `Err` and the refusal.
 use Rattle.std.specs.Prelude.{ℕ, ℤ, Option, Result, Ok, Some, None}
 use Rattle.timing.specs.declared.Groups.{Groups}
-use Rattle.timing.specs.declared.NodeTimes.{NodeTimes}
+use Rattle.timing.specs.declared.Times.{Times}
 use Rattle.timing.specs.declared.Refusal.{Refusal}
 use Rattle.timing.specs.declared.NoNumber.{NoNumber}
 use Rattle.timing.specs.declared.Taken.{Taken}
@@ -33,8 +33,8 @@ abbrev pub Counts : ℕ → ℕ → Result GraphCounts Refusal
 Counts copies edges = Ok (record { copies = copies; edges = edges })
 
 -- "Either its three times or the answer none": the times
-abbrev pub Times : ℤ → ℤ → ℤ → ℤ → Option NodeTimes
-Times arrival required slack earliest =
+abbrev pub SomeTimes : ℤ → ℤ → ℤ → ℤ → Option Times
+SomeTimes arrival required slack earliest =
     Some
     (record { arrival = arrival; required = required; slack = slack; earliest = earliest })
 

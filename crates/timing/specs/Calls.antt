@@ -2,10 +2,10 @@
 -- 14 [02: 16], 20 to 25, 32, 31, 33, 34, 35, one number over everything before the next, leaving out tests of
 -- what a call does not take." "A refusal changes no result buffer." "Result places past the result are unchanged."
 use Rattle.std.specs.Prelude.{ℕ, ◌+◌, ◌*◌, cond, ◌||◌, List, [], ◌∷◌, map, eqb, leb, ℤ, pos, neg_ℤ, length, Option, Result, Ok, Err, Some, None}
-use Rattle.timing.specs.Answers.{Verdict, Passed, Counts, Times, DeckFound, Late, OnTime}
+use Rattle.timing.specs.Answers.{Verdict, Passed, Counts, SomeTimes, DeckFound, Late, OnTime}
 use Rattle.timing.specs.declared.DeckCounts.{DeckCounts}
 use Rattle.timing.specs.declared.GraphCounts.{GraphCounts}
-use Rattle.timing.specs.declared.NodeTimes.{NodeTimes}
+use Rattle.timing.specs.declared.Times.{Times}
 use Rattle.timing.specs.declared.NodeRecord.{NodeRecord}
 use Rattle.timing.specs.declared.Refusal.{Refusal}
 use Rattle.timing.specs.Lists.{placed, upto}
@@ -225,28 +225,28 @@ test_records n nodes ats rts sts ets known arrivals requireds slacks earliests =
     time_sizes (length nodes) (length ats) (length rts) (length sts) (length ets)
     then same_sizes n n known then time_sizes n arrivals requireds slacks earliests then node_count n
 
-abbrev pub has_times : Option NodeTimes → ℕ
+abbrev pub has_times : Option Times → ℕ
 has_times (Some x) = 1
 has_times None = 0
 
-abbrev pub arrival_of : Option NodeTimes → ℤ
+abbrev pub arrival_of : Option Times → ℤ
 arrival_of (Some x) = x.arrival
 arrival_of None = pos 0
 
-abbrev pub required_of : Option NodeTimes → ℤ
+abbrev pub required_of : Option Times → ℤ
 required_of (Some x) = x.required
 required_of None = pos 0
 
-abbrev pub slack_of : Option NodeTimes → ℤ
+abbrev pub slack_of : Option Times → ℤ
 slack_of (Some x) = x.slack
 slack_of None = pos 0
 
-abbrev pub earliest_of : Option NodeTimes → ℤ
+abbrev pub earliest_of : Option Times → ℤ
 earliest_of (Some x) = x.earliest
 earliest_of None = pos 0
 
 -- the slices afterwards, where f is what the slice tells of a record's times
-unfoldable pub records_after : {A : Type 0} → (Option NodeTimes → A) → ℕ → List ℕ → List ℤ → List ℤ → List ℤ → List ℤ → Verdict → List A → List A
+unfoldable pub records_after : {A : Type 0} → (Option Times → A) → ℕ → List ℕ → List ℤ → List ℤ → List ℤ → List ℤ → Verdict → List A → List A
 records_after f n nodes ats rts sts ets tested room = each_after tested (λ v. f (node_record n nodes ats rts sts ets v).times) n room
 
 -- Reading: what was parsed, and then what is done with it.

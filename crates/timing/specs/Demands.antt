@@ -3,8 +3,8 @@
 -- over calls in `crates/called`.
 use Rattle.std.specs.Prelude.{ℕ, ◌≡◌, ◌↔◌, ℤ, pos, ◌-ℤ◌, length, get_or, Option, Result, Ok, Err, None}
 use mathlib.Core.List.{List, [], ◌∷◌, ◌++◌, flat_map, Memᴰ}
-use Rattle.timing.specs.Answers.{Verdict, Passed, Times}
-use Rattle.timing.specs.declared.NodeTimes.{NodeTimes}
+use Rattle.timing.specs.Answers.{Verdict, Passed, SomeTimes}
+use Rattle.timing.specs.declared.Times.{Times}
 use Rattle.timing.specs.declared.NodeRecord.{NodeRecord}
 use Rattle.timing.specs.declared.Refusal.{Refusal}
 use Rattle.timing.specs.Graphs.{Design, edge_early, edge_late, Edge, Graph, Run, complete_runs, delay_along, taken_back}
@@ -43,9 +43,9 @@ pub record PathBest (early late : ℕ → ℤ) (t : ℤ) (P : List Edge → List
 
 -- x is the record of the paths P: "either its three times or the answer none", and with the times the earliest arrival; none exactly if
 -- there is no such path
-pub record PathTimes (early late : ℕ → ℤ) (t : ℤ) (P : List Edge → List Edge → Type 0) (x : Option NodeTimes) : Type 0 where
+pub record PathTimes (early late : ℕ → ℤ) (t : ℤ) (P : List Edge → List Edge → Type 0) (x : Option Times) : Type 0 where
   pub none : (x ≡ None) ↔ ((p q : List Edge) → P p q → ⊥)
-  pub some : (p q : List Edge) → P p q → (a : ℤ) × (r : ℤ) × (s : ℤ) × (e : ℤ) × (x ≡ Times a r s e) × PathBest early late t P a r s e
+  pub some : (p q : List Edge) → P p q → (a : ℤ) × (r : ℤ) × (s : ℤ) × (e : ℤ) × (x ≡ SomeTimes a r s e) × PathBest early late t P a r s e
 
 -- For demand 3 where no removal of a series is refused: the whole list is then all their lists, "in order, put end to end".
 abbrev pub AllPassed : List Verdict → Type 0
@@ -80,6 +80,6 @@ module _ (D : Design) (H : Graph) (t : ℕ) (ats rts sts ets : List ℤ) where
 
   -- and that this is the record of the paths P
   pub record RecordOfPaths (v : ℕ) (P : List Edge → List Edge → Type 0) : Type 0 where
-    pub times : Option NodeTimes
+    pub times : Option Times
     pub answer : record_after v ≡ Ok (record { node = v; times = times })
     pub paths : PathTimes (edge_early D) (edge_late D) (pos t) P times

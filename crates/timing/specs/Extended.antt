@@ -2,8 +2,8 @@
 -- Crate `called` shows it of calls.
 use Rattle.std.specs.Prelude.{ℕ, ◌≡◌, cond, eqb, ℤ, pos, get_or, ◌≤ℤ◌, Option, Some, None}
 use mathlib.Core.List.{List, Memᴰ}
-use Rattle.timing.specs.Answers.{Passed, Counts, Times}
-use Rattle.timing.specs.declared.NodeTimes.{NodeTimes}
+use Rattle.timing.specs.Answers.{Passed, Counts, SomeTimes}
+use Rattle.timing.specs.declared.Times.{Times}
 use Rattle.timing.specs.Marks.{paths_of}
 use Rattle.timing.specs.Called.{Called, removal_of, front, verdict_in}
 
@@ -32,14 +32,14 @@ pub record TimesNoWorse (a r s e a' r' s' e' : ℤ) : Type 0 where
   pub earliest : e ≤ℤ e'
 
 -- The same of a node's times before and after, "reading none as better than any number": so a node that has none keeps none.
-abbrev pub NoWorse : Option NodeTimes → Option NodeTimes → Type 0
+abbrev pub NoWorse : Option Times → Option Times → Type 0
 NoWorse x None = Unit {0}
 NoWorse None (Some x) = ⊥
 NoWorse (Some x) (Some x') = TimesNoWorse x.arrival x.required x.slack x.earliest x'.arrival x'.required x'.slack x'.earliest
 
 -- a node's times as the five slices of `node_records` tell them: the first has 1 where it has times; where it has none, all five have 0
-abbrev pub times_in : List ℕ → List ℤ → List ℤ → List ℤ → List ℤ → ℕ → Option NodeTimes
+abbrev pub times_in : List ℕ → List ℤ → List ℤ → List ℤ → List ℤ → ℕ → Option Times
 times_in known arrivals requireds slacks earliests v =
     cond (eqb (get_or known v 0) 1)
-    (Times (get_or arrivals v (pos 0)) (get_or requireds v (pos 0)) (get_or slacks v (pos 0)) (get_or earliests v (pos 0)))
+    (SomeTimes (get_or arrivals v (pos 0)) (get_or requireds v (pos 0)) (get_or slacks v (pos 0)) (get_or earliests v (pos 0)))
     None

@@ -1,8 +1,8 @@
 -- Times at copies and at nodes.
 use Rattle.std.specs.Prelude.{ℕ, Bool, cond, ◌&&◌, not, List, [], ◌∷◌, map, eqb, ltb, ℤ, pos, ◌-ℤ◌, length, get_or, Option, None}
 use Rattle.std.specs.Int.Signed.{lt_z}
-use Rattle.timing.specs.Answers.{Times}
-use Rattle.timing.specs.declared.NodeTimes.{NodeTimes}
+use Rattle.timing.specs.Answers.{SomeTimes}
+use Rattle.timing.specs.declared.Times.{Times}
 use Rattle.timing.specs.declared.NodeRecord.{NodeRecord}
 use Rattle.timing.specs.Lists.{is_nil, keep, upto}
 use Rattle.timing.specs.Graphs.{Graph, ends_at, runs_to, runs_from, delay_along}
@@ -52,13 +52,13 @@ module _ (d : ℕ → ℤ) (T : ℤ) (G : Graph) where
 
 -- "At a node: the largest arrival, the smallest required and the smallest slack of its copies", and of its earliest arrivals "the
 -- smallest over its copies", from the node and the four times of each copy; none "when it has no copy or is not below n"
-unfoldable pub node_times : ℕ → List ℕ → List ℤ → List ℤ → List ℤ → List ℤ → ℕ → Option NodeTimes
+unfoldable pub node_times : ℕ → List ℕ → List ℤ → List ℤ → List ℤ → List ℤ → ℕ → Option Times
 node_times n nodes arrivals requireds slacks earliests v =
     let cs : List ℕ = keep (λ c. eqb (get_or nodes c 0) v) (upto (length nodes) 0) in
     let at : List ℤ → List ℤ = λ ts. map (λ c. get_or ts c (pos 0)) cs in
     cond
     (ltb v n && not (is_nil cs))
-    (Times (largest (at arrivals)) (smallest (at requireds)) (smallest (at slacks)) (smallest (at earliests)))
+    (SomeTimes (largest (at arrivals)) (smallest (at requireds)) (smallest (at slacks)) (smallest (at earliests)))
     None
 
 abbrev pub node_record : ℕ → List ℕ → List ℤ → List ℤ → List ℤ → List ℤ → ℕ → NodeRecord

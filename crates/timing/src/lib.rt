@@ -24,7 +24,8 @@ pub const MAX_DECK_BYTES: usize = 65536;
 pub const WORDS_PER_UNIT: usize = 8;
 
 // A refusal: its number in documents 01 and 02, and the place of the fault. Where the place is a path (22 to 24), `index`
-// is a second one: that of an edge within the path, or 0 where the path is empty. Else it is 0.
+// is a second one: that of an edge within the path, or 0 where the path is empty. Else it is 0. `number` is no enum: the documents, C and
+// what is printed know a refusal by its number alone, and 36 names would be a second vocabulary beside these.
 #[derive(Clone, Copy)]
 pub struct Refusal {
     pub number: u32,
@@ -76,7 +77,7 @@ pub struct GraphCounts {
 
 // The three times of a node, and its earliest arrival.
 #[derive(Clone, Copy)]
-pub struct NodeTimes {
+pub struct Times {
     pub arrival: i64,
     pub required: i64,
     pub slack: i64,
@@ -87,5 +88,5 @@ pub struct NodeTimes {
 #[derive(Clone, Copy)]
 pub struct NodeRecord {
     pub node: u32,
-    pub times: Option<NodeTimes>,
+    pub times: Option<Times>,
 }

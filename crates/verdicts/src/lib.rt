@@ -35,7 +35,8 @@ pub fn unless(number: u32, fit: bool) -> Verdict
     if fit { Ok(()) } else { Err(refuse(number, 0)) }
 }
 
-// A further test whose place is 0, after those that gave the verdict.
+// A further test whose place is 0, after those that gave the verdict. Public functions that are handed the verdict before them keep it as
+// a parameter, as their contracts say; within a crate the tests follow one another by `?`.
 pub fn and_unless(before: Verdict, number: u32, fit: bool) -> Verdict
     ensures { result ≡ (before then passed_if number fit) }
 {
