@@ -1,6 +1,5 @@
-// The tests of a design, as steps of a chain. Each test passes over every edge, or every marked node, before the next. A step
-// takes the verdict of the tests before it, and looks at nothing where they refused. Those of the edges run only where a
-// quick pass does not find that all edges pass.
+// The tests of a design. Each test passes over every edge, or every marked node, before the next, and looks at nothing where one before it
+// refused. Those of the edges run only where a quick pass does not find that all edges pass.
 #![tactic(auto)]
 
 ghost use Rattle.std.specs.Prelude.{◌≡◌, [], leb, length};
