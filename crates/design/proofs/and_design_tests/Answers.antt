@@ -1,9 +1,7 @@
 -- Each test is the verdict where those before it passed.
 use mathlib.Core.Path.{◌≡◌, refl, sym, ap, ◌∙◌}
-use mathlib.Core.List.{[]}
-use Rattle.std.specs.Prelude.{Result, Err}
+use Rattle.std.specs.Prelude.{Err}
 use Rattle.std.proofs.Common.{rules}
-use Rattle.timing.specs.declared.Refusal.{Refusal}
 use Rattle.timing.specs.Answers.{Verdict, Passed}
 use lib.ListN.{length}
 use Rattle.timing.specs.Lists.{upto}
