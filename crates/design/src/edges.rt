@@ -2,7 +2,7 @@
 ghost use Rattle.std.specs.Prelude.{◌≡◌, ◌&&◌, [], ltb, leb, pos, nat_abs, length, get_or};
 ghost use Rattle.std.specs.Int.Signed.{lt_z};
 ghost use Rattle.timing.specs.Lists.{upto};
-ghost use Rattle.timing.specs.Refusals.{◌then◌, first_bad};
+ghost use Rattle.timing.specs.Refusals.{first_bad};
 ghost use Rattle.timing.specs.Graphs.{design};
 ghost use Rattle.timing.specs.Tests.{strays, falls, out_of_range, early_above_late};
 
@@ -22,11 +22,10 @@ fn known(n: u32, starts: &[u32], ends: &[u32], k: usize) -> bool
 }
 
 // 12: an edge names a node not below n.
-pub(crate) fn and_known(before: Verdict, n: u32, starts: &[u32], ends: &[u32]) -> Verdict
+pub(crate) fn all_known(n: u32, starts: &[u32], ends: &[u32]) -> Verdict
     ensures { let D = design n starts.now ends.now [] [] [] in
-        result ≡ (before then first_bad 12 (strays D) 0 (upto (length starts.now) 0)) }
+        result ≡ first_bad 12 (strays D) 0 (upto (length starts.now) 0) }
 {
-    before?;
     first_bad(12, starts.len(), |k| !known(n, starts, ends, k))
 }
 
@@ -37,11 +36,10 @@ fn rises(starts: &[u32], ends: &[u32], k: usize) -> bool
 }
 
 // 13: an edge does not rise.
-pub(crate) fn and_rise(before: Verdict, starts: &[u32], ends: &[u32]) -> Verdict
+pub(crate) fn all_rise(starts: &[u32], ends: &[u32]) -> Verdict
     ensures { let D = design 0 starts.now ends.now [] [] [] in
-        result ≡ (before then first_bad 13 (falls D) 0 (upto (length starts.now) 0)) }
+        result ≡ first_bad 13 (falls D) 0 (upto (length starts.now) 0) }
 {
-    before?;
     first_bad(13, starts.len(), |k| !rises(starts, ends, k))
 }
 
@@ -67,11 +65,10 @@ fn both_in_range(early: &[i32], late: &[i32], k: usize) -> bool
 }
 
 // 14: a delay of one of the m edges is out of range.
-pub(crate) fn and_in_range(before: Verdict, m: usize, early: &[i32], late: &[i32]) -> Verdict
+pub(crate) fn all_in_range(m: usize, early: &[i32], late: &[i32]) -> Verdict
     ensures { let D = design 0 [] [] early.now late.now [] in
-        result ≡ (before then first_bad 14 (out_of_range D) 0 (upto m 0)) }
+        result ≡ first_bad 14 (out_of_range D) 0 (upto m 0) }
 {
-    before?;
     first_bad(14, m, |k| !both_in_range(early, late, k))
 }
 
@@ -82,10 +79,9 @@ fn early_above_late(early: &[i32], late: &[i32], k: usize) -> bool
 }
 
 // 15: the early delay of one of the m edges is above its late delay.
-pub(crate) fn and_ordered(before: Verdict, m: usize, early: &[i32], late: &[i32]) -> Verdict
+pub(crate) fn all_ordered(m: usize, early: &[i32], late: &[i32]) -> Verdict
     ensures { let D = design 0 [] [] early.now late.now [] in
-        result ≡ (before then first_bad 15 (early_above_late D) 0 (upto m 0)) }
+        result ≡ first_bad 15 (early_above_late D) 0 (upto m 0) }
 {
-    before?;
     first_bad(15, m, |k| early_above_late(early, late, k))
 }

@@ -1,6 +1,5 @@
-// The tests of a design, as steps of a chain. Each test passes over every edge, or every marked node, before the next. A step
-// takes the verdict of the tests before it, and looks at nothing where they refused. Those of the edges run only where a
-// quick pass does not find that all edges pass.
+// The tests of a design. Each test passes over every edge, or every marked node, before the next, and looks at nothing where one before it
+// refused. Those of the edges run only where a quick pass does not find that all edges pass.
 #![tactic(auto)]
 
 ghost use Rattle.std.specs.Prelude.{◌≡◌, [], leb, length};
@@ -11,59 +10,44 @@ ghost use Rattle.timing.specs.Graphs.{design};
 ghost use Rattle.timing.specs.Tests.{strays, falls, out_of_range, early_above_late, design_tests};
 
 use timing::{MAX_EDGES, MAX_NODES, Verdict};
-use verdicts::and_unless;
+use verdicts::unless;
 
 mod edges;
 mod marked;
 mod quick;
 
 // 10 and 11, from n and m.
-fn and_design_counts(before: Verdict, n: u32, m: usize) -> Verdict
-    ensures { result ≡ (before then (passed_if 10 (leb n 4096) then passed_if 11 (leb m 16384))) }
+fn design_counts(n: u32, m: usize) -> Verdict
+    ensures { result ≡ (passed_if 10 (leb n 4096) then passed_if 11 (leb m 16384)) }
 {
-    let nodes = and_unless(before, 10, n <= MAX_NODES);
-    and_unless(nodes, 11, m <= MAX_EDGES)
+    unless(10, n <= MAX_NODES)?;
+    unless(11, m <= MAX_EDGES)
 }
 
 // 12 to 15, each a pass over every edge before the next. The delays are tested for each edge that there is a start for.
-fn and_each_test(
-    before: Verdict,
-    n: u32,
-    starts: &[u32],
-    ends: &[u32],
-    early: &[i32],
-    late: &[i32],
-) -> Verdict
+fn each_edge_test(n: u32, starts: &[u32], ends: &[u32], early: &[i32], late: &[i32]) -> Verdict
     ensures { let D = design n starts.now ends.now early.now late.now [] in
         let edges = upto (length starts.now) 0 in
-        result ≡ (before then first_bad 12 (strays D) 0 edges then first_bad 13 (falls D) 0 edges
+        result ≡ (first_bad 12 (strays D) 0 edges then first_bad 13 (falls D) 0 edges
         then first_bad 14 (out_of_range D) 0 edges then first_bad 15 (early_above_late D) 0 edges) }
 {
-    let known = edges::and_known(before, n, starts, ends);
-    let rising = edges::and_rise(known, starts, ends);
-    let ranged = edges::and_in_range(rising, starts.len(), early, late);
-    edges::and_ordered(ranged, starts.len(), early, late)
+    edges::all_known(n, starts, ends)?;
+    edges::all_rise(starts, ends)?;
+    edges::all_in_range(starts.len(), early, late)?;
+    edges::all_ordered(starts.len(), early, late)
 }
 
 // 12 to 15.
-fn and_edge_tests(
-    before: Verdict,
-    n: u32,
-    starts: &[u32],
-    ends: &[u32],
-    early: &[i32],
-    late: &[i32],
-) -> Verdict
+fn edge_tests(n: u32, starts: &[u32], ends: &[u32], early: &[i32], late: &[i32]) -> Verdict
     ensures { let D = design n starts.now ends.now early.now late.now [] in
         let edges = upto (length starts.now) 0 in
-        result ≡ (before then first_bad 12 (strays D) 0 edges then first_bad 13 (falls D) 0 edges
+        result ≡ (first_bad 12 (strays D) 0 edges then first_bad 13 (falls D) 0 edges
         then first_bad 14 (out_of_range D) 0 edges then first_bad 15 (early_above_late D) 0 edges) }
 {
-    before?;
     if quick::all_pass(n, starts, ends, early, late) {
         return Ok(());
     }
-    and_each_test(before, n, starts, ends, early, late)
+    each_edge_test(n, starts, ends, early, late)
 }
 
 // 10 to 16.
@@ -80,7 +64,8 @@ pub fn and_design_tests(
         marked.now in
         result ≡ (before then design_tests D) }
 {
-    let counts = and_design_counts(before, n, starts.len());
-    let edges = and_edge_tests(counts, n, starts, ends, early, late);
-    marked::and_marked(edges, n, marked)
+    before?;
+    design_counts(n, starts.len())?;
+    edge_tests(n, starts, ends, early, late)?;
+    marked::all_rise(n, marked)
 }

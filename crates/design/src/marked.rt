@@ -1,7 +1,7 @@
 // 16: a pass over the marked nodes of the design.
 ghost use Rattle.std.specs.Prelude.{◌≡◌, [], length};
 ghost use Rattle.timing.specs.Lists.{upto};
-ghost use Rattle.timing.specs.Refusals.{◌then◌, first_bad};
+ghost use Rattle.timing.specs.Refusals.{first_bad};
 ghost use Rattle.timing.specs.Graphs.{design};
 ghost use Rattle.timing.specs.Tests.{rises_not, wrong_marked};
 
@@ -29,10 +29,9 @@ fn wrong(n: u32, marked: &[u32], i: usize) -> bool
 }
 
 // 16: a marked node is not below n, or does not rise.
-pub(crate) fn and_marked(before: Verdict, n: u32, marked: &[u32]) -> Verdict
+pub(crate) fn all_rise(n: u32, marked: &[u32]) -> Verdict
     ensures { let D = design n [] [] [] [] marked.now in
-        result ≡ (before then first_bad 16 (wrong_marked D) 0 (upto (length marked.now) 0)) }
+        result ≡ first_bad 16 (wrong_marked D) 0 (upto (length marked.now) 0) }
 {
-    before?;
     first_bad(16, marked.len(), |i| wrong(n, marked, i))
 }

@@ -42,12 +42,17 @@ fn edge_count(from: &[u32], to: &[u32], via: &[u32]) -> usize
     least(from.len(), least(to.len(), via.len()))
 }
 
-// Design edge k is there and runs from node v to node w. The two lists may differ in length here, and an end that is not there counts as 0.
+// Design edge k is there and runs from node v to node w. The two lists may differ in length here, and an end that is not there counts as 0; but one
+// test of k is enough where they do not, and a test for each list was slower.
 fn edge_is(starts: &[u32], ends: &[u32], k: usize, v: u32, w: u32) -> bool
     ensures { let named = ltb k (length starts.now) in
         result ≡ (named && eqb v (get_or starts.now k 0) && eqb w (get_or ends.now k 0)) }
 {
-    k < starts.len() && v == starts[k] && w == number_at(ends, k)
+    if k < least(starts.len(), ends.len()) {
+        v == starts[k] && w == ends[k]
+    } else {
+        k < starts.len() && v == starts[k] && w == 0
+    }
 }
 
 fn edge_fits(starts: &[u32], ends: &[u32], nodes: &[u32], s: u32, t: u32, k: u32) -> bool
@@ -195,6 +200,7 @@ fn copy_ends(
     if number_at(endpoint, c) == 1 {
         has_edge(nout[v], nmarked[v]) && lowest <= v
     } else {
+        // `&` has no branch; `&&` was slower.
         nout[v] & cout[c]
     }
 }

@@ -90,7 +90,12 @@ fn room_tests(copies: usize, edges: usize, node_room: usize, edge_room: usize) -
 }
 
 // What is answered of a result with so many copies and edges, in a room with so many places for each: 33, 34, or its counts.
-pub fn room_answer(copies: usize, edges: usize, node_room: usize, edge_room: usize) -> Result<GraphCounts, Refusal>
+pub fn room_answer(
+    copies: usize,
+    edges: usize,
+    node_room: usize,
+    edge_room: usize,
+) -> Result<GraphCounts, Refusal>
     ensures { result ≡ counts_answer (count_tests copies edges node_room edge_room) copies edges }
 {
     room_tests(copies, edges, node_room, edge_room)?;

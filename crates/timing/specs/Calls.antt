@@ -2,7 +2,7 @@
 -- 14 [02: 16], 20 to 25, 32, 31, 33, 34, 35, one number over everything before the next, leaving out tests of
 -- what a call does not take." "A refusal changes no result buffer." "Result places past the result are unchanged."
 use Rattle.std.specs.Prelude.{ℕ, ◌+◌, ◌*◌, cond, ◌||◌, List, [], ◌∷◌, map, eqb, leb, ℤ, pos, neg_ℤ, length, Option, Result, Ok, Err, Some, None}
-use Rattle.timing.specs.Answers.{Verdict, Passed, Counts, SomeTimes, DeckFound, Late, OnTime}
+use Rattle.timing.specs.Answers.{Verdict, Passed, Counts, DeckFound, Late, OnTime}
 use Rattle.timing.specs.declared.DeckCounts.{DeckCounts}
 use Rattle.timing.specs.declared.GraphCounts.{GraphCounts}
 use Rattle.timing.specs.declared.Times.{Times}

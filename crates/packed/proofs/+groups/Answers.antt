@@ -4,7 +4,6 @@ use native.Mathlib.Omega.{arith}
 use mathlib.Core.Path.{◌≡◌, refl, sym, ◌∙◌, subst}
 use mathlib.Core.List.{List}
 use Rattle.std.specs.Prelude.{Result, Ok, Err}
-use Rattle.timing.specs.Answers.{Number}
 use Rattle.timing.specs.declared.Groups.{Groups}
 use Rattle.timing.specs.declared.NoNumber.{NoNumber}
 use Rattle.timing.specs.declared.NoNumber.TheVariants.{Ended, Unfit}

@@ -5,7 +5,6 @@ use Rattle.std.specs.Prelude.{Result, Ok, Err}
 use Rattle.timing.specs.declared.Groups.{Groups}
 use Rattle.timing.specs.declared.NoNumber.{NoNumber}
 use Rattle.timing.specs.declared.NoNumber.TheVariants.{Ended, Unfit}
-use Rattle.timing.specs.Answers.{Number}
 use lib.ListN.{length, drop, length-drop}
 use Rattle.timing.specs.Numbers.{number_answer, read_number}
 use Rattle.packed.proofs.Numbers.{Inside, number_inside}

@@ -21,6 +21,7 @@ returns c =
     let l = made.new in
     let after = graph_slices l.room_nodes l.room_endpoint l.room_from l.room_to l.room_via in
     let p = ap (λ (R : Room). remove_from_design D (removal L R 16384)) program_room_lem in
-    let o = remove_from_design D r in
-    (made_written_lem o (ended_design D r) made.result rooms after made.ensures _ p (small_from_design D r) a.room.now c.write_made.result c.write_made.ensures.0,
-    made_room_lem o (ended_design D r) made.result rooms after made.ensures _ p (small_from_design D r) a.room.now c.write_made.new.room c.write_made.ensures.1)
+    let o = remove_from_design D r in (
+      made_written_lem o (ended_design D r) made.result rooms after made.ensures _ p (small_from_design D r) a.room.now c.write_made.result c.write_made.ensures.0,
+      made_room_lem o (ended_design D r) made.result rooms after made.ensures _ p (small_from_design D r) a.room.now c.write_made.new.room c.write_made.ensures.1,
+    )
