@@ -23,6 +23,7 @@ const BLOCK: u64 = 65536;
 
 const BLOCKS: u32 = 8;
 
+// A case by its number: an enum would name each once more, where the functions' names say it.
 fn case<W: Write>(out: &mut W, input: &mut Input<'_>) -> io::Result<()> {
     match input.number() {
         0 => decks::read_case(out, input),

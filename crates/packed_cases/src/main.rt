@@ -81,6 +81,7 @@ fn delay_case<W: Write>(out: &mut W, x: u32) -> io::Result<()> {
     write!(out, "delay {x}: {d} packed {}", pack_delay(d))
 }
 
+// A case by its number: an enum would name each once more, where the functions' names say it.
 fn case<W: Write>(out: &mut W, record: &Record) -> io::Result<()> {
     let place = usize::from(record[1]);
     let mut room = [0xAA; 20];
