@@ -16,7 +16,7 @@ use Rattle.timing.specs.Parsing.{Parsed, found, stopped, Reader, onward, ◌>>=�
 use Rattle.timing.specs.Tests.{marked_count}
 use Rattle.timing.specs.Decks.{Deck, Tables, edge_row, design_of, paths, read_deck}
 use Rattle.timing.specs.Looks.{looked, number_of, value_of, next_of, value_at}
-use Rattle.deck_reader.specs.Reading.{verdict_of, nodes_in, count_in, path_in, edges_in, design_in, list_in, marked_count_in, marked_in, lists_in, tail_in}
+use Rattle.deck_reader.specs.Reading.{verdict_of, behind_look, nodes_in, count_in, path_in, edges_in, design_in, list_in, marked_count_in, marked_in, lists_in, tail_in}
 use Rattle.timing.proofs.Verdicts.{then_passed, unless_passed}
 use Rattle.packed_lists.proofs.Looking.{looked_made, Spans, spans_number, spans_rows}
 
@@ -181,9 +181,9 @@ module _ (s : List ℕ) (tables : Tables) where
   abbrev rest_look : Reader (Unit {0})
   rest_look = lists_reader (value_at s 0) >>= (λ l. tail_in s)
 
-  look_is : verdict_of (onward (design_in s tables.edges 0) (λ d. rest_look)) ≡ verdict_of (read_deck s tables)
+  look_whole : verdict_of (onward (design_in s tables.edges 0) (λ d. rest_look)) ≡ verdict_of (read_deck s tables)
   unfolding read_deck
-  look_is =
+  look_whole =
       ap verdict_of (onward_assoc (nodes_in s 0) (λ n. edges_in s tables.edges) (λ rows. rest_look))
       ∙ judged s 0 (λ n. unless 10 (leb n 4096)) _ _
       (λ n a e. ap verdict_of (onward_assoc (count_in s 0 11 16384 tables.edges a) (λ m. repeated m (edge_row s)) (λ rows. rest_look)) ∙ counted s 11 16384 tables.edges a _ _
@@ -192,17 +192,33 @@ module _ (s : List ℕ) (tables : Tables) where
       ∙ rest_made s tables n (λ list marked allowed. record { design = design_of n rows marked; list = list; allowed = allowed }) c)))
 
   pub look_stop : (r : Refusal) → looked (design_in s tables.edges 0) ≡ Err r → Err r ≡ verdict_of (read_deck s tables)
-  look_stop r e = behind_none (design_in s tables.edges 0) rest_look r e ∙ look_is
+  look_stop r e = behind_none (design_in s tables.edges 0) rest_look r e ∙ look_whole
 
   module _ (at : ℕ) (e : looked (design_in s tables.edges 0) ≡ Ok at) where
     pub look_stop_lists : (r : Refusal) → looked (lists_reader (value_at s 0) at) ≡ Err r → Err r ≡ verdict_of (read_deck s tables)
     look_stop_lists r f =
         behind_none (lists_reader (value_at s 0) at) (tail_in s) r f
         ∙ behind (design_in s tables.edges 0) rest_look at e
-        ∙ look_is
+        ∙ look_whole
 
     pub look_rest : (next : ℕ) → looked (lists_reader (value_at s 0) at) ≡ Ok next → verdict_of (tail_in s next) ≡ verdict_of (read_deck s tables)
     look_rest next f =
         behind (lists_reader (value_at s 0) at) (tail_in s) next f
         ∙ behind (design_in s tables.edges 0) rest_look at e
-        ∙ look_is
+        ∙ look_whole
+
+-- the look, part by part, is the reader's verdict
+pub look_is : (s : List ℕ) (tables : Tables)
+    → behind_look (looked (design_in s tables.edges 0)) (λ at. behind_look (looked (lists_in s (value_at s 0) tables.listed tables.paths tables.marked at)) (λ next. verdict_of (tail_in s next)))
+    ≡ verdict_of (read_deck s tables)
+look_is s tables = by_design (looked (design_in s tables.edges 0)) refl
+  where
+    by_lists : (at : ℕ) → looked (design_in s tables.edges 0) ≡ Ok at → (l : Result ℕ Refusal) → looked (lists_in s (value_at s 0) tables.listed tables.paths tables.marked at) ≡ l
+        → behind_look l (λ next. verdict_of (tail_in s next)) ≡ verdict_of (read_deck s tables)
+    by_lists at e (Ok next) f = look_rest s tables at e next f
+    by_lists at e (Err r) f = look_stop_lists s tables at e r f
+
+    by_design : (d : Result ℕ Refusal) → looked (design_in s tables.edges 0) ≡ d
+        → behind_look d (λ at. behind_look (looked (lists_in s (value_at s 0) tables.listed tables.paths tables.marked at)) (λ next. verdict_of (tail_in s next))) ≡ verdict_of (read_deck s tables)
+    by_design (Ok at) e = by_lists at e (looked (lists_in s (value_at s 0) tables.listed tables.paths tables.marked at)) refl
+    by_design (Err r) e = look_stop s tables r e

@@ -1,6 +1,7 @@
 -- Reading in two goes, a look and a fill (`Looks` of `timing`).
-use Rattle.std.specs.Prelude.{ℕ, zero, suc, ◌+◌, ◌≤◌, List, [], ◌∷◌, ◌++◌, map, leb, ℤ, length, Err}
+use Rattle.std.specs.Prelude.{ℕ, zero, suc, ◌+◌, ◌≤◌, List, [], ◌∷◌, ◌++◌, map, leb, ℤ, length, Result, Ok, Err}
 use Rattle.timing.specs.Answers.{Verdict, Passed}
+use Rattle.timing.specs.declared.Refusal.{Refusal}
 use Rattle.timing.specs.Graphs.{Design}
 use Rattle.timing.specs.Marks.{PathList, path_list}
 use Rattle.timing.specs.Delays.{delay_of}
@@ -74,6 +75,11 @@ abbrev pub tail_in : List ℕ → Reader (Unit {0})
 tail_in s = do
   t ← number s
   ended s
+
+-- what stands behind the place that a look got to: nothing is looked at behind a refusal
+abbrev pub behind_look : {A : Type 0} → Result ℕ Refusal → (ℕ → Result A Refusal) → Result A Refusal
+behind_look (Ok at) f = f at
+behind_look (Err r) f = Err r
 
 -- k numbers from a place on, and the place behind them
 abbrev pub numbers_from : List ℕ → ℕ → ℕ → List ℕ
