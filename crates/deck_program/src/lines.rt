@@ -1,5 +1,6 @@
 // The lines of the deck program.
 use entries::time_at;
+use print::PrintedTime;
 use std::io::{self, Write};
 use timing::Times;
 
@@ -46,7 +47,10 @@ pub(crate) fn put_graph<W: Write>(
         writeln!(
             out,
             "copy {copy} node {node} arrival {} required {} slack {} earliest {}{end}",
-            t.arrival, t.required, t.slack, t.earliest
+            PrintedTime(t.arrival),
+            PrintedTime(t.required),
+            PrintedTime(t.slack),
+            PrintedTime(t.earliest)
         )?;
     }
     for ((from, to), via) in g.from.iter().zip(g.to).zip(g.via) {
@@ -68,7 +72,10 @@ pub(crate) fn put_nodes<W: Write>(
             writeln!(
                 out,
                 "node {node} {} {} {} {}",
-                t.arrival, t.required, t.slack, t.earliest
+                PrintedTime(t.arrival),
+                PrintedTime(t.required),
+                PrintedTime(t.slack),
+                PrintedTime(t.earliest)
             )?;
         }
     }
