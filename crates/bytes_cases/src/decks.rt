@@ -1,21 +1,31 @@
 // Decks: read into tables, and written to a room.
-use crate::input::Input;
-use crate::say::{full, say_kept, table, written};
+use crate::BLOCK;
+use crate::input::{EDGES, Input};
+use crate::say::{first, full, say_kept, table, written};
 use entries::front;
 use print::refused;
 use std::io::{self, Write};
-use timing::{DeckCounts, Refusal};
+use timing::DeckCounts;
+
+// No slice has more places, nor has a room.
+const LISTED: usize = 8200;
+
+const PATHS: usize = 1040;
+
+const MARKED: usize = 4200;
+
+const BYTES: usize = 131072;
 
 // The tables that a reader is lent.
 #[derive(Drop)]
-struct Tables {
-    starts: Vec<u32>,
-    ends: Vec<u32>,
-    early: Vec<i32>,
-    late: Vec<i32>,
-    listed: Vec<u32>,
-    lengths: Vec<u32>,
-    marked: Vec<u32>,
+struct Tables<'a> {
+    starts: &'a mut [u32],
+    ends: &'a mut [u32],
+    early: &'a mut [i32],
+    late: &'a mut [i32],
+    listed: &'a mut [u32],
+    lengths: &'a mut [u32],
+    marked: &'a mut [u32],
 }
 
 // A deck: n, T and its seven slices.
@@ -42,55 +52,22 @@ const NOTHING: DeckCounts = DeckCounts {
     allowed: 0,
 };
 
-impl Tables {
-    fn read(&mut self, bytes: &[u8]) -> Result<DeckCounts, Refusal> {
-        deck_reader::read_deck(
-            bytes,
-            &mut self.starts,
-            &mut self.ends,
-            &mut self.early,
-            &mut self.late,
-            &mut self.listed,
-            &mut self.lengths,
-            &mut self.marked,
-        )
-    }
-
-    // The deck that was read.
-    fn deck(&self, c: DeckCounts) -> Deck<'_> {
-        Deck {
-            n: c.nodes,
-            allowed: c.allowed,
-            starts: front(&self.starts, c.edges),
-            ends: front(&self.ends, c.edges),
-            early: front(&self.early, c.edges),
-            late: front(&self.late, c.edges),
-            listed: front(&self.listed, c.listed),
-            lengths: front(&self.lengths, c.paths),
-            marked: front(&self.marked, c.marked),
-        }
-    }
-
-    fn say<W: Write>(&self, out: &mut W, c: DeckCounts) -> io::Result<()> {
-        let mut kept = 0;
-        table(out, &self.starts, c.edges, &mut kept)?;
-        table(out, &self.ends, c.edges, &mut kept)?;
-        table(out, &self.early, c.edges, &mut kept)?;
-        table(out, &self.late, c.edges, &mut kept)?;
-        table(out, &self.listed, c.listed, &mut kept)?;
-        table(out, &self.lengths, c.paths, &mut kept)?;
-        table(out, &self.marked, c.marked, &mut kept)?;
-        say_kept(out, kept)
-    }
-}
-
 // Reads a deck, and prints the answer and the tables. Gives what was read.
-fn read<W: Write>(
+fn read<'a, W: Write>(
     out: &mut W,
     bytes: &[u8],
-    tables: &mut Tables,
-) -> io::Result<Option<DeckCounts>> {
-    let answer = tables.read(bytes);
+    tables: Tables<'a>,
+) -> io::Result<Option<Deck<'a>>> {
+    let Tables {
+        starts,
+        ends,
+        early,
+        late,
+        listed,
+        lengths,
+        marked,
+    } = tables;
+    let answer = deck_reader::read_deck(bytes, starts, ends, early, late, listed, lengths, marked);
     match answer {
         Ok(c) => write!(
             out,
@@ -99,8 +76,30 @@ fn read<W: Write>(
         )?,
         Err(r) => refused(out, r)?,
     }
-    tables.say(out, answer.unwrap_or(NOTHING))?;
-    Ok(answer.ok())
+    let c = answer.unwrap_or(NOTHING);
+    let mut kept = 0;
+    table(out, starts, c.edges, &mut kept)?;
+    table(out, ends, c.edges, &mut kept)?;
+    table(out, early, c.edges, &mut kept)?;
+    table(out, late, c.edges, &mut kept)?;
+    table(out, listed, c.listed, &mut kept)?;
+    table(out, lengths, c.paths, &mut kept)?;
+    table(out, marked, c.marked, &mut kept)?;
+    say_kept(out, kept)?;
+    if answer.is_err() {
+        return Ok(None);
+    }
+    Ok(Some(Deck {
+        n: c.nodes,
+        allowed: c.allowed,
+        starts: front(starts, c.edges),
+        ends: front(ends, c.edges),
+        early: front(early, c.edges),
+        late: front(late, c.edges),
+        listed: front(listed, c.listed),
+        lengths: front(lengths, c.paths),
+        marked: front(marked, c.marked),
+    }))
 }
 
 // Writes a deck, and prints the answer and the room. Gives the place behind what was written.
@@ -115,58 +114,78 @@ fn write<W: Write>(out: &mut W, d: Deck<'_>, room: &mut [u8]) -> io::Result<Opti
 
 // What was read is written to a room as long as the bytes that were read.
 pub(crate) fn read_case<W: Write>(out: &mut W, input: &mut Input<'_>) -> io::Result<()> {
-    let mut tables = Tables {
-        starts: input.lent(16400)?,
-        ends: input.lent(16400)?,
-        early: input.lent(16400)?,
-        late: input.lent(16400)?,
-        listed: input.lent(8200)?,
-        lengths: input.lent(1040)?,
-        marked: input.lent(4200)?,
+    let mut starts = full::<u32, EDGES>();
+    let mut ends = full::<u32, EDGES>();
+    let mut early = full::<i32, EDGES>();
+    let mut late = full::<i32, EDGES>();
+    let mut listed = full::<u32, LISTED>();
+    let mut lengths = full::<u32, PATHS>();
+    let mut marked = full::<u32, MARKED>();
+    let tables = Tables {
+        starts: input.lent(&mut starts),
+        ends: input.lent(&mut ends),
+        early: input.lent(&mut early),
+        late: input.lent(&mut late),
+        listed: input.lent(&mut listed),
+        lengths: input.lent(&mut lengths),
+        marked: input.lent(&mut marked),
     };
     let bytes = input.bytes();
-    if let Some(counts) = read(out, bytes, &mut tables)? {
-        let mut room = full(input.alloc, bytes.len())?;
-        write(out, tables.deck(counts), &mut room)?;
+    if let Some(deck) = read(out, bytes, tables)? {
+        let mut room = full::<u8, BLOCK>();
+        write(out, deck, first(&mut room, bytes.len()))?;
     }
+    Ok(())
+}
+
+// Reads a deck from bytes, into tables as long as the deck.
+fn read_back<W: Write>(out: &mut W, bytes: &[u8], d: Deck<'_>) -> io::Result<()> {
+    let mut starts = full::<u32, EDGES>();
+    let mut ends = full::<u32, EDGES>();
+    let mut early = full::<i32, EDGES>();
+    let mut late = full::<i32, EDGES>();
+    let mut listed = full::<u32, LISTED>();
+    let mut lengths = full::<u32, PATHS>();
+    let mut marked = full::<u32, MARKED>();
+    let tables = Tables {
+        starts: first(&mut starts, d.starts.len()),
+        ends: first(&mut ends, d.starts.len()),
+        early: first(&mut early, d.starts.len()),
+        late: first(&mut late, d.starts.len()),
+        listed: first(&mut listed, d.listed.len()),
+        lengths: first(&mut lengths, d.lengths.len()),
+        marked: first(&mut marked, d.marked.len()),
+    };
+    read(out, bytes, tables)?;
     Ok(())
 }
 
 // What was written is read into tables as long as the deck.
 pub(crate) fn write_case<W: Write>(out: &mut W, input: &mut Input<'_>) -> io::Result<()> {
-    let alloc = input.alloc;
+    let mut room = full::<u8, BYTES>();
+    let mut starts = [0; EDGES];
+    let mut ends = [0; EDGES];
+    let mut early = [0; EDGES];
+    let mut late = [0; EDGES];
+    let mut listed = [0; LISTED];
+    let mut lengths = [0; PATHS];
+    let mut marked = [0; MARKED];
     let n = input.number();
     let allowed = input.number();
-    let mut room = input.lent(131072)?;
-    let starts = input.slice(16400)?;
-    let ends = input.slice(16400)?;
-    let early = input.delays(16400)?;
-    let late = input.delays(16400)?;
-    let listed = input.slice(8200)?;
-    let lengths = input.slice(1040)?;
-    let marked = input.slice(4200)?;
+    let room = input.lent(&mut room);
     let deck = Deck {
         n,
         allowed,
-        starts: &starts,
-        ends: &ends,
-        early: &early,
-        late: &late,
-        listed: &listed,
-        lengths: &lengths,
-        marked: &marked,
+        starts: input.slice(&mut starts),
+        ends: input.slice(&mut ends),
+        early: input.delays(&mut early),
+        late: input.delays(&mut late),
+        listed: input.slice(&mut listed),
+        lengths: input.slice(&mut lengths),
+        marked: input.slice(&mut marked),
     };
-    if let Some(end) = write(out, deck, &mut room)? {
-        let mut tables = Tables {
-            starts: full(alloc, starts.len())?,
-            ends: full(alloc, starts.len())?,
-            early: full(alloc, starts.len())?,
-            late: full(alloc, starts.len())?,
-            listed: full(alloc, listed.len())?,
-            lengths: full(alloc, lengths.len())?,
-            marked: full(alloc, marked.len())?,
-        };
-        read(out, &room[..end.min(room.len())], &mut tables)?;
+    if let Some(end) = write(out, deck, room)? {
+        read_back(out, front(room, end), deck)?;
     }
     Ok(())
 }

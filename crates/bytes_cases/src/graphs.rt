@@ -1,19 +1,27 @@
 // Graphs: read into a room, and written to one.
+use crate::BLOCK;
 use crate::input::Input;
-use crate::say::{full, say_kept, table, written};
+use crate::say::{first, full, say_kept, table, written};
 use entries::front;
 use print::refused;
 use std::io::{self, Write};
-use timing::{GraphCounts, Refusal};
+use timing::GraphCounts;
+
+// No slice has more places, nor has a room of bytes.
+const COPIES: usize = 16400;
+
+const EDGES: usize = 65600;
+
+const BYTES: usize = 393216;
 
 // The room that a reader is lent.
 #[derive(Drop)]
-struct Room {
-    nodes: Vec<u32>,
-    endpoint: Vec<u32>,
-    from: Vec<u32>,
-    to: Vec<u32>,
-    via: Vec<u32>,
+struct Room<'a> {
+    nodes: &'a mut [u32],
+    endpoint: &'a mut [u32],
+    from: &'a mut [u32],
+    to: &'a mut [u32],
+    via: &'a mut [u32],
 }
 
 // A graph's five slices.
@@ -32,49 +40,38 @@ const NOTHING: GraphCounts = GraphCounts {
     edges: 0,
 };
 
-impl Room {
-    fn read(&mut self, bytes: &[u8]) -> Result<GraphCounts, Refusal> {
-        graph_reader::read_graph(
-            bytes,
-            &mut self.nodes,
-            &mut self.endpoint,
-            &mut self.from,
-            &mut self.to,
-            &mut self.via,
-        )
-    }
-
-    // The graph that was read.
-    fn graph(&self, c: GraphCounts) -> Graph<'_> {
-        Graph {
-            nodes: front(&self.nodes, c.copies),
-            endpoint: front(&self.endpoint, c.copies),
-            from: front(&self.from, c.edges),
-            to: front(&self.to, c.edges),
-            via: front(&self.via, c.edges),
-        }
-    }
-
-    fn say<W: Write>(&self, out: &mut W, c: GraphCounts) -> io::Result<()> {
-        let mut kept = 0;
-        table(out, &self.nodes, c.copies, &mut kept)?;
-        table(out, &self.endpoint, c.copies, &mut kept)?;
-        table(out, &self.from, c.edges, &mut kept)?;
-        table(out, &self.to, c.edges, &mut kept)?;
-        table(out, &self.via, c.edges, &mut kept)?;
-        say_kept(out, kept)
-    }
-}
-
 // Reads a graph, and prints the answer and the room. Gives what was read.
-fn read<W: Write>(out: &mut W, bytes: &[u8], room: &mut Room) -> io::Result<Option<GraphCounts>> {
-    let answer = room.read(bytes);
+fn read<'a, W: Write>(out: &mut W, bytes: &[u8], room: Room<'a>) -> io::Result<Option<Graph<'a>>> {
+    let Room {
+        nodes,
+        endpoint,
+        from,
+        to,
+        via,
+    } = room;
+    let answer = graph_reader::read_graph(bytes, nodes, endpoint, from, to, via);
     match answer {
         Ok(c) => write!(out, "graph {} {}", c.copies, c.edges)?,
         Err(r) => refused(out, r)?,
     }
-    room.say(out, answer.unwrap_or(NOTHING))?;
-    Ok(answer.ok())
+    let c = answer.unwrap_or(NOTHING);
+    let mut kept = 0;
+    table(out, nodes, c.copies, &mut kept)?;
+    table(out, endpoint, c.copies, &mut kept)?;
+    table(out, from, c.edges, &mut kept)?;
+    table(out, to, c.edges, &mut kept)?;
+    table(out, via, c.edges, &mut kept)?;
+    say_kept(out, kept)?;
+    if answer.is_err() {
+        return Ok(None);
+    }
+    Ok(Some(Graph {
+        nodes: front(nodes, c.copies),
+        endpoint: front(endpoint, c.copies),
+        from: front(from, c.edges),
+        to: front(to, c.edges),
+        via: front(via, c.edges),
+    }))
 }
 
 // Writes a graph, and prints the answer and the room. Gives the place behind what was written.
@@ -87,46 +84,62 @@ fn write<W: Write>(out: &mut W, g: Graph<'_>, room: &mut [u8]) -> io::Result<Opt
 
 // What was read is written to a room as long as the bytes that were read.
 pub(crate) fn read_case<W: Write>(out: &mut W, input: &mut Input<'_>) -> io::Result<()> {
-    let mut room = Room {
-        nodes: input.lent(16400)?,
-        endpoint: input.lent(16400)?,
-        from: input.lent(65600)?,
-        to: input.lent(65600)?,
-        via: input.lent(65600)?,
+    let mut nodes = full::<u32, COPIES>();
+    let mut endpoint = full::<u32, COPIES>();
+    let mut from = full::<u32, EDGES>();
+    let mut to = full::<u32, EDGES>();
+    let mut via = full::<u32, EDGES>();
+    let room = Room {
+        nodes: input.lent(&mut nodes),
+        endpoint: input.lent(&mut endpoint),
+        from: input.lent(&mut from),
+        to: input.lent(&mut to),
+        via: input.lent(&mut via),
     };
     let bytes = input.bytes();
-    if let Some(counts) = read(out, bytes, &mut room)? {
-        let mut byte_room = full(input.alloc, bytes.len())?;
-        write(out, room.graph(counts), &mut byte_room)?;
+    if let Some(graph) = read(out, bytes, room)? {
+        let mut byte_room = full::<u8, BLOCK>();
+        write(out, graph, first(&mut byte_room, bytes.len()))?;
     }
+    Ok(())
+}
+
+// Reads a graph from bytes, into a room as long as the graph.
+fn read_back<W: Write>(out: &mut W, bytes: &[u8], g: Graph<'_>) -> io::Result<()> {
+    let mut nodes = full::<u32, COPIES>();
+    let mut endpoint = full::<u32, COPIES>();
+    let mut from = full::<u32, EDGES>();
+    let mut to = full::<u32, EDGES>();
+    let mut via = full::<u32, EDGES>();
+    let room = Room {
+        nodes: first(&mut nodes, g.nodes.len()),
+        endpoint: first(&mut endpoint, g.nodes.len()),
+        from: first(&mut from, g.from.len()),
+        to: first(&mut to, g.from.len()),
+        via: first(&mut via, g.from.len()),
+    };
+    read(out, bytes, room)?;
     Ok(())
 }
 
 // What was written is read into a room as long as the graph.
 pub(crate) fn write_case<W: Write>(out: &mut W, input: &mut Input<'_>) -> io::Result<()> {
-    let alloc = input.alloc;
-    let mut byte_room = input.lent(393216)?;
-    let nodes = input.slice(16400)?;
-    let endpoint = input.slice(16400)?;
-    let from = input.slice(65600)?;
-    let to = input.slice(65600)?;
-    let via = input.slice(65600)?;
+    let mut byte_room = full::<u8, BYTES>();
+    let mut nodes = [0; COPIES];
+    let mut endpoint = [0; COPIES];
+    let mut from = [0; EDGES];
+    let mut to = [0; EDGES];
+    let mut via = [0; EDGES];
+    let byte_room = input.lent(&mut byte_room);
     let graph = Graph {
-        nodes: &nodes,
-        endpoint: &endpoint,
-        from: &from,
-        to: &to,
-        via: &via,
+        nodes: input.slice(&mut nodes),
+        endpoint: input.slice(&mut endpoint),
+        from: input.slice(&mut from),
+        to: input.slice(&mut to),
+        via: input.slice(&mut via),
     };
-    if let Some(end) = write(out, graph, &mut byte_room)? {
-        let mut room = Room {
-            nodes: full(alloc, nodes.len())?,
-            endpoint: full(alloc, nodes.len())?,
-            from: full(alloc, from.len())?,
-            to: full(alloc, from.len())?,
-            via: full(alloc, from.len())?,
-        };
-        read(out, &byte_room[..end.min(byte_room.len())], &mut room)?;
+    if let Some(end) = write(out, graph, byte_room)? {
+        read_back(out, front(byte_room, end), graph)?;
     }
     Ok(())
 }

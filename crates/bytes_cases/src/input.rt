@@ -1,25 +1,24 @@
 // What a case says, read in turn from a block of the input.
-use crate::say::{Item, full};
+ghost use Rattle.std.specs.Prelude.{◌≤◌, length};
+
+use crate::say::first;
 use cases::{fill, unpack};
+use entries::front;
 use packed_lists::take_number;
-use std::alloc::Global;
-use std::io;
+
+// No slice of edges has more places.
+pub(crate) const EDGES: usize = 16400;
 
 // A block, from a place on.
 #[derive(Drop)]
 pub(crate) struct Input<'a> {
-    pub alloc: Global,
     block: &'a [u8],
     at: usize,
 }
 
 impl<'a> Input<'a> {
-    pub(crate) fn new(alloc: Global, block: &'a [u8]) -> Input<'a> {
-        Input {
-            alloc,
-            block,
-            at: 0,
-        }
+    pub(crate) fn new(block: &'a [u8]) -> Input<'a> {
+        Input { block, at: 0 }
     }
 
     pub(crate) fn number(&mut self) -> u32 {
@@ -28,32 +27,30 @@ impl<'a> Input<'a> {
         taken.value
     }
 
-    // A number as a length, up to the most.
-    pub(crate) fn length(&mut self, most: usize) -> usize {
-        (self.number() as usize).min(most)
+    // The first places of a table, as many as the input says, to lend.
+    pub(crate) fn lent<'t, T>(&mut self, table: &'t mut [T]) -> &'t mut [T]
+        ensures { length result.now ≤ length table.old }
+    {
+        first(table, self.number() as usize)
     }
 
-    // A slice to lend, as long as the input says.
-    pub(crate) fn lent<T: Item>(&mut self, most: usize) -> io::Result<Vec<T>> {
-        let len = self.length(most);
-        full(self.alloc, len)
-    }
-
-    // A slice of at most so many numbers.
-    pub(crate) fn slice(&mut self, most: usize) -> io::Result<Vec<u32>> {
-        let mut table = vec![in self.alloc; 0; most]?;
-        let filled = fill(self.block, self.at, &mut table);
+    // A slice, in the first places of a table.
+    pub(crate) fn slice<'t>(&mut self, table: &'t mut [u32]) -> &'t [u32]
+        ensures { length result.now ≤ length table.old }
+    {
+        let filled = fill(self.block, self.at, table);
         self.at = filled.next;
-        table.truncate(filled.len);
-        Ok(table)
+        front(table, filled.len)
     }
 
     // Delays from their packed numbers.
-    pub(crate) fn delays(&mut self, most: usize) -> io::Result<Vec<i32>> {
-        let codes = self.slice(most)?;
-        let mut delays = vec![in self.alloc; 0; codes.len()]?;
-        unpack(&codes, &mut delays);
-        Ok(delays)
+    pub(crate) fn delays<'t>(&mut self, table: &'t mut [i32]) -> &'t [i32]
+        ensures { length result.now ≤ length table.old }
+    {
+        let mut codes = [0; EDGES];
+        let codes = self.slice(&mut codes);
+        unpack(codes, table);
+        front(table, codes.len())
     }
 
     // Behind a count, as many bytes.

@@ -19,7 +19,7 @@ mod input;
 mod say;
 
 // How many bytes a block of the input has, and how many blocks there are at most.
-const BLOCK: u64 = 65536;
+const BLOCK: usize = 65536;
 
 const BLOCKS: u32 = 8;
 
@@ -35,8 +35,8 @@ fn case<W: Write>(out: &mut W, input: &mut Input<'_>) -> io::Result<()> {
 
 fn run_block<W: Write>(rt: &HostRuntime, out: &mut W) -> io::Result<()> {
     let mut block = Vec::new(rt.alloc());
-    rt.stdin().take(BLOCK).read_to_end(&mut block)?;
-    let mut input = Input::new(rt.alloc(), &block);
+    rt.stdin().take(BLOCK as u64).read_to_end(&mut block)?;
+    let mut input = Input::new(&block);
     for _ in 0..input.number() {
         case(out, &mut input)?;
     }

@@ -1,10 +1,9 @@
 // What is printed of the lent slices. Before a call they hold a pattern; how many places hold it
 // afterwards is printed as "kept".
-ghost use Rattle.std.specs.Prelude.{◌<◌};
+ghost use Rattle.std.specs.Prelude.{◌≡◌, ◌<◌, length, take};
 
 use packed_delays::pack_delay;
 use print::refused;
-use std::alloc::Global;
 use std::io::{self, Write};
 use timing::Refusal;
 
@@ -53,9 +52,19 @@ impl Item for u8 {
     }
 }
 
-// A slice to lend, full of the pattern.
-pub(crate) fn full<T: Item>(alloc: Global, len: usize) -> io::Result<Vec<T>> {
-    Ok(vec![in alloc; T::PATTERN; len]?)
+// A table or a room, full of the pattern.
+pub(crate) fn full<T: Item, const N: usize>() -> [T; N]
+    ensures { length result ≡ N }
+{
+    [T::PATTERN; N]
+}
+
+// The first places of a table, or all of them, to lend.
+pub(crate) fn first<T>(table: &mut [T], count: usize) -> &mut [T]
+    ensures { result.now ≡ take count table.old }
+{
+    let len = count.min(table.len());
+    &mut table[..len]
 }
 
 // A checksum and one number more: the digits of a number to base 257, by its remainder.

@@ -56,15 +56,15 @@ pub(crate) fn say_told<W: Write>(
 pub(crate) fn say<W: Write>(
     out: &mut W,
     made: Result<GraphCounts, Refusal>,
-    room: &Graph,
+    room: Graph<'_>,
     scratch: &[u32],
 ) -> io::Result<()> {
     say_made(out, made)?;
     let c = shown(made);
-    say_slice(out, "nodes", &room.nodes, c.copies)?;
-    say_slice(out, "endpoint", &room.endpoint, c.copies)?;
-    say_slice(out, "from", &room.from, c.edges)?;
-    say_slice(out, "to", &room.to, c.edges)?;
-    say_slice(out, "via", &room.via, c.edges)?;
+    say_slice(out, "nodes", room.nodes, c.copies)?;
+    say_slice(out, "endpoint", room.endpoint, c.copies)?;
+    say_slice(out, "from", room.from, c.edges)?;
+    say_slice(out, "to", room.to, c.edges)?;
+    say_slice(out, "via", room.via, c.edges)?;
     say_slice(out, "scratch", scratch, 0)
 }

@@ -1,27 +1,31 @@
 // What a case says, read in turn from a block of the input.
+ghost use Rattle.std.specs.Prelude.{◌≡◌, ◌≤◌, length, take};
+
 use cases::{fill_rising, unpack};
+use entries::front;
 use packed_lists::take_number;
-use std::alloc::Global;
-use std::io;
 
 // No slice has more places.
-const MOST: usize = 4200;
+pub(crate) const MOST: usize = 4200;
+
+// The first places of a table, or all of them, to lend.
+pub(crate) fn first<T>(table: &mut [T], count: u32) -> &mut [T]
+    ensures { result.now ≡ take count table.old }
+{
+    let len = (count as usize).min(table.len());
+    &mut table[..len]
+}
 
 // A block, from a place on.
 #[derive(Drop)]
 pub(crate) struct Input<'a> {
-    alloc: Global,
     block: &'a [u8],
     at: usize,
 }
 
 impl<'a> Input<'a> {
-    pub(crate) fn new(alloc: Global, block: &'a [u8]) -> Input<'a> {
-        Input {
-            alloc,
-            block,
-            at: 0,
-        }
+    pub(crate) fn new(block: &'a [u8]) -> Input<'a> {
+        Input { block, at: 0 }
     }
 
     pub(crate) fn number(&mut self) -> u32 {
@@ -30,25 +34,22 @@ impl<'a> Input<'a> {
         taken.value
     }
 
-    // A slice to lend, as long as the input says, with the same at every place.
-    pub(crate) fn lent<T: Copy>(&mut self, value: T) -> io::Result<Vec<T>> {
-        let len = (self.number() as usize).min(MOST);
-        Ok(vec![in self.alloc; value; len]?)
-    }
-
-    pub(crate) fn slice(&mut self) -> io::Result<Vec<u32>> {
-        let mut table = vec![in self.alloc; 0; MOST]?;
-        let filled = fill_rising(self.block, self.at, &mut table);
+    // A slice, in the first places of a table.
+    pub(crate) fn slice<'t>(&mut self, table: &'t mut [u32]) -> &'t [u32]
+        ensures { length result.now ≤ length table.old }
+    {
+        let filled = fill_rising(self.block, self.at, table);
         self.at = filled.next;
-        table.truncate(filled.len);
-        Ok(table)
+        front(table, filled.len)
     }
 
     // Delays from their packed numbers.
-    pub(crate) fn delays(&mut self) -> io::Result<Vec<i32>> {
-        let codes = self.slice()?;
-        let mut delays = vec![in self.alloc; 0; codes.len()]?;
-        unpack(&codes, &mut delays);
-        Ok(delays)
+    pub(crate) fn delays<'t>(&mut self, table: &'t mut [i32]) -> &'t [i32]
+        ensures { length result.now ≤ length table.old }
+    {
+        let mut codes = [0; MOST];
+        let codes = self.slice(&mut codes);
+        unpack(codes, table);
+        front(table, codes.len())
     }
 }

@@ -10,7 +10,7 @@ mod input;
 mod say;
 
 use entries::{number_at, time_at};
-use input::Input;
+use input::{Input, MOST, first};
 use say::{say_arrivals, say_lines, say_refused, say_times};
 use std::io::{self, BufWriter, Read, Write};
 use timing::Times;
@@ -20,118 +20,121 @@ const BLOCK: u64 = 65536;
 
 const BLOCKS: u32 = 3;
 
-// The slices for the times of copies or nodes.
+// The lengths of the slices for the times of copies or nodes.
 #[derive(Drop)]
-struct TimeSlices {
-    arrivals: Vec<i64>,
-    requireds: Vec<i64>,
-    slacks: Vec<i64>,
-    earliests: Vec<i64>,
+struct Lengths {
+    arrivals: u32,
+    requireds: u32,
+    slacks: u32,
+    earliests: u32,
 }
 
-impl TimeSlices {
-    fn lent(input: &mut Input<'_>) -> io::Result<TimeSlices> {
-        Ok(TimeSlices {
-            arrivals: input.lent(0)?,
-            requireds: input.lent(0)?,
-            slacks: input.lent(0)?,
-            earliests: input.lent(0)?,
-        })
-    }
-
-    fn at(&self, k: usize) -> Times {
-        Times {
-            arrival: time_at(&self.arrivals, k),
-            required: time_at(&self.requireds, k),
-            slack: time_at(&self.slacks, k),
-            earliest: time_at(&self.earliests, k),
+impl Lengths {
+    fn read(input: &mut Input<'_>) -> Lengths {
+        Lengths {
+            arrivals: input.number(),
+            requireds: input.number(),
+            slacks: input.number(),
+            earliests: input.number(),
         }
     }
 }
 
-// What a case asks, in the order of the input: n, T and a node; what is lent for the times, for late or not and for
-// the records; and the slices of the design and of the graph.
+// The times of copies or nodes.
+#[derive(Clone, Copy)]
+struct TimeSlices<'a> {
+    arrivals: &'a [i64],
+    requireds: &'a [i64],
+    slacks: &'a [i64],
+    earliests: &'a [i64],
+}
+
+impl TimeSlices<'_> {
+    fn at(self, k: usize) -> Times {
+        Times {
+            arrival: time_at(self.arrivals, k),
+            required: time_at(self.requireds, k),
+            slack: time_at(self.slacks, k),
+            earliest: time_at(self.earliests, k),
+        }
+    }
+}
+
+// What a case asks: n, T and a node; how long the slices are that are lent for the times, for late or not and for the
+// records; and the slices of the design and of the graph.
 #[derive(Drop)]
-struct Case {
+struct Case<'a> {
     n: u32,
     allowed: u32,
     node: u32,
-    of_copies: TimeSlices,
-    lent: Vec<i64>,
-    known: Vec<u32>,
-    of_nodes: TimeSlices,
-    starts: Vec<u32>,
-    ends: Vec<u32>,
-    early: Vec<i32>,
-    late: Vec<i32>,
-    marked: Vec<u32>,
-    nodes: Vec<u32>,
-    endpoint: Vec<u32>,
-    from: Vec<u32>,
-    to: Vec<u32>,
-    via: Vec<u32>,
+    of_copies: Lengths,
+    lent: u32,
+    known: u32,
+    of_nodes: Lengths,
+    starts: &'a [u32],
+    ends: &'a [u32],
+    early: &'a [i32],
+    late: &'a [i32],
+    marked: &'a [u32],
+    nodes: &'a [u32],
+    endpoint: &'a [u32],
+    from: &'a [u32],
+    to: &'a [u32],
+    via: &'a [u32],
 }
 
-impl Case {
-    fn read(input: &mut Input<'_>) -> io::Result<Case> {
-        Ok(Case {
-            n: input.number(),
-            allowed: input.number(),
-            node: input.number(),
-            of_copies: TimeSlices::lent(input)?,
-            lent: input.lent(77)?,
-            known: input.lent(0)?,
-            of_nodes: TimeSlices::lent(input)?,
-            starts: input.slice()?,
-            ends: input.slice()?,
-            early: input.delays()?,
-            late: input.delays()?,
-            marked: input.slice()?,
-            nodes: input.slice()?,
-            endpoint: input.slice()?,
-            from: input.slice()?,
-            to: input.slice()?,
-            via: input.slice()?,
-        })
-    }
-
-    // Asks for the times of the graph, and says them.
-    fn say_copies<W: Write>(&mut self, out: &mut W) -> io::Result<()> {
+impl Case<'_> {
+    // Asks for the times of the graph, and says them; then the same of the records.
+    fn say_copies<W: Write>(&self, out: &mut W) -> io::Result<()> {
+        let mut arrivals = [0; MOST];
+        let mut requireds = [0; MOST];
+        let mut slacks = [0; MOST];
+        let mut earliests = [0; MOST];
+        let arrivals = first(&mut arrivals, self.of_copies.arrivals);
+        let requireds = first(&mut requireds, self.of_copies.requireds);
+        let slacks = first(&mut slacks, self.of_copies.slacks);
+        let earliests = first(&mut earliests, self.of_copies.earliests);
         let found = times::times(
             self.n,
-            &self.starts,
-            &self.ends,
-            &self.early,
-            &self.late,
-            &self.marked,
+            self.starts,
+            self.ends,
+            self.early,
+            self.late,
+            self.marked,
             self.allowed,
-            &self.nodes,
-            &self.endpoint,
-            &self.from,
-            &self.to,
-            &self.via,
-            &mut self.of_copies.arrivals,
-            &mut self.of_copies.requireds,
-            &mut self.of_copies.slacks,
-            &mut self.of_copies.earliests,
+            self.nodes,
+            self.endpoint,
+            self.from,
+            self.to,
+            self.via,
+            arrivals,
+            requireds,
+            slacks,
+            earliests,
         );
-        let times = &self.of_copies;
+        let times = TimeSlices {
+            arrivals,
+            requireds,
+            slacks,
+            earliests,
+        };
         match found {
-            Ok(()) => say_lines(out, "copy", times.arrivals.len(), |c| Some(times.at(c))),
-            Err(r) => say_refused(out, r),
+            Ok(()) => say_lines(out, "copy", times.arrivals.len(), |c| Some(times.at(c)))?,
+            Err(r) => say_refused(out, r)?,
         }
+        self.say_record(out, times)?;
+        self.say_nodes(out, times)
     }
 
     // Asks for the record of the node, and says it.
-    fn say_record<W: Write>(&self, out: &mut W) -> io::Result<()> {
-        let times = &self.of_copies;
+    fn say_record<W: Write>(&self, out: &mut W, times: TimeSlices<'_>) -> io::Result<()> {
         match records::node_record(
             self.n,
-            &self.nodes,
-            &times.arrivals,
-            &times.requireds,
-            &times.slacks,
-            &times.earliests,
+            self.nodes,
+            times.arrivals,
+            times.requireds,
+            times.slacks,
+            times.earliests,
             self.node,
         ) {
             Ok(record) => {
@@ -143,22 +146,37 @@ impl Case {
     }
 
     // Asks for the records of all nodes, and says them.
-    fn say_nodes<W: Write>(&mut self, out: &mut W) -> io::Result<()> {
+    fn say_nodes<W: Write>(&self, out: &mut W, of_copies: TimeSlices<'_>) -> io::Result<()> {
+        let mut known = [0; MOST];
+        let mut arrivals = [0; MOST];
+        let mut requireds = [0; MOST];
+        let mut slacks = [0; MOST];
+        let mut earliests = [0; MOST];
+        let known = first(&mut known, self.known);
+        let arrivals = first(&mut arrivals, self.of_nodes.arrivals);
+        let requireds = first(&mut requireds, self.of_nodes.requireds);
+        let slacks = first(&mut slacks, self.of_nodes.slacks);
+        let earliests = first(&mut earliests, self.of_nodes.earliests);
         let found = records::node_records(
             self.n,
-            &self.nodes,
-            &self.of_copies.arrivals,
-            &self.of_copies.requireds,
-            &self.of_copies.slacks,
-            &self.of_copies.earliests,
-            &mut self.known,
-            &mut self.of_nodes.arrivals,
-            &mut self.of_nodes.requireds,
-            &mut self.of_nodes.slacks,
-            &mut self.of_nodes.earliests,
+            self.nodes,
+            of_copies.arrivals,
+            of_copies.requireds,
+            of_copies.slacks,
+            of_copies.earliests,
+            known,
+            arrivals,
+            requireds,
+            slacks,
+            earliests,
         );
-        let known = &self.known;
-        let times = &self.of_nodes;
+        let known = &*known;
+        let times = TimeSlices {
+            arrivals,
+            requireds,
+            slacks,
+            earliests,
+        };
         match found {
             Ok(()) => say_lines(out, "node", known.len(), |v| {
                 if number_at(known, v) == 0 {
@@ -172,40 +190,73 @@ impl Case {
     }
 
     // Asks whether the graph is late, and says it and what the lent slice holds then.
-    fn say_lateness<W: Write>(&mut self, out: &mut W) -> io::Result<()> {
+    fn say_lateness<W: Write>(&self, out: &mut W) -> io::Result<()> {
+        let mut lent = [77; MOST];
+        let lent = first(&mut lent, self.lent);
         match late::late_or_not(
             self.n,
-            &self.starts,
-            &self.ends,
-            &self.early,
-            &self.late,
-            &self.marked,
+            self.starts,
+            self.ends,
+            self.early,
+            self.late,
+            self.marked,
             self.allowed,
-            &self.nodes,
-            &self.endpoint,
-            &self.from,
-            &self.to,
-            &self.via,
-            &mut self.lent,
+            self.nodes,
+            self.endpoint,
+            self.from,
+            self.to,
+            self.via,
+            lent,
         ) {
             Ok(Some(copy)) => writeln!(out, "late {copy}")?,
             Ok(None) => writeln!(out, "on time")?,
             Err(r) => say_refused(out, r)?,
         }
-        say_arrivals(out, &self.lent)
+        say_arrivals(out, lent)
     }
+}
+
+// Asks all of the case that stands next.
+fn run_case<W: Write>(out: &mut W, input: &mut Input<'_>) -> io::Result<()> {
+    let mut starts = [0; MOST];
+    let mut ends = [0; MOST];
+    let mut early = [0; MOST];
+    let mut late = [0; MOST];
+    let mut marked = [0; MOST];
+    let mut nodes = [0; MOST];
+    let mut endpoint = [0; MOST];
+    let mut from = [0; MOST];
+    let mut to = [0; MOST];
+    let mut via = [0; MOST];
+    let case = Case {
+        n: input.number(),
+        allowed: input.number(),
+        node: input.number(),
+        of_copies: Lengths::read(input),
+        lent: input.number(),
+        known: input.number(),
+        of_nodes: Lengths::read(input),
+        starts: input.slice(&mut starts),
+        ends: input.slice(&mut ends),
+        early: input.delays(&mut early),
+        late: input.delays(&mut late),
+        marked: input.slice(&mut marked),
+        nodes: input.slice(&mut nodes),
+        endpoint: input.slice(&mut endpoint),
+        from: input.slice(&mut from),
+        to: input.slice(&mut to),
+        via: input.slice(&mut via),
+    };
+    case.say_copies(out)?;
+    case.say_lateness(out)
 }
 
 fn run_block<W: Write>(rt: &HostRuntime, out: &mut W) -> io::Result<()> {
     let mut block = Vec::new(rt.alloc());
     rt.stdin().take(BLOCK).read_to_end(&mut block)?;
-    let mut input = Input::new(rt.alloc(), &block);
+    let mut input = Input::new(&block);
     for _ in 0..input.number() {
-        let mut case = Case::read(&mut input)?;
-        case.say_copies(out)?;
-        case.say_record(out)?;
-        case.say_nodes(out)?;
-        case.say_lateness(out)?;
+        run_case(out, &mut input)?;
     }
     Ok(())
 }
