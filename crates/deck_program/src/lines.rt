@@ -1,6 +1,9 @@
 // The lines of the deck program.
+use crate::text::Text;
 use entries::time_at;
-use std::io::{self, Write};
+use print::PrintedTime;
+use std::fmt::Write as _;
+use std::io;
 use timing::Times;
 
 // A graph's slices.
@@ -34,29 +37,35 @@ impl TimeSlices<'_> {
 }
 
 // The counts, and all copies and edges. A last word says where paths end.
-pub(crate) fn put_graph<W: Write>(
-    out: &mut W,
+pub(crate) fn put_graph<W: io::Write>(
+    out: &mut Text<'_, W>,
     g: Graph<'_>,
     times: TimeSlices<'_>,
 ) -> io::Result<()> {
     writeln!(out, "copies {} edges {}", g.nodes.len(), g.from.len())?;
+    out.end_line()?;
     for (copy, (node, endpoint)) in g.nodes.iter().zip(g.endpoint).enumerate() {
         let t = times.at(copy);
         let end = if *endpoint == 1 { " end" } else { "" };
         writeln!(
             out,
             "copy {copy} node {node} arrival {} required {} slack {} earliest {}{end}",
-            t.arrival, t.required, t.slack, t.earliest
+            PrintedTime(t.arrival),
+            PrintedTime(t.required),
+            PrintedTime(t.slack),
+            PrintedTime(t.earliest)
         )?;
+        out.end_line()?;
     }
     for ((from, to), via) in g.from.iter().zip(g.to).zip(g.via) {
         writeln!(out, "edge {from} {to} {via}")?;
+        out.end_line()?;
     }
     Ok(())
 }
 
-pub(crate) fn put_nodes<W: Write>(
-    out: &mut W,
+pub(crate) fn put_nodes<W: io::Write>(
+    out: &mut Text<'_, W>,
     known: &[u32],
     times: TimeSlices<'_>,
 ) -> io::Result<()> {
@@ -68,9 +77,13 @@ pub(crate) fn put_nodes<W: Write>(
             writeln!(
                 out,
                 "node {node} {} {} {} {}",
-                t.arrival, t.required, t.slack, t.earliest
+                PrintedTime(t.arrival),
+                PrintedTime(t.required),
+                PrintedTime(t.slack),
+                PrintedTime(t.earliest)
             )?;
         }
+        out.end_line()?;
     }
     Ok(())
 }

@@ -4,10 +4,12 @@
 #![tactic(auto)]
 
 mod lines;
+mod text;
 
 use entries::front;
 use lines::{Graph, TimeSlices, put_graph, put_nodes};
-use std::io::{self, BufWriter, Read, Write};
+use std::io::{self, Read, Write};
+use text::{Block, Text};
 use timing::{MAX_DECK_BYTES, Refusal};
 use verdicts::refuse;
 
@@ -44,7 +46,7 @@ struct Design<'a> {
 
 // The records of all nodes, in slices with one place for each.
 fn say_nodes<W: Write>(
-    out: &mut W,
+    out: &mut Text<'_, W>,
     n: u32,
     nodes: &[u32],
     times: TimeSlices<'_>,
@@ -79,7 +81,7 @@ fn say_nodes<W: Write>(
 }
 
 // The graph with all times, in slices with one place for each copy.
-fn say_graph<W: Write>(out: &mut W, d: Design<'_>, g: Graph<'_>) -> Result<(), Stop> {
+fn say_graph<W: Write>(out: &mut Text<'_, W>, d: Design<'_>, g: Graph<'_>) -> Result<(), Stop> {
     let mut arrivals = [0; 512];
     let mut requireds = [0; 512];
     let mut slacks = [0; 512];
@@ -115,7 +117,7 @@ fn say_graph<W: Write>(out: &mut W, d: Design<'_>, g: Graph<'_>) -> Result<(), S
 
 // Tests a deck, removes the listed paths, and says what is left. 25 is tested before 31.
 fn say_deck<W: Write>(
-    out: &mut W,
+    out: &mut Text<'_, W>,
     d: Design<'_>,
     listed: &[u32],
     lengths: &[u32],
@@ -156,7 +158,7 @@ fn say_deck<W: Write>(
 }
 
 // Reads a deck into the tables, and says what is made of it.
-fn say<W: Write>(out: &mut W, deck: &[u8]) -> Result<(), Stop> {
+fn say<W: Write>(out: &mut Text<'_, W>, deck: &[u8]) -> Result<(), Stop> {
     let mut starts = [0; 1024];
     let mut ends = [0; 1024];
     let mut early = [0; 1024];
@@ -198,7 +200,7 @@ fn more_bytes<R: Read>(input: &mut R) -> io::Result<bool> {
 }
 
 // 4 is tested before all.
-fn run<R: Read, W: Write>(input: &mut R, out: &mut W, deck: &[u8]) -> Result<(), Stop> {
+fn run<R: Read, W: Write>(input: &mut R, out: &mut Text<'_, W>, deck: &[u8]) -> Result<(), Stop> {
     if deck.len() == MAX_DECK_BYTES && more_bytes(input)? {
         return Err(Stop::Refused(refuse(4, MAX_DECK_BYTES)));
     }
@@ -209,12 +211,12 @@ fn main(rt: HostRuntime) -> io::Result<()> {
     let mut input = rt.stdin();
     let mut deck = Vec::new(rt.alloc());
     input.take(MAX_DECK_BYTES as u64).read_to_end(&mut deck)?;
-    let mut out = BufWriter::new(rt.alloc(), rt.stdout())?;
+    let mut block: Block = [0; 65536];
+    let mut out = Text::new(rt.stdout(), &mut block);
     match run(&mut input, &mut out, &deck) {
         Ok(()) => {}
         Err(Stop::Refused(r)) => {
-            print::refused(&mut out, r)?;
-            writeln!(out)?;
+            out.put_refused(r)?;
         }
         Err(Stop::Failed(e)) => return Err(e),
     }

@@ -6,9 +6,9 @@ ghost use Rattle.timing.specs.Refusals.{first_bad};
 ghost use Rattle.timing.specs.Graphs.{design};
 ghost use Rattle.timing.specs.Tests.{strays, falls, out_of_range, early_above_late};
 
+use crate::scan::first_bad;
 use entries::{delay_at, number_at};
 use timing::{MAX_DELAY, Verdict};
-use verdicts::first_bad;
 
 // Both ends of edge k are nodes.
 fn known(n: u32, starts: &[u32], ends: &[u32], k: usize) -> bool

@@ -15,6 +15,7 @@ use verdicts::unless;
 mod edges;
 mod marked;
 mod quick;
+mod scan;
 
 // 10 and 11, from n and m.
 fn design_counts(n: u32, m: usize) -> Verdict

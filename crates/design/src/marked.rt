@@ -5,9 +5,9 @@ ghost use Rattle.timing.specs.Refusals.{first_bad};
 ghost use Rattle.timing.specs.Graphs.{design};
 ghost use Rattle.timing.specs.Tests.{rises_not, wrong_marked};
 
+use crate::scan::first_bad;
 use entries::number_at;
 use timing::Verdict;
-use verdicts::first_bad;
 
 // There is a marked node before the one at index i, and that one is not below it.
 fn rises_not(marked: &[u32], i: usize) -> bool

@@ -98,7 +98,10 @@ fn put(room: &mut [u8], at: usize, x: u32) -> usize
     requires { at + size (x ∷ []) ≤ length room.old }
     ensures { Wrote room.old room.new at result (x ∷ []) }
 {
-    write_number(room, at, x).unwrap()
+    match write_number(room, at, x) {
+        Ok(next) => next,
+        Err(_) => at,
+    }
 }
 
 // A copy: its node, then its endpoint number.
@@ -127,7 +130,10 @@ fn put_row(room: &mut [u8], at: usize, s: u32, t: u32, k: u32) -> usize
     requires { at + size (s ∷ t ∷ k ∷ []) ≤ length room.old }
     ensures { Wrote room.old room.new at result (s ∷ t ∷ k ∷ []) }
 {
-    write_row(room, at, s, t, k).unwrap()
+    match write_row(room, at, s, t, k) {
+        Ok(next) => next,
+        Err(_) => at,
+    }
 }
 
 fn put_rows(room: &mut [u8], mut at: usize, from: &[u32], to: &[u32], via: &[u32]) -> usize

@@ -7,6 +7,7 @@ use mathlib.Core.List.{List, [], ◌∷◌}
 use Rattle.std.specs.Prelude.{Ok, Err}
 use Rattle.timing.specs.Answers.{Value}
 use Rattle.timing.specs.declared.Refusal.{Refusal}
+use Rattle.timing.specs.declared.Taken.{Taken}
 use Rattle.timing.specs.Numbers.{read_number}
 use Rattle.timing.specs.Parsing.{Parsed, found, stopped, Reader, onward, ◌>>=◌, return, number, repeated, row}
 use Rattle.timing.specs.Looks.{looked}
@@ -55,6 +56,14 @@ number_found s at v next e = rw e
 
 pub number_stopped : (s : List ℕ) (at : ℕ) (r : Refusal) → read_number s at ≡ Err r → looked (number s at) ≡ Err r
 number_stopped s at r e = rw e
+
+-- The same in one step, for a loop that reads one number after the other.
+pub numbers_turn : (s : List ℕ) (k i at : ℕ) (taken : Taken) → i < k → read_number s at ≡ Ok taken
+    → looked (repeated (k - i) (number s) at) ≡ looked (repeated (k - (i + 1)) (number s) taken.next)
+numbers_turn s k i at taken h e = sym (looks_turn (number s) k i at taken.next h (number_found s at taken.value taken.next e))
+
+pub numbers_stop : (s : List ℕ) (k i at : ℕ) (r : Refusal) → i < k → read_number s at ≡ Err r → looked (repeated (k - i) (number s) at) ≡ Err r
+numbers_stop s k i at r h e = sym (looks_stop (number s) k i at r h (number_stopped s at r e))
 
 -- Rows. A reader spans w numbers if it gets as far as a reader of w numbers, whatever it makes of them.
 abbrev pub Spans : {A : Type 0} → List ℕ → ℕ → Reader A → Type 0

@@ -41,6 +41,7 @@ pub fn numbers_size(s: &[u32]) -> usize
 }
 
 // k numbers, one after the other; by blocks as long as these have short numbers only.
+#[tactic(auto, using(crate::proofs::Looking::numbers_turn, crate::proofs::Looking::numbers_stop))]
 pub fn look_numbers(s: &[u8], at: usize, k: usize) -> Result<usize, Refusal>
     ensures { result ≡ looked (repeated k (number s.now) at) }
 {

@@ -8,13 +8,18 @@ use mathlib.Core.List.{List, [], ◌∷◌, ◌++◌, flat_map}
 use Rattle.std.specs.Prelude.{Option, Ok, Err, None}
 use Rattle.std.specs.Result.{is_err}
 use Rattle.timing.specs.Answers.{Verdict, Passed}
-use lib.ListN.{length, get_or, take, drop, length-take, length-drop, take-append-drop}
+use lib.ListN.{length, get_or, take, drop, length-take, length-drop, drop_of_length-le, take-append-drop}
 use Rattle.std.proofs.lemmas.List.{take_min, drop_min}
 use lib.Seq.{drop-cons, drop-drop}
 use Rattle.timing.specs.Lists.{sum}
 use Rattle.timing.specs.Refusals.{unless_fault, first_fault, ◌then◌}
 use Rattle.timing.specs.Marks.{cut}
 use Rattle.timing.specs.Tests.{empty_at}
+
+-- where no path is left, a loop that looks for the first path with a fault has found none
+pub no_path_left : (number : ℕ) (fault : List ℕ → Option ℕ) (flat lengths : List ℕ) (p from : ℕ) → length lengths ≤ p
+    → first_fault number fault p (cut (drop from flat) (drop p lengths)) ≡ Passed
+no_path_left number fault flat lengths p from h = rw (drop_of_length-le lengths {i = p} h)
 
 -- How a loop that looks for the first path with a fault goes: at path p, what is left of the flat list is cut by the rest of the
 -- lengths. The path that the code looks at is the front of it, and all of it where the length passes it.

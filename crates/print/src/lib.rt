@@ -2,8 +2,10 @@
 // printed is compared, not proved.
 #![tactic(auto)]
 
-ghost use Rattle.std.specs.Prelude.{◌≡◌, nat_abs};
+ghost use Rattle.std.specs.Prelude.{◌≡◌, Some, nat_abs};
+ghost use Rattle.std.specs.Fmt.{signed_decimal};
 
+use std::fmt;
 use std::io::{self, Write};
 use timing::Refusal;
 
@@ -43,12 +45,27 @@ pub fn magnitude(t: i64) -> u64
     t.unsigned_abs()
 }
 
+// A time in a format: its sign, and how far it is from 0.
+#[derive(Clone, Copy)]
+pub struct PrintedTime(pub i64);
+
+impl fmt::Display for PrintedTime {
+    ghost output = { λ t. Some (signed_decimal t.0) };
+
+    fn fmt<W: fmt::Write>(&self, f: &mut fmt::Formatter<W>) -> fmt::Result {
+        if self.0 < 0 {
+            f.write_str("-")?;
+        }
+        write!(f, "{}", magnitude(self.0))
+    }
+}
+
 pub fn time<W: Write>(out: &mut W, t: i64) -> io::Result<()> {
-    write!(out, "{t}")
+    write!(out, "{}", PrintedTime(t))
 }
 
 pub fn delay<W: Write>(out: &mut W, d: i32) -> io::Result<()> {
-    write!(out, "{d}")
+    time(out, d as i64)
 }
 
 // A refusal as the deck program prints it: both places, where it has two (22 to 24).

@@ -6,7 +6,7 @@ ghost use Rattle.timing.specs.Times.{larger as larger_time, smaller as smaller_t
 ghost use Rattle.timing.specs.Calls.{has_times, arrival_of, required_of, slack_of, earliest_of};
 ghost use Rattle.records.specs.Records.{bettered, node_so_far};
 
-use entries::{number_at, time_at};
+use entries::{fill, number_at, time_at};
 use extremes::{larger, smaller};
 
 // A node that is not below n has no place.
@@ -101,10 +101,10 @@ pub(crate) fn fill_records(
         × (ne.new ≡ map (λ (v : ℕ). earliest_of (times v)) all) }
 {
     known.fill(0);
-    na.fill(0);
-    nr.fill(0);
-    ns.fill(0);
-    ne.fill(0);
+    fill(na, 0);
+    fill(nr, 0);
+    fill(ns, 0);
+    fill(ne, 0);
     for c in 0..nodes.len() {
         count_copy(
             nodes, arrivals, requireds, slacks, earliests, known, na, nr, ns, ne, c,

@@ -72,20 +72,6 @@ fn number_within<const PATHS: usize>(
     )
 }
 
-// The same for as many paths as two lists have.
-fn number_many(listed: &[u32], lengths: &[u32], s: &mut [u32], l: Lists) -> usize
-    requires { Startable l listed.now lengths.now s.old }
-    ensures { Started l listed.now lengths.now s.old s.new result }
-{
-    let mut ends = [0u32; 2048];
-    let mut who = [0u32; 2048];
-    let mut items = [0u64; 2048];
-    let mut spare = [0u64; 2048];
-    number_classes(
-        listed, lengths, s, l, &mut ends, &mut who, &mut items, &mut spare,
-    )
-}
-
 // The classes. To clear the words for 2,048 paths, as many as two lists have, takes longer than all else in a short list.
 fn number_listed(listed: &[u32], lengths: &[u32], s: &mut [u32], l: Lists) -> usize
     requires { Startable l listed.now lengths.now s.old }

@@ -208,24 +208,31 @@ fn remove_with(
 {
     let found = search(
         starts, listed, lengths, nodes, endpoint, from, to, via, scratch, pos,
-    )?;
-    let made = match found {
-        Some(layout) => write_result(
-            layout,
-            nodes,
-            endpoint,
-            scratch,
-            pos,
-            room_nodes,
-            room_endpoint,
-            room_from,
-            room_to,
-            room_via,
-        ),
-        None => Ok(NO_COPIES),
-    };
-    zero(scratch);
-    made
+    );
+    // No `?` before the match: it would copy the layout, by a call of `memcpy`, which the library for C takes from nobody.
+    match found {
+        Ok(Some(layout)) => {
+            let made = write_result(
+                layout,
+                nodes,
+                endpoint,
+                scratch,
+                pos,
+                room_nodes,
+                room_endpoint,
+                room_from,
+                room_to,
+                room_via,
+            );
+            zero(scratch);
+            made
+        }
+        Ok(None) => {
+            zero(scratch);
+            Ok(NO_COPIES)
+        }
+        Err(r) => Err(r),
+    }
 }
 
 // The same for a design of at most so many edges.
@@ -356,13 +363,19 @@ fn size_with(
 {
     let found = search(
         starts, listed, lengths, nodes, endpoint, from, to, via, scratch, pos,
-    )?;
-    let counts = match found {
-        Some(layout) => show_all(layout, scratch, pos),
-        None => NO_COPIES,
-    };
-    zero(scratch);
-    largest_answer(counts.copies, counts.edges)
+    );
+    match found {
+        Ok(Some(layout)) => {
+            let counts = show_all(layout, scratch, pos);
+            zero(scratch);
+            largest_answer(counts.copies, counts.edges)
+        }
+        Ok(None) => {
+            zero(scratch);
+            Ok(NO_COPIES)
+        }
+        Err(r) => Err(r),
+    }
 }
 
 // The same for a design of at most so many edges.

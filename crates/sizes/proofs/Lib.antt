@@ -1,1 +1,2 @@
--- The laws of the count, and of the words that suffice for one.
+-- The laws of the words that suffice for a count.
+mod Words

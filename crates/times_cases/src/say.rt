@@ -1,5 +1,5 @@
 // What is printed of the answers.
-use print::refused;
+use print::{PrintedTime, refused};
 use std::io::{self, Write};
 use timing::{Refusal, Times};
 
@@ -19,7 +19,10 @@ pub(crate) fn say_times<W: Write>(out: &mut W, times: Option<Times>) -> io::Resu
         Some(t) => writeln!(
             out,
             "{} {} {} {}",
-            t.arrival, t.required, t.slack, t.earliest
+            PrintedTime(t.arrival),
+            PrintedTime(t.required),
+            PrintedTime(t.slack),
+            PrintedTime(t.earliest)
         ),
         None => writeln!(out, "none"),
     }
@@ -48,7 +51,7 @@ pub(crate) fn say_arrivals<W: Write>(out: &mut W, arrivals: &[i64]) -> io::Resul
     write!(out, "arrivals")?;
     for (k, t) in arrivals.iter().enumerate() {
         if printed(k) {
-            write!(out, " {t}")?;
+            write!(out, " {}", PrintedTime(*t))?;
         }
     }
     writeln!(out)

@@ -1,9 +1,8 @@
 // Refusals, and tests one after the other: the first that does not pass is the verdict.
 #![tactic(auto)]
 
-ghost use Rattle.std.specs.Prelude.{◌≡◌, ℕ, ◌<◌, Bool};
-ghost use Rattle.timing.specs.Lists.{upto};
-ghost use Rattle.timing.specs.Refusals.{refusal, refusal_within, unless_fault, first_bad, ◌then◌};
+ghost use Rattle.std.specs.Prelude.{◌≡◌};
+ghost use Rattle.timing.specs.Refusals.{refusal, refusal_within, unless_fault, ◌then◌};
 ghost use Rattle.timing.specs.Refusals.{unless as passed_if};
 ghost use Rattle.timing.specs.WellFormed.{zero_or_one};
 ghost use Rattle.timing.specs.Tests.{same_sizes, marked_count, room_sizes};
@@ -98,18 +97,4 @@ pub fn zero_or_one(endpoint: &[u32]) -> bool
         pass &= *e <= 1;
     }
     pass
-}
-
-// A test over everything: the place is that of the first that is bad.
-pub fn first_bad<F: Fn(usize) -> bool>(number: u32, count: usize, bad: F) -> Verdict
-    requires { F.IsAlwaysCallable bad }
-    ensures { (b : ℕ → Bool) → ((k : ℕ) (r : Bool) → k < count → F.post bad k r → r ≡ b k)
-        → result ≡ first_bad number b 0 (upto count 0) }
-{
-    for k in 0..count {
-        if bad(k) {
-            return Err(refuse(number, k));
-        }
-    }
-    Ok(())
 }

@@ -99,6 +99,9 @@ module _ (starts : List ℕ) (L : List (List ℕ)) (l : Lists) (s : List ℕ) (v
       whole_found : Fit L (e ∷ m) c
       whole_found = subst (Fit L (e ∷ m)) (found c root more) whole
 
+      pub found_room : l.loc + c < length s
+      found_room = omega (arith, whole_found.inside, held.laid.loc, held.room, held.few)
+
       -- the class starts where e does
       starts_there : At starts (get_or starts e 0) (class_at L c)
       starts_there = go (class_at L c) whole_found.begins (class_some L c (omega arith) whole_found.inside)

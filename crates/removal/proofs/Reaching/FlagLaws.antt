@@ -1,6 +1,6 @@
 -- The laws of the two passes over slots: a row of flags is right where it is what a pass makes of the rows before it. First
 -- back from the highest copy, which slots have a permitted rest; then up from the lowest, which of them a path shows.
-use Prim.Native.Nat.{ℕ, ◌<◌}
+use Prim.Native.Nat.{ℕ, zero, suc, ◌+◌, ◌≤◌, ◌<◌}
 use native.Mathlib.Omega.{arith}
 use mathlib.Core.Path.{◌≡◌, refl, sym, ap, ◌∙◌, subst}
 use mathlib.Core.Logic.{◌⊎◌, inl, inr, ⊎_elim}
@@ -161,3 +161,12 @@ module _ (D : Design) (G : Graph) (L : PathList) (marks : ℕ → ℕ → List �
             (λ t. p.starts j h f t)
             (λ (t : (e : Edge) × (k : ℕ) × StepOn G L marks B shown c j e k). p.steps j h f t.0 t.1 t.2)
             (shown_from j s.1)
+
+  -- so where each row is what a pass makes, all rows are right
+  pub reached_rows : (reached : ℕ → ℕ → Bool) → ((c : ℕ) → c < length G.nodes → Backward G L marks B reached c)
+      → (c : ℕ) → c < length G.nodes → ReachedRow G L marks B reached c
+  reached_rows reached p c h = go (length G.nodes) c (omega arith) h
+    where
+      go : (k c : ℕ) → length G.nodes ≤ c + k → c < length G.nodes → ReachedRow G L marks B reached c
+      go zero c a l = absurd (omega arith)
+      go (suc k) c a l = reached_row reached c l (λ d b m. go k d (omega arith) m) (p c l)

@@ -59,6 +59,9 @@ module _ (D : Design) (L : PathList) (G : Graph) (l : Layout) (p : List ℕ) (t 
     pub start_inside : start_in l p q < l.copies
     start_inside = omega (arith, start_low)
 
+    pub name_below : name_in l p q < length D.starts
+    name_below = t.legal.named (edge_in l p c q) edge_mem
+
     module _ (j : ℕ) where
       abbrev word : List ℕ
       word = name_in l p q ∷ slot_marks D L G c j

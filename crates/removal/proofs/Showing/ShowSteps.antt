@@ -225,6 +225,22 @@ module _ (l : Layout) (s t : List ℕ) (r : Ready l s) (tables : take l.slots t 
             (y.meets D L G (subst (λ (w : List ℕ). Tabled D L G l w) (sym tables) g)));
       }
 
+-- and what changes in the tables of work afterwards is nothing to it
+pub slot_before : (l : Layout) (s t u : List ℕ) (c j copies edges more links : ℕ) → Ready l s → c < l.copies → j < slots (bounds_of l s) c
+    → length u ≡ length t → take l.slots u ≡ take l.slots t → ((i : ℕ) → i < l.seen → get_or u i 0 ≡ get_or t i 0)
+    → SlotShown l s t c j copies edges more links → SlotShown l s u c j copies edges more links
+slot_before l s t u c j copies edges more links r h k size tables alike y =
+    record {
+      size = size ∙ y.size;
+      tables = tables ∙ y.tables;
+      others = λ i a f. alike i a ∙ y.others i a f;
+      few_copies = y.few_copies;
+      few_edges = y.few_edges;
+      meets = λ D L G g.
+          subst (λ (v : ℕ). SlotRule G L (slot_marks D L G) (bounds_of l s) (flag_in l s) v c j copies edges more links)
+          (sym (alike (slot_place l (take l.slots s) c j) (place_inside l s r c j h k))) (y.meets D L G g);
+    }
+
 -- what comes to a slot of the copy is the same after one of its slots is shown or not
 module _ (l : Layout) (s t : List ℕ) (c j copies edges more links : ℕ) (r : Ready l s) (copy : c < l.copies) (slot : j < slots (bounds_of l s) c)
     (y : SlotShown l s t c j copies edges more links) where

@@ -1,34 +1,24 @@
 -- As in a removal, up to what is found; then the shown slots are counted, the scratch is cleared, and the counts are answered in the largest room.
-use mathlib.Core.Path.{◌≡◌}
-use Rattle.std.specs.Prelude.{Result, Err}
-use Rattle.std.proofs.Common.{rules}
-use Rattle.timing.specs.declared.GraphCounts.{GraphCounts}
-use Rattle.timing.specs.declared.Refusal.{Refusal}
 use Rattle.removal.proofs.Whole.AnswerLaws.{sized_refused, sized_made, sized_none}
-use Rattle.removal.proofs.remove.size_with.Goals.{in-Some, in-None}
 use Rattle.removal.proofs.remove.size_with.Goals as goal
 
-pub returns-in_err-found : goal.returns-in_err-found
-returns-in_err-found c =
+pub returns-in-Ok-Some : goal.returns-in-Ok-Some
+returns-in-Ok-Some c =
     let a = c.args in
-    let found = c.in_err-found.ensures.0 in
-    let same : ◌≡◌ {A = Result GraphCounts Refusal} c.from_residual.result (Err c.in_err-found.field-0.0) = search rules in
-    rw same (sized_refused a.starts.now a.listed.now a.lengths.now a.nodes.now a.endpoint.now a.from.now a.to.now a.via.now a.scratch.now _ _ found.0 found.1)
+    let what = rw c.in-Ok-Some.is at c.in-Ok-Some.field-0-is in
+    let found = rw what at rw c.in-Ok-Some.is at c.search-found.ensures.0 in
+    let shown = c.show_all-counts.ensures.0 in
+    sized_made a.starts.now a.listed.now a.lengths.now a.nodes.now a.endpoint.now a.from.now a.to.now a.via.now a.scratch.now _ _ _ found.0 found.1 (rw shown.size at c.zero.ensures) _ _ _ _ shown c.largest_answer.ensures
 
-pub returns : goal.returns
-returns c =
+pub returns-in-Ok-None : goal.returns-in-Ok-None
+returns-in-Ok-None c =
     let a = c.args in
-    let s = c.in_ok-found.ensures.0 in
-    let cleared = c.zero.ensures in
-    let answer = c.largest_answer.ensures in
-    elim c.match-found.branch [
-      | in-Some w ↦
-          let found = rw w.in-Some.is at s in
-          let shown = w.show_all-counts.ensures.0 in
-          sized_made a.starts.now a.listed.now a.lengths.now a.nodes.now a.endpoint.now a.from.now a.to.now a.via.now a.scratch.now _ _ _ found.0 found.1
-          (rw (w.scratch-is, shown.size) at cleared) _ _ _ _ shown (rw w.counts-is at answer)
-      | in-None w ↦
-          let found = rw w.in-None.is at s in
-          rw (rw w.counts-is at answer)
-          (sized_none a.starts.now a.listed.now a.lengths.now a.nodes.now a.endpoint.now a.from.now a.to.now a.via.now a.scratch.now _ _ found.0 found.1 found.2 (rw w.scratch-is at cleared))
-    ]
+    let what = rw c.in-Ok-None.is at c.in-Ok-None.field-0-is in
+    let found = rw what at rw c.in-Ok-None.is at c.search-found.ensures.0 in
+    sized_none a.starts.now a.listed.now a.lengths.now a.nodes.now a.endpoint.now a.from.now a.to.now a.via.now a.scratch.now _ _ found.0 found.1 found.2 c.zero-in-Ok-None.ensures
+
+pub returns-in-Err : goal.returns-in-Err
+returns-in-Err c =
+    let a = c.args in
+    let found = rw c.in-Err.is at c.search-found.ensures.0 in
+    sized_refused a.starts.now a.listed.now a.lengths.now a.nodes.now a.endpoint.now a.from.now a.to.now a.via.now a.scratch.now _ _ found.0 found.1

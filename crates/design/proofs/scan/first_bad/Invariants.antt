@@ -4,7 +4,7 @@ use mathlib.Core.Path.{◌≡◌}
 use mathlib.Core.Bool.{Bool}
 use Rattle.timing.specs.Lists.{upto}
 use Rattle.timing.specs.Refusals.{first_bad}
-use Rattle.verdicts.proofs.first_bad.Given as goal
+use Rattle.design.proofs.scan.first_bad.Given as goal
 
 abbrev pub invariant-loop-k : goal.invariant-loop-k
 invariant-loop-k g l =
