@@ -1,7 +1,7 @@
 // Decks: read into tables, and written to a room.
 use crate::BLOCK;
 use crate::input::{EDGES, Input};
-use crate::say::{first, full, say_kept, table, written};
+use crate::say::{full, say_kept, table, written};
 use entries::front;
 use print::refused;
 use std::io::{self, Write};
@@ -113,14 +113,15 @@ fn write<W: Write>(out: &mut W, d: Deck<'_>, room: &mut [u8]) -> io::Result<Opti
 }
 
 // What was read is written to a room as long as the bytes that were read.
+#[inline(never)]
 pub(crate) fn read_case<W: Write>(out: &mut W, input: &mut Input<'_>) -> io::Result<()> {
-    let mut starts = full::<u32, EDGES>();
-    let mut ends = full::<u32, EDGES>();
-    let mut early = full::<i32, EDGES>();
-    let mut late = full::<i32, EDGES>();
-    let mut listed = full::<u32, LISTED>();
-    let mut lengths = full::<u32, PATHS>();
-    let mut marked = full::<u32, MARKED>();
+    let mut starts = [0; EDGES];
+    let mut ends = [0; EDGES];
+    let mut early = [0; EDGES];
+    let mut late = [0; EDGES];
+    let mut listed = [0; LISTED];
+    let mut lengths = [0; PATHS];
+    let mut marked = [0; MARKED];
     let tables = Tables {
         starts: input.lent(&mut starts),
         ends: input.lent(&mut ends),
@@ -132,37 +133,39 @@ pub(crate) fn read_case<W: Write>(out: &mut W, input: &mut Input<'_>) -> io::Res
     };
     let bytes = input.bytes();
     if let Some(deck) = read(out, bytes, tables)? {
-        let mut room = full::<u8, BLOCK>();
-        write(out, deck, first(&mut room, bytes.len()))?;
+        let mut room = [0; BLOCK];
+        write(out, deck, full(&mut room, bytes.len()))?;
     }
     Ok(())
 }
 
 // Reads a deck from bytes, into tables as long as the deck.
+#[inline(never)]
 fn read_back<W: Write>(out: &mut W, bytes: &[u8], d: Deck<'_>) -> io::Result<()> {
-    let mut starts = full::<u32, EDGES>();
-    let mut ends = full::<u32, EDGES>();
-    let mut early = full::<i32, EDGES>();
-    let mut late = full::<i32, EDGES>();
-    let mut listed = full::<u32, LISTED>();
-    let mut lengths = full::<u32, PATHS>();
-    let mut marked = full::<u32, MARKED>();
+    let mut starts = [0; EDGES];
+    let mut ends = [0; EDGES];
+    let mut early = [0; EDGES];
+    let mut late = [0; EDGES];
+    let mut listed = [0; LISTED];
+    let mut lengths = [0; PATHS];
+    let mut marked = [0; MARKED];
     let tables = Tables {
-        starts: first(&mut starts, d.starts.len()),
-        ends: first(&mut ends, d.starts.len()),
-        early: first(&mut early, d.starts.len()),
-        late: first(&mut late, d.starts.len()),
-        listed: first(&mut listed, d.listed.len()),
-        lengths: first(&mut lengths, d.lengths.len()),
-        marked: first(&mut marked, d.marked.len()),
+        starts: full(&mut starts, d.starts.len()),
+        ends: full(&mut ends, d.starts.len()),
+        early: full(&mut early, d.starts.len()),
+        late: full(&mut late, d.starts.len()),
+        listed: full(&mut listed, d.listed.len()),
+        lengths: full(&mut lengths, d.lengths.len()),
+        marked: full(&mut marked, d.marked.len()),
     };
     read(out, bytes, tables)?;
     Ok(())
 }
 
 // What was written is read into tables as long as the deck.
+#[inline(never)]
 pub(crate) fn write_case<W: Write>(out: &mut W, input: &mut Input<'_>) -> io::Result<()> {
-    let mut room = full::<u8, BYTES>();
+    let mut room = [0; BYTES];
     let mut starts = [0; EDGES];
     let mut ends = [0; EDGES];
     let mut early = [0; EDGES];

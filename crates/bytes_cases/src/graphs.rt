@@ -1,7 +1,7 @@
 // Graphs: read into a room, and written to one.
 use crate::BLOCK;
 use crate::input::Input;
-use crate::say::{first, full, say_kept, table, written};
+use crate::say::{full, say_kept, table, written};
 use entries::front;
 use print::refused;
 use std::io::{self, Write};
@@ -83,12 +83,13 @@ fn write<W: Write>(out: &mut W, g: Graph<'_>, room: &mut [u8]) -> io::Result<Opt
 }
 
 // What was read is written to a room as long as the bytes that were read.
+#[inline(never)]
 pub(crate) fn read_case<W: Write>(out: &mut W, input: &mut Input<'_>) -> io::Result<()> {
-    let mut nodes = full::<u32, COPIES>();
-    let mut endpoint = full::<u32, COPIES>();
-    let mut from = full::<u32, EDGES>();
-    let mut to = full::<u32, EDGES>();
-    let mut via = full::<u32, EDGES>();
+    let mut nodes = [0; COPIES];
+    let mut endpoint = [0; COPIES];
+    let mut from = [0; EDGES];
+    let mut to = [0; EDGES];
+    let mut via = [0; EDGES];
     let room = Room {
         nodes: input.lent(&mut nodes),
         endpoint: input.lent(&mut endpoint),
@@ -98,33 +99,35 @@ pub(crate) fn read_case<W: Write>(out: &mut W, input: &mut Input<'_>) -> io::Res
     };
     let bytes = input.bytes();
     if let Some(graph) = read(out, bytes, room)? {
-        let mut byte_room = full::<u8, BLOCK>();
-        write(out, graph, first(&mut byte_room, bytes.len()))?;
+        let mut byte_room = [0; BLOCK];
+        write(out, graph, full(&mut byte_room, bytes.len()))?;
     }
     Ok(())
 }
 
 // Reads a graph from bytes, into a room as long as the graph.
+#[inline(never)]
 fn read_back<W: Write>(out: &mut W, bytes: &[u8], g: Graph<'_>) -> io::Result<()> {
-    let mut nodes = full::<u32, COPIES>();
-    let mut endpoint = full::<u32, COPIES>();
-    let mut from = full::<u32, EDGES>();
-    let mut to = full::<u32, EDGES>();
-    let mut via = full::<u32, EDGES>();
+    let mut nodes = [0; COPIES];
+    let mut endpoint = [0; COPIES];
+    let mut from = [0; EDGES];
+    let mut to = [0; EDGES];
+    let mut via = [0; EDGES];
     let room = Room {
-        nodes: first(&mut nodes, g.nodes.len()),
-        endpoint: first(&mut endpoint, g.nodes.len()),
-        from: first(&mut from, g.from.len()),
-        to: first(&mut to, g.from.len()),
-        via: first(&mut via, g.from.len()),
+        nodes: full(&mut nodes, g.nodes.len()),
+        endpoint: full(&mut endpoint, g.nodes.len()),
+        from: full(&mut from, g.from.len()),
+        to: full(&mut to, g.from.len()),
+        via: full(&mut via, g.from.len()),
     };
     read(out, bytes, room)?;
     Ok(())
 }
 
 // What was written is read into a room as long as the graph.
+#[inline(never)]
 pub(crate) fn write_case<W: Write>(out: &mut W, input: &mut Input<'_>) -> io::Result<()> {
-    let mut byte_room = full::<u8, BYTES>();
+    let mut byte_room = [0; BYTES];
     let mut nodes = [0; COPIES];
     let mut endpoint = [0; COPIES];
     let mut from = [0; EDGES];

@@ -1,7 +1,7 @@
 // What a case says, read in turn from a block of the input.
 ghost use Rattle.std.specs.Prelude.{◌≤◌, length};
 
-use crate::say::first;
+use crate::say::{Item, full};
 use cases::{fill, unpack};
 use entries::front;
 use packed_lists::take_number;
@@ -27,11 +27,11 @@ impl<'a> Input<'a> {
         taken.value
     }
 
-    // The first places of a table, as many as the input says, to lend.
-    pub(crate) fn lent<'t, T>(&mut self, table: &'t mut [T]) -> &'t mut [T]
+    // A slice of a table to lend, as long as the input says.
+    pub(crate) fn lent<'t, T: Item>(&mut self, table: &'t mut [T]) -> &'t mut [T]
         ensures { length result.now ≤ length table.old }
     {
-        first(table, self.number() as usize)
+        full(table, self.number() as usize)
     }
 
     // A slice, in the first places of a table.

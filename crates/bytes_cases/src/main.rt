@@ -24,6 +24,7 @@ const BLOCK: usize = 65536;
 const BLOCKS: u32 = 8;
 
 // A case by its number: an enum would name each once more, where the functions' names say it.
+// None is inlined, so that the tables of one case do not stand on the stack in another.
 fn case<W: Write>(out: &mut W, input: &mut Input<'_>) -> io::Result<()> {
     match input.number() {
         0 => decks::read_case(out, input),

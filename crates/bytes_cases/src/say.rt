@@ -1,6 +1,6 @@
 // What is printed of the lent slices. Before a call they hold a pattern; how many places hold it
 // afterwards is printed as "kept".
-ghost use Rattle.std.specs.Prelude.{◌≡◌, ◌<◌, length, take};
+ghost use Rattle.std.specs.Prelude.{◌≡◌, ◌<◌, length, min};
 
 use packed_delays::pack_delay;
 use print::refused;
@@ -52,18 +52,14 @@ impl Item for u8 {
     }
 }
 
-// A table or a room, full of the pattern.
-pub(crate) fn full<T: Item, const N: usize>() -> [T; N]
-    ensures { length result ≡ N }
-{
-    [T::PATTERN; N]
-}
-
-// The first places of a table, or all of them, to lend.
-pub(crate) fn first<T>(table: &mut [T], count: usize) -> &mut [T]
-    ensures { result.now ≡ take count table.old }
+// The first places of a table or a room, or all of them, to lend; each holds the pattern.
+pub(crate) fn full<T: Item>(table: &mut [T], count: usize) -> &mut [T]
+    ensures { length result.now ≡ min count (length table.old) }
 {
     let len = count.min(table.len());
+    for k in 0..len {
+        table[k] = T::PATTERN;
+    }
     &mut table[..len]
 }
 

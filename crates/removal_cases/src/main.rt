@@ -25,12 +25,13 @@ const SCRATCH: usize = 32768;
 
 const LONG_SCRATCH: usize = 300000;
 
-// Runs the removal that stands next, on what is held.
+// Runs the removal that stands next, on what is held, with a scratch of these words.
 fn run_removal<W: Write>(
     out: &mut W,
     input: &mut Input<'_>,
     d: &Design<'_>,
     held: &mut Held<'_>,
+    words: &mut [u32],
 ) -> io::Result<()> {
     let mut listed = [0; 8200];
     let mut lengths = [0; 1040];
@@ -39,7 +40,6 @@ fn run_removal<W: Write>(
     let mut from = [0; PLACES];
     let mut to = [0; PLACES];
     let mut via = [0; PLACES];
-    let mut words = zeros::<LONG_SCRATCH>();
     match input.number() {
         0 => held.clear(),
         1 => {}
@@ -58,11 +58,11 @@ fn run_removal<W: Write>(
     };
     let count = input.number() as usize;
 
-    let scratch = pattern(3500000000, count, &mut words);
+    let scratch = pattern(3500000000, count, words);
     let told = size(d, &l, held.graph(), scratch);
     say_told(out, told, scratch)?;
 
-    let scratch = pattern(3500000000, count.min(SCRATCH), &mut words);
+    let scratch = pattern(3500000000, count.min(SCRATCH), words);
     let (made, room) = remove(d, &l, held.graph(), room, scratch);
     say(out, made, room, scratch)?;
     if let Ok(counts) = made {
@@ -72,7 +72,7 @@ fn run_removal<W: Write>(
 }
 
 // Runs the series that stands next.
-fn run_series<W: Write>(out: &mut W, input: &mut Input<'_>) -> io::Result<()> {
+fn run_series<W: Write>(out: &mut W, input: &mut Input<'_>, words: &mut [u32]) -> io::Result<()> {
     let mut starts = [0; EDGES];
     let mut ends = [0; EDGES];
     let mut early = [0; EDGES];
@@ -99,7 +99,7 @@ fn run_series<W: Write>(out: &mut W, input: &mut Input<'_>) -> io::Result<()> {
         via: &mut via,
     });
     for _ in 0..input.number() {
-        run_removal(out, input, &d, &mut held)?;
+        run_removal(out, input, &d, &mut held, words)?;
     }
     Ok(())
 }
@@ -109,8 +109,9 @@ fn run_block<W: Write>(rt: &HostRuntime, out: &mut W) -> io::Result<()> {
     let mut block = Vec::new(rt.alloc());
     rt.stdin().take(BLOCK).read_to_end(&mut block)?;
     let mut input = Input::new(&block);
+    let mut words = zeros::<LONG_SCRATCH>();
     for _ in 0..input.number() {
-        run_series(out, &mut input)?;
+        run_series(out, &mut input, &mut words)?;
     }
     Ok(())
 }
