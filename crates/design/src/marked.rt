@@ -16,7 +16,13 @@ fn rises_not(marked: &[u32], i: usize) -> bool
     if i == 0 {
         return false;
     }
-    number_at(marked, i) <= number_at(marked, i - 1)
+    // Where i is in the slice, so is the index before it. The compiler does not find that, and would test it for each node.
+    let before = if i < marked.len() {
+        marked[i - 1]
+    } else {
+        number_at(marked, i - 1)
+    };
+    number_at(marked, i) <= before
 }
 
 fn wrong(n: u32, marked: &[u32], i: usize) -> bool
