@@ -1,18 +1,20 @@
--- What one pass over the edges tells of the tests 12 to 15.
-use Prim.Native.Nat.{ℕ, zero, suc, ◌+◌, ◌≤◌, ◌<◌}
+-- What one pass over the edges tells of the tests 12 to 15, and one over the marked nodes of 16.
+use Prim.Native.Nat.{ℕ, zero, suc, ◌+◌, ◌-◌, ◌≤◌, ◌<◌}
 use native.Mathlib.Omega.{arith}
+use native.Mathlib.Numerals.{unary_clauses}
 use mathlib.Core.Path.{◌≡◌, refl, sym, subst}
 use mathlib.Core.Bool.{Bool, true, false, ◌&&◌}
-use mathlib.Core.List.{[], ◌∷◌}
+use mathlib.Core.List.{List, [], ◌∷◌}
 use Rattle.timing.specs.Answers.{Passed}
 use lib.Dec.{T, ltb, leb}
 use lib.IntN.{ℤ, pos, negsuc, nat_abs}
+use lib.ListN.{get_or}
 use lib.Signed.{lt_z, le_z}
-use borrow.Author.Tests.{ltb-true, leb-true, lt-ltb, le-ltb, le-leb}
+use borrow.Author.Tests.{ltb-true, leb-true, lt-ltb, lt-leb, le-ltb, le-leb}
 use Rattle.timing.specs.Lists.{upto}
 use Rattle.timing.specs.Refusals.{◌then◌, first_bad}
 use Rattle.timing.specs.Graphs.{design}
-use Rattle.timing.specs.Tests.{strays, falls, out_of_range, early_above_late}
+use Rattle.timing.specs.Tests.{strays, falls, out_of_range, early_above_late, wrong_marked}
 use Rattle.timing.proofs.Verdicts.{both_true}
 use Rattle.timing.proofs.Ints.{up, dn}
 
@@ -49,8 +51,22 @@ edge_fine n start end early late e =
       o.1,
     )
 
+-- 16 of the first marked node
+pub first_fine : (n : ℕ) (marked : List ℕ) (k : ℕ) → k < 1 → ltb (get_or marked 0 0) n ≡ true → wrong_marked (design n [] [] [] [] marked) k ≡ false
+first_fine n marked zero l e = rw e refl
+first_fine n marked (suc k) l e = absurd (omega arith)
+
+-- 16 of a marked node that has one before it
+pub next_fine : (n : ℕ) (marked : List ℕ) (k : ℕ) → 1 ≤ k
+    → get_or marked (k - 1) 0 < get_or marked k 0 → get_or marked k 0 < n
+    → wrong_marked (design n [] [] [] [] marked) k ≡ false
+next_fine n marked zero l rises known = absurd (omega arith)
+next_fine n marked (suc k) l rises known =
+    let node = get_or marked (suc k) 0 in
+    rw (lt-ltb node n known) (lt-leb node (get_or marked k 0) (simp unary_clauses at rises))
+
 -- a test that no place from k on fails passes
-none_bad : (number : ℕ) (bad : ℕ → Bool) (m k : ℕ) → ((j : ℕ) → j < k + m → bad j ≡ false) → first_bad number bad k (upto m k) ≡ Passed
+pub none_bad : (number : ℕ) (bad : ℕ → Bool) (m k : ℕ) → ((j : ℕ) → j < k + m → bad j ≡ false) → first_bad number bad k (upto m k) ≡ Passed
 none_bad number bad zero k h = refl
 none_bad number bad (suc m) k h = rw (h k (omega arith)) (none_bad number bad m (suc k) (λ j l. h j (omega arith)))
 

@@ -1,5 +1,5 @@
 // The tests of a design. Each test passes over every edge, or every marked node, before the next, and looks at nothing where one before it
-// refused. Those of the edges run only where a quick pass does not find that all edges pass.
+// refused. Those of the edges run only where a quick pass does not find that all edges pass, and that of the marked nodes likewise.
 #![tactic(auto)]
 
 ghost use Rattle.std.specs.Prelude.{◌≡◌, [], leb, length};

@@ -1,10 +1,11 @@
-// 16: a pass over the marked nodes of the design.
+// 16: a pass over the marked nodes of the design, which is run only where a quick pass does not find that all of them pass.
 ghost use Rattle.std.specs.Prelude.{◌≡◌, [], length};
 ghost use Rattle.timing.specs.Lists.{upto};
 ghost use Rattle.timing.specs.Refusals.{first_bad};
 ghost use Rattle.timing.specs.Graphs.{design};
 ghost use Rattle.timing.specs.Tests.{rises_not, wrong_marked};
 
+use crate::quick;
 use crate::scan::first_bad;
 use entries::number_at;
 use timing::Verdict;
@@ -39,5 +40,8 @@ pub(crate) fn all_rise(n: u32, marked: &[u32]) -> Verdict
     ensures { let D = design n [] [] [] [] marked.now in
         result ≡ first_bad 16 (wrong_marked D) 0 (upto (length marked.now) 0) }
 {
+    if quick::marked_pass(n, marked) {
+        return Ok(());
+    }
     first_bad(16, marked.len(), |i| wrong(n, marked, i))
 }

@@ -1,0 +1,11 @@
+-- Where all marked nodes up to k pass, each marked node before k passes.
+use Prim.Native.Nat.{ℕ, ◌<◌}
+use mathlib.Core.Path.{◌≡◌}
+use mathlib.Core.Bool.{true, false}
+use mathlib.Core.List.{[]}
+use Rattle.timing.specs.Graphs.{design}
+use Rattle.timing.specs.Tests.{wrong_marked}
+use Rattle.design.proofs.quick.marked_pass.Given as goal
+
+abbrev pub invariant-loop-k : goal.invariant-loop-k
+invariant-loop-k l = let D = design l.n [] [] [] [] l.marked in l.pass ≡ true → (j : ℕ) → j < l.k → wrong_marked D j ≡ false
