@@ -1,4 +1,4 @@
-// 16: a pass over the marked nodes of the design, which is run only where a quick pass does not find that all of them pass.
+// 16: a pass over the marked nodes of the design, behind those that a quick pass finds to pass.
 ghost use Rattle.std.specs.Prelude.{◌≡◌, [], length};
 ghost use Rattle.timing.specs.Lists.{upto};
 ghost use Rattle.timing.specs.Refusals.{first_bad};
@@ -6,7 +6,7 @@ ghost use Rattle.timing.specs.Graphs.{design};
 ghost use Rattle.timing.specs.Tests.{rises_not, wrong_marked};
 
 use crate::quick;
-use crate::scan::first_bad;
+use crate::scan::first_bad_from;
 use entries::number_at;
 use timing::Verdict;
 
@@ -17,13 +17,7 @@ fn rises_not(marked: &[u32], i: usize) -> bool
     if i == 0 {
         return false;
     }
-    // Where i is in the slice, so is the index before it. The compiler does not find that, and would test it for each node.
-    let before = if i < marked.len() {
-        marked[i - 1]
-    } else {
-        number_at(marked, i - 1)
-    };
-    number_at(marked, i) <= before
+    number_at(marked, i) <= number_at(marked, i - 1)
 }
 
 fn wrong(n: u32, marked: &[u32], i: usize) -> bool
@@ -40,8 +34,6 @@ pub(crate) fn all_rise(n: u32, marked: &[u32]) -> Verdict
     ensures { let D = design n [] [] [] [] marked.now in
         result ≡ first_bad 16 (wrong_marked D) 0 (upto (length marked.now) 0) }
 {
-    if quick::marked_pass(n, marked) {
-        return Ok(());
-    }
-    first_bad(16, marked.len(), |i| wrong(n, marked, i))
+    let passed = quick::marked_passed(n, marked);
+    first_bad_from(16, passed, marked.len(), |i| wrong(n, marked, i))
 }

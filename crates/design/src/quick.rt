@@ -1,14 +1,18 @@
-// 12 to 15 in one pass over the edges, and 16 in one over the marked nodes, which say only whether all of them pass. Most designs have
+// 12 to 15 in one pass over the edges, which says only whether all of them pass, and 16 of blocks of marked nodes. Most designs have
 // nothing wrong, and need no more than this; the number and the place of what is wrong are left to the passes of `edges` and `marked`.
 // The loops have no branch, and read the slices in order, so that they are compiled to vector code.
-ghost use Rattle.std.specs.Prelude.{ℕ, ◌<◌, ◌≡◌, true, false, [], ◌∷◌, length};
+ghost use Rattle.std.specs.Prelude.{ℕ, ◌≤◌, ◌<◌, ◌≡◌, true, false, [], ◌∷◌, length};
 ghost use Rattle.timing.specs.Answers.{Passed};
 ghost use Rattle.timing.specs.Lists.{upto};
 ghost use Rattle.timing.specs.Refusals.{◌then◌, first_bad};
 ghost use Rattle.timing.specs.Graphs.{design};
 ghost use Rattle.timing.specs.Tests.{strays, falls, out_of_range, early_above_late, wrong_marked};
 
+use entries::least;
 use timing::MAX_DELAY;
+
+// How many marked nodes a block has.
+const BLOCK: usize = 256;
 
 // 12 to 15 of one edge. Its start is below its end, so that only the end is held to n; its early delay is at most its late
 // one, so that each of them is held to one end of the range.
@@ -60,17 +64,38 @@ fn node_passes(n: u32, before: u32, node: u32) -> bool
     (before < node) & (node < n)
 }
 
-// Whether all marked nodes pass 16.
-pub(crate) fn marked_pass(n: u32, marked: &[u32]) -> bool
+// Whether the marked nodes at the indices from `from` to before `to` pass 16.
+fn block_passes(n: u32, marked: &[u32], from: usize, to: usize) -> bool
+    requires { (1 ≤ from) × (to ≤ length marked.now) }
     ensures { let D = design n [] [] [] [] marked.now in
-        (result ≡ true → first_bad 16 (wrong_marked D) 0 (upto (length marked.now) 0) ≡ Passed) }
+        (result ≡ true → (k : ℕ) → from ≤ k → k < to → wrong_marked D k ≡ false) }
 {
-    if marked.is_empty() {
-        return true;
-    }
-    let mut pass = marked[0] < n;
-    for k in 1..marked.len() {
+    let mut pass = true;
+    for k in from..to {
         pass &= node_passes(n, marked[k - 1], marked[k]);
     }
     pass
+}
+
+// How many marked nodes pass 16 up to the first block in which one does not: all of them, where there is none. It goes by blocks, so that
+// where one is wrong not many behind it are looked at: 16 is tested before anything bounds how many nodes are marked.
+pub(crate) fn marked_passed(n: u32, marked: &[u32]) -> usize
+    ensures { let D = design n [] [] [] [] marked.now in
+        (k : ℕ) → k < result → wrong_marked D k ≡ false }
+{
+    if marked.is_empty() {
+        return 0;
+    }
+    if n <= marked[0] {
+        return 0;
+    }
+    let mut passed = 1;
+    while passed < marked.len() {
+        let next = passed + least(marked.len() - passed, BLOCK);
+        if !block_passes(n, marked, passed, next) {
+            break;
+        }
+        passed = next;
+    }
+    passed
 }

@@ -47,7 +47,8 @@ pub fn time_sizes(
 }
 
 // 30 for a list of paths: its lengths do not add up to the flat list. What is left of the flat list
-// is counted down, so that no sum wraps.
+// is counted down, so that no sum wraps. Inlined beside other tests, its loop would have no registers left for the lengths.
+#[inline(never)]
 pub fn and_list_sizes(before: Verdict, listed: &[u32], lengths: &[u32]) -> Verdict
     ensures { result ≡ (before then list_sizes (path_list listed.now lengths.now)) }
 {
