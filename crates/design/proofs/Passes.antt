@@ -1,8 +1,8 @@
 -- What one pass over the edges tells of the tests 12 to 15, and one over the marked nodes of 16.
 use Prim.Native.Nat.{ℕ, zero, suc, ◌+◌, ◌-◌, ◌≤◌, ◌<◌}
 use native.Mathlib.Omega.{arith}
-use native.Mathlib.Numerals.{unary_clauses, add-one}
-use mathlib.Core.Path.{◌≡◌, refl, sym, subst, ◌∙◌}
+use native.Mathlib.Numerals.{unary_clauses}
+use mathlib.Core.Path.{◌≡◌, refl, sym, subst}
 use mathlib.Core.Bool.{Bool, true, false, ◌&&◌}
 use mathlib.Core.List.{List, [], ◌∷◌}
 use Rattle.timing.specs.Answers.{Passed}
@@ -10,12 +10,11 @@ use lib.Dec.{T, ltb, leb}
 use lib.IntN.{ℤ, pos, negsuc, nat_abs}
 use lib.ListN.{get_or}
 use lib.Signed.{lt_z, le_z}
-use borrow.Author.Tests.{ltb-true, ltb-false, leb-true, lt-ltb, lt-leb, le-ltb, le-leb}
+use borrow.Author.Tests.{ltb-true, leb-true, lt-ltb, lt-leb, le-ltb, le-leb}
 use Rattle.timing.specs.Lists.{upto}
 use Rattle.timing.specs.Refusals.{◌then◌, first_bad}
 use Rattle.timing.specs.Graphs.{design}
 use Rattle.timing.specs.Tests.{strays, falls, out_of_range, early_above_late, wrong_marked}
-use Rattle.timing.proofs.FirstBad.{good_here, none_left, all_left}
 use Rattle.timing.proofs.Verdicts.{both_true}
 use Rattle.timing.proofs.Ints.{up, dn}
 
@@ -77,15 +76,3 @@ four_pass t u v w p q r s m h =
       none_bad v r m 0 (λ k l. (h k (omega arith)).2),
       none_bad w s m 0 (λ k l. (h k (omega arith)).3),
     )
-
--- where no place before `from` is bad, the first that is bad is the first from there on
-pub none_before : (number : ℕ) (bad : ℕ → Bool) (count from : ℕ) → ((k : ℕ) → k < from → bad k ≡ false)
-    → first_bad number bad from (upto (count - from) from) ≡ first_bad number bad 0 (upto count 0)
-none_before number bad count zero h = all_left number bad count
-none_before number bad count (suc f) h = go (ltb f count) refl ∙ none_before number bad count f (λ k l. h k (omega arith))
-  where
-    go : (b : Bool) → ltb f count ≡ b → first_bad number bad (suc f) (upto (count - suc f) (suc f)) ≡ first_bad number bad f (upto (count - f) f)
-    go true e = rw (add-one f) at (good_here number bad f count (ltb-true f count e) (h f (omega arith)))
-    go false e =
-        let end = ltb-false f count e in
-        none_left number bad (suc f) count (omega arith) ∙ sym (none_left number bad f count end)

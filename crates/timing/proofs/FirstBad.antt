@@ -1,9 +1,11 @@
 -- How a loop that looks for the first bad place goes: at place k of m, what is left to look at is `upto (m - k) k`.
-use Prim.Native.Nat.{ℕ, suc, ◌+◌, ◌-◌, ◌≤◌, ◌<◌}
+use Prim.Native.Nat.{ℕ, zero, suc, ◌+◌, ◌-◌, ◌≤◌, ◌<◌}
 use native.Mathlib.Omega.{arith}
 use native.Mathlib.Numerals.{add-one}
-use mathlib.Core.Path.{◌≡◌, ap}
+use mathlib.Core.Path.{◌≡◌, refl, sym, ap, ◌∙◌}
 use mathlib.Core.Bool.{Bool, true, false}
+use lib.Dec.{ltb}
+use borrow.Author.Tests.{ltb-true, ltb-false}
 use Rattle.std.specs.Prelude.{Err}
 use Rattle.timing.specs.Answers.{Passed}
 use Rattle.timing.specs.Lists.{upto}
@@ -29,3 +31,15 @@ pub all_left : (number : ℕ) (bad : ℕ → Bool) (m : ℕ) → first_bad numbe
 all_left number bad m =
     let d : m - 0 ≡ m = omega arith in
     ap (λ (n : ℕ). first_bad number bad 0 (upto n 0)) d
+
+-- where no place before `from` is bad, the first that is bad is the first from there on
+pub none_before : (number : ℕ) (bad : ℕ → Bool) (count from : ℕ) → ((k : ℕ) → k < from → bad k ≡ false)
+    → first_bad number bad from (upto (count - from) from) ≡ first_bad number bad 0 (upto count 0)
+none_before number bad count zero h = all_left number bad count
+none_before number bad count (suc f) h = go (ltb f count) refl ∙ none_before number bad count f (λ k l. h k (omega arith))
+  where
+    go : (b : Bool) → ltb f count ≡ b → first_bad number bad (suc f) (upto (count - suc f) (suc f)) ≡ first_bad number bad f (upto (count - f) f)
+    go true e = rw (add-one f) at (good_here number bad f count (ltb-true f count e) (h f (omega arith)))
+    go false e =
+        let end = ltb-false f count e in
+        none_left number bad (suc f) count (omega arith) ∙ sym (none_left number bad f count end)

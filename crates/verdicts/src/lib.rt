@@ -1,8 +1,10 @@
 // Refusals, and tests one after the other: the first that does not pass is the verdict.
 #![tactic(auto)]
 
-ghost use Rattle.std.specs.Prelude.{◌≡◌};
-ghost use Rattle.timing.specs.Refusals.{refusal, refusal_within, unless_fault, ◌then◌};
+ghost use Rattle.std.specs.Prelude.{◌≡◌, ℕ, ◌<◌, Bool, true, false, MatchOption};
+ghost use Rattle.timing.specs.Answers.{Passed};
+ghost use Rattle.timing.specs.Lists.{upto};
+ghost use Rattle.timing.specs.Refusals.{refusal, refusal_within, unless_fault, first_bad, ◌then◌};
 ghost use Rattle.timing.specs.Refusals.{unless as passed_if};
 ghost use Rattle.timing.specs.WellFormed.{zero_or_one};
 ghost use Rattle.timing.specs.Tests.{same_sizes, marked_count, room_sizes};
@@ -97,4 +99,18 @@ pub fn zero_or_one(endpoint: &[u32]) -> bool
         pass &= *e <= 1;
     }
     pass
+}
+
+// A test over everything, by the first that was found to be bad, which is the place. The caller looks for it, as by
+// `(0..count).find(|k| bad(*k))`: what calls a closure that it is handed has a `requires`, and a public function has none.
+pub fn first_bad(number: u32, found: Option<usize>) -> Verdict
+    ensures answer { MatchOption found (result ≡ Passed) (λ k. result ≡ Err (refusal number k)) }
+    ensures over_all { (b : ℕ → Bool) (count : ℕ)
+        → MatchOption found ((k : ℕ) → k < count → b k ≡ false) (λ i. (i < count) × (b i ≡ true) × ((k : ℕ) → k < i → b k ≡ false))
+        → result ≡ first_bad number b 0 (upto count 0) }
+{
+    match found {
+        Some(place) => Err(refuse(number, place)),
+        None => Ok(()),
+    }
 }

@@ -3,8 +3,7 @@ use mathlib.Core.Path.{◌≡◌, sym, ap, ◌∙◌}
 use mathlib.Core.Bool.{true, false}
 use Rattle.std.proofs.Common.{rules}
 use Rattle.std.specs.Prelude.{Err}
-use Rattle.timing.proofs.FirstBad.{bad_here, good_here}
-use Rattle.design.proofs.Passes.{none_before}
+use Rattle.timing.proofs.FirstBad.{bad_here, good_here, none_before}
 use Rattle.design.proofs.scan.first_bad_from.Goals as goal
 
 pub loop-k-init : goal.loop-k-init
