@@ -6,8 +6,8 @@ use mathlib.Core.Path.{◌≡◌, refl, sym, ap, ◌∙◌}
 use mathlib.Core.Bool.{Bool, true, false}
 use lib.Dec.{ltb}
 use borrow.Author.Tests.{ltb-true, ltb-false}
-use Rattle.std.specs.Prelude.{Err}
-use Rattle.timing.specs.Answers.{Passed}
+use Rattle.std.specs.Prelude.{Option, None, Some, Err, MatchOption}
+use Rattle.timing.specs.Answers.{Verdict, Passed}
 use Rattle.timing.specs.Lists.{upto}
 use Rattle.timing.specs.Refusals.{refusal, first_bad}
 
@@ -43,3 +43,21 @@ none_before number bad count (suc f) h = go (ltb f count) refl ∙ none_before n
     go false e =
         let end = ltb-false f count e in
         none_left number bad (suc f) count (omega arith) ∙ sym (none_left number bad f count end)
+
+-- a verdict by the first place that is bad, or by none, is that of the test over everything
+pub first_found : (number : ℕ) (bad : ℕ → Bool) (count : ℕ) (found : Option ℕ) (verdict : Verdict)
+    → MatchOption found (verdict ≡ Passed) (λ k. verdict ≡ Err (refusal number k))
+    → MatchOption found ((k : ℕ) → k < count → bad k ≡ false) (λ i. (i < count) × (bad i ≡ true) × ((k : ℕ) → k < i → bad k ≡ false))
+    → verdict ≡ first_bad number bad 0 (upto count 0)
+first_found number bad count None verdict is fine =
+    is ∙ sym (none_left number bad count count (omega arith)) ∙ none_before number bad count count fine
+first_found number bad count (Some i) verdict is first =
+    is ∙ sym (bad_here number bad i count first.0 first.1) ∙ none_before number bad count i first.2
+
+-- What std's `find` over `0..count` tells (`first_from_Range`) of a test that is known below count alone, as `verdicts::first_bad` takes it.
+pub found_below : (bad : ℕ → Bool) (count : ℕ) (found : Option ℕ)
+    → MatchOption found ((k : ℕ) → 0 ≤ k → k < count → k < count → bad k ≡ false)
+    (λ i. (0 ≤ i) × (i < count) × (i < count → bad i ≡ true) × ((k : ℕ) → 0 ≤ k → k < i → k < count → bad k ≡ false))
+    → MatchOption found ((k : ℕ) → k < count → bad k ≡ false) (λ i. (i < count) × (bad i ≡ true) × ((k : ℕ) → k < i → bad k ≡ false))
+found_below bad count None h = λ k l. h k (omega arith) l l
+found_below bad count (Some i) h = (h.1, h.2 h.1, λ k l. h.3 k (omega arith) l (omega (arith, h.1)))

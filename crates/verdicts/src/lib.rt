@@ -114,3 +114,34 @@ pub fn first_bad(number: u32, found: Option<usize>) -> Verdict
         None => Ok(()),
     }
 }
+
+#[cfg(test)]
+mod tests {
+    use super::*;
+
+    // As a caller asks who holds a closure.
+    fn over_all<F: Fn(usize) -> bool>(number: u32, count: usize, bad: F) -> Verdict
+        requires { F.IsAlwaysCallable bad }
+        ensures { (b : ℕ → Bool) → ((k : ℕ) (r : Bool) → k < count → F.post bad k r → r ≡ b k)
+            → result ≡ first_bad number b 0 (upto count 0) }
+    {
+        first_bad(number, (0..count).find(|k| bad(*k)))
+    }
+
+    #[test]
+    fn place_is_that_of_the_first_bad(rt: HostRuntime) {
+        let numbers = [3, 9, 1, 9, 4];
+        for (count, least, place) in [
+            (5, 10, None),
+            (5, 9, Some(1)),
+            (5, 3, Some(0)),
+            (3, 9, Some(1)),
+            (1, 9, None),
+            (0, 0, None),
+        ] {
+            let verdict = over_all(12, count, |k| k < 5 && numbers[k] >= least);
+            let told = verdict.err().map(|r| (r.number, r.place, r.index));
+            assert_eq!(rt; told, place.map(|k| (12, k, 0)), "{count} from {least}");
+        }
+    }
+}
