@@ -101,7 +101,7 @@ pub fn zero_or_one(endpoint: &[u32]) -> bool
     pass
 }
 
-// A test over everything, by the first that was found to be bad, which is the place. The caller looks for it, as by
+// A test over everything, by the place of the first that was found to be bad. The caller looks for it, as by
 // `(0..count).find(|k| bad(*k))`: what calls a closure that it is handed has a `requires`, and a public function has none.
 pub fn first_bad(number: u32, found: Option<usize>) -> Verdict
     ensures answer { MatchOption found (result ≡ Passed) (λ k. result ≡ Err (refusal number k)) }
@@ -119,7 +119,7 @@ pub fn first_bad(number: u32, found: Option<usize>) -> Verdict
 mod tests {
     use super::*;
 
-    // As a caller asks who holds a closure.
+    // As a caller that holds a closure asks; the contract is that of a function which is handed one.
     fn over_all<F: Fn(usize) -> bool>(number: u32, count: usize, bad: F) -> Verdict
         requires { F.IsAlwaysCallable bad }
         ensures { (b : ℕ → Bool) → ((k : ℕ) (r : Bool) → k < count → F.post bad k r → r ≡ b k)
